@@ -1,0 +1,130 @@
+-- The bytes of a sound window are bytes. Assumes nothing.
+use mathlib.Core.Path.{_≡_, refl}
+use mathlib.Core.Bool.{Bool, true, false, cond, _&&_}
+use mathlib.Core.Logic.{⊎-elim}
+use mathlib.Core.List.{List, [], _∷_, _++_}
+use Prim.Native.Nat.{ℕ, zero, suc, _+_, _*_, _^_, _/_, _%_, _-_, _<_}
+use native.Mathlib.Omega.{arith}
+use native.Mathlib.Nat.{mod-lt}
+use lib.Dec.{ltb, eqb}
+use lib.ListN.{getD}
+use Rattle.rules.specs.Base.{all, table}
+use Rattle.rules.specs.Window.{limits, LogRecord, PermitRecord, TieRecord, Window, live, noChange}
+use Rattle.rules.specs.Sound.{statusSound, parentSound, recordSound, permitSound, tieSound}
+use Rattle.rules.proofs.BaseLaws.{and-both, and-left, and-right, or-cases, lt-of, ltb-true, eqb-eq, within-of, ge-of, not-true, or-false-right}
+use Rattle.rules.proofs.ListLaws.{all-weaken, all-getD}
+use Rattle.rules.proofs.SoundParts.{Sound, live-below, record-parts, permit-parts, tie-parts, inside-of, status-range}
+use Rattle.layout.specs.Codec.{Section, section, sections, layOut, lineByte, headSize, valuesSize, changesSize, lineSize, locksSize, permitsSize, tiesSize, logSize, byte, pack, noRecord, noPermit, noTie, headByte, valueByte, changeByte, lockByte, recordBytes, logByte, permitBytes, permitByte, tieBytes, tieByte, figures, encode}
+use Rattle.layout.proofs.CodecLaws.{bit-most}
+
+abbrev pub small : ℕ → Bool
+small x = ltb x 256
+
+byte-small : (k v : ℕ) → small (byte k v) ≡ true
+unfolding byte
+byte-small k v = ltb-true (v / 256 ^ k % 256) 256 (mod-lt (v / 256 ^ k) (omega arith))
+
+all-table : (p : ℕ → Bool) (f : ℕ → ℕ) → ((i : ℕ) → p (f i) ≡ true) → (k i : ℕ) → all p (table k i f) ≡ true
+unfolding all table
+all-table p f h zero i = refl
+all-table p f h (suc k) i = and-both (p (f i)) (all p (table k (suc i) f)) (h i) (all-table p f h k (suc i))
+
+all-join : (p : ℕ → Bool) (l m : List ℕ) → all p l ≡ true → all p m ≡ true → all p (l ++ m) ≡ true
+unfolding all
+all-join p [] m d e = e
+all-join p (x ∷ l) m d e = and-both (p x) (all p (l ++ m)) (and-left (p x) (all p l) d) (all-join p l m (and-right (p x) (all p l) d) e)
+
+all-none : (p : ℕ → Bool) → all p (layOut []) ≡ true
+unfolding all layOut
+all-none p = refl
+
+-- sections whose bytes all pass
+all-section : (p : ℕ → Bool) (n : ℕ) (f : ℕ → ℕ) (l : List Section) → ((i : ℕ) → p (f i) ≡ true) → all p (layOut l) ≡ true → all p (layOut (section n f ∷ l)) ≡ true
+unfolding layOut section
+all-section p n f l h e = all-join p (table n 0 f) (layOut l) (all-table p f h n 0) e
+
+pack-most : (n : ℕ) (p : ℕ → Bool) → pack n p < 2 ^ n
+unfolding pack
+pack-most zero p = omega arith
+pack-most (suc n) p = omega (arith, bit-most (p 0), pack-most n (λ j. p (suc j)))
+
+-- a byte of a place of a table, used or not
+place-small {ℓ} : {A : Type ℓ} (bytes : A → List ℕ) (l : List A) (none : A) (p : A → Bool) → ((x : A) → p x ≡ true → all small (bytes x) ≡ true) → all p l ≡ true
+    → all small (bytes none) ≡ true → (j i : ℕ) → small (getD (bytes (getD l j none)) i 0) ≡ true
+place-small bytes l none p f h z j i = all-getD small (bytes (getD l j none)) i 0 (all-getD (λ x. all small (bytes x)) l j none (all-weaken p _ f l h) z) refl
+
+module _ (W : Window) (k : Sound limits W) where
+  live-small : (c : ℕ) → live W c ≡ true → small c ≡ true
+  unfolding limits
+  live-small c h = ltb-true c 256 (omega (arith, live-below W c h, within-of W.given 255 (k .changes)))
+
+  entry-small : (e : ℕ) → ltb e W.entries ≡ true → small e ≡ true
+  unfolding limits
+  entry-small e h = ltb-true e 256 (omega (arith, lt-of e W.entries h, within-of W.entries 256 (k .entries)))
+
+  head-small : (i : ℕ) → small (headByte (figures W) i) ≡ true
+  unfolding headByte
+  head-small i = byte-small (i % 2) _
+
+  status-small : (c : ℕ) → small (W .status c) ≡ true
+  unfolding statusSound noChange
+  status-small c = go (noChange W c) refl
+    where
+      go : (b : Bool) → noChange W c ≡ b → small (W .status c) ≡ true
+      go true h = rw (eqb-eq (W .status c) 0 (rw h at (k .statuses c)))
+      go false h = ltb-true (W .status c) 256 (omega (arith, status-range limits W k c h .1))
+
+  parent-small : (c : ℕ) → small (W .parent c) ≡ true
+  unfolding parentSound noChange limits
+  parent-small c = go (noChange W c) refl
+    where
+      go : (b : Bool) → noChange W c ≡ b → small (W .parent c) ≡ true
+      go true h = rw (eqb-eq (W .parent c) 0 (rw h at (k .parents c)))
+      go false h = ltb-true (W .parent c) 256 (omega (arith, lt-of (W .parent c) c (rw h at (k .parents c)), ge-of W.given c (or-false-right (eqb c 0) (ltb W.given c) h), within-of W.given 255 (k .changes)))
+
+  change-small : (i : ℕ) → small (changeByte (W .status) (W .parent) i) ≡ true
+  unfolding changeByte all
+  change-small i = all-getD small (W .status (i / 4) ∷ W .parent (i / 4) ∷ []) (i % 4) 0 (rw (status-small (i / 4), parent-small (i / 4))) refl
+
+  lock-small : (i : ℕ) → small (lockByte (W .held) i) ≡ true
+  unfolding lockByte
+  lock-small i = ltb-true _ 256 (pack-most 8 (λ b. eqb (W .held (i / 64) (i % 32 * 8 + b)) (suc (i % 64 / 32))))
+
+  sound-record : (r : LogRecord) → recordSound W.entries (live W) W.held r ≡ true → all small (recordBytes r) ≡ true
+  unfolding recordBytes all
+  sound-record r h = let p = record-parts W.entries (live W) W.held r h in
+      rw (live-small r.owner (p .0), entry-small r.entry (p .1), byte-small 0 r.before, byte-small 1 r.before, byte-small 2 r.before, byte-small 3 r.before)
+
+  log-small : (i : ℕ) → small (logByte (W .log) i) ≡ true
+  unfolding logByte
+  log-small i = place-small recordBytes W.log noRecord (recordSound W.entries (live W) W.held) sound-record (k .records) (unfold recordBytes all byte in refl) (i / 6) (i % 6)
+
+  sound-permit : (p : PermitRecord) → permitSound W.entries (live W) p ≡ true → all small (permitBytes p) ≡ true
+  unfolding permitBytes all
+  sound-permit p h = let x = permit-parts W.entries (live W) p h in
+      let t : small p.taker ≡ true = ⊎-elim (λ q. rw (eqb-eq p.taker 0 q)) (live-small p.taker) (or-cases (eqb p.taker 0) (live W p.taker) (x .1)) in
+      rw (entry-small p.entry (x .2), live-small p.giver (x .0), t, ltb-true p.ops 256 (omega (arith, inside-of 1 3 p.ops (not-true _ (x .3)) .1)))
+
+  permit-small : (i : ℕ) → small (permitByte (W .permits) i) ≡ true
+  unfolding permitByte
+  permit-small i = place-small permitBytes W.permits noPermit (permitSound W.entries (live W)) sound-permit (k .permits) (unfold permitBytes all in refl) (i / 4) (i % 4)
+
+  sound-tie : (t : TieRecord) → tieSound (live W) t ≡ true → all small (tieBytes t) ≡ true
+  unfolding tieBytes all
+  sound-tie t h = let x = tie-parts (live W) t h in
+      rw (ltb-true t.kind 256 (omega (arith, inside-of 1 3 t.kind (not-true _ (x .0)) .1)), live-small t.leader (x .1), live-small t.follower (x .2))
+
+  tie-small : (i : ℕ) → small (tieByte (W .ties) i) ≡ true
+  unfolding tieByte
+  tie-small i = place-small tieBytes W.ties noTie (tieSound (live W)) sound-tie (k .ties) (unfold tieBytes all in refl) (i / 4) (i % 4)
+
+  pub encode-small : all small (encode W) ≡ true
+  unfolding encode sections valueByte lineByte
+  encode-small = all-section small headSize (headByte (figures W)) _ head-small
+      (all-section small valuesSize (valueByte (W .value)) _ (λ i. byte-small (i % 4) (W .value (i / 4)))
+      (all-section small changesSize (changeByte (W .status) (W .parent)) _ change-small
+      (all-section small lineSize lineByte _ (λ i. refl)
+      (all-section small locksSize (lockByte (W .held)) _ lock-small
+      (all-section small permitsSize (permitByte (W .permits)) _ permit-small
+      (all-section small tiesSize (tieByte (W .ties)) _ tie-small
+      (all-section small logSize (logByte (W .log)) [] log-small (all-none small))))))))

@@ -1,0 +1,247 @@
+-- The calls on lent memory: what each does to sound memory, to other memory, and to what lies past the window. Assumes nothing.
+use mathlib.Core.Path.{_≡_, refl, sym, _∙_, ap}
+use mathlib.Core.Logic.{_≢_, _↔_}
+use mathlib.Core.Bool.{Bool, true, false, not, cond, _&&_, _||_, false≢true}
+use mathlib.Core.List.{List, [], _∷_, _++_}
+use Prim.Native.Nat.{ℕ}
+use native.Mathlib.Omega.{arith}
+use lib.Dec.{leb, eqb}
+use lib.ListN.{length, take, drop, take-append-drop, length-append, length-drop}
+use lib.Seq.{take-at, drop-at}
+use Rattle.rules.specs.Window.{limits, Window, fresh}
+use Rattle.rules.specs.Sound.{sound}
+use Rattle.rules.specs.Calls.{Call, Open, fits, Reply, Outcome}
+use Rattle.rules.specs.Refusals.{step}
+use Rattle.rules.specs.Events.{actionOf, isOpening, isOpen}
+use Rattle.rules.proofs.BaseLaws.{and-false, and-left, and-right, and-both, not-false, eqb-eq, eqb-same, eqb-other, le-of, leb-true}
+use Rattle.rules.proofs.RuleLaws.{quiet, open-answer, open-number}
+use Rattle.rules.proofs.SoundParts.{Sound, sound-parts, parts-sound}
+use Rattle.rules.proofs.SoundStep.{step-sound, opened-sound, opened-fresh}
+use Rattle.layout.specs.Codec.{windowSize, decode, encode}
+use Rattle.layout.specs.Memory.{sameBytes, soundBytes, long, soundMemory, windowOf, layInto, handBack, anew, memoryRefused, perform}
+use Rattle.layout.proofs.CodecLaws.{length-encode}
+use Rattle.layout.proofs.SoundCodec.{sound-again, decode-blank}
+
+sameBytes-eq : (k l : List ℕ) → sameBytes k l ≡ true → k ≡ l
+unfolding sameBytes
+sameBytes-eq [] [] e = refl
+sameBytes-eq [] (y ∷ l) e = absurd (false≢true e)
+sameBytes-eq (x ∷ k) [] e = absurd (false≢true e)
+sameBytes-eq (x ∷ k) (y ∷ l) e = λ i. eqb-eq x y (and-left (eqb x y) (sameBytes k l) e) i ∷ sameBytes-eq k l (and-right (eqb x y) (sameBytes k l) e) i
+
+sameBytes-refl : (l : List ℕ) → sameBytes l l ≡ true
+unfolding sameBytes
+sameBytes-refl [] = refl
+sameBytes-refl (x ∷ l) = and-both (eqb x x) (sameBytes l l) (eqb-same x) (sameBytes-refl l)
+
+-- SOUND BYTES are exactly the encodings of sound windows
+pub encode-sound : (W : Window) → Sound limits W → soundBytes (encode W) ≡ true
+unfolding soundBytes
+encode-sound W k = rw (sound-again W k, sameBytes-refl (encode W)) (parts-sound limits W k)
+
+pub bytes-sound : (bs : List ℕ) → soundBytes bs ≡ true → Sound limits (decode bs)
+unfolding soundBytes
+bytes-sound bs h = sound-parts limits (decode bs) (and-right (sameBytes (encode (decode bs)) bs) (sound limits (decode bs)) h) (decode-blank bs)
+
+pub bytes-again : (bs : List ℕ) → soundBytes bs ≡ true → encode (decode bs) ≡ bs
+unfolding soundBytes
+bytes-again bs h = sameBytes-eq (encode (decode bs)) bs (and-left (sameBytes (encode (decode bs)) bs) (sound limits (decode bs)) h)
+
+pub sound-encodings : (bs : List ℕ) → soundBytes bs ≡ true ↔ ((W : Window) × Sound limits W × (encode W ≡ bs))
+sound-encodings bs = (λ h. (decode bs, bytes-sound bs h, bytes-again bs h), λ m. rw (m .2) at (encode-sound (m .0) (m .1)))
+
+-- MEMORY that begins with the bytes of W, which is sound
+pub record Holds (mem : List ℕ) (W : Window) : Type 0 where
+  pub sound : soundMemory mem ≡ true
+  pub window : windowOf mem ≡ W
+
+pub laid : (W : Window) → Sound limits W → (tail : List ℕ) → Holds (encode W ++ tail) W
+unfolding soundMemory long
+laid W k tail = let t : take windowSize (encode W ++ tail) ≡ encode W = take-at (encode W) tail windowSize (length-encode W) in record {
+  sound = and-both (leb windowSize (length (encode W ++ tail))) _ (leb-true windowSize (length (encode W ++ tail)) (omega (arith, length-append (encode W) tail, length-encode W))) (rw t (encode-sound W k));
+  window = ap decode t ∙ sound-again W k;
+}
+
+module _ (mem : List ℕ) where
+  pub sound-long : soundMemory mem ≡ true → long mem ≡ true
+  unfolding soundMemory
+  sound-long h = and-left (long mem) (soundBytes (take windowSize mem)) h
+
+  pub memory-sound : soundMemory mem ≡ true → Sound limits (windowOf mem)
+  unfolding soundMemory
+  memory-sound h = bytes-sound (take windowSize mem) (and-right (long mem) (soundBytes (take windowSize mem)) h)
+
+  -- sound memory is its window's bytes and the rest
+  pub memory-again : soundMemory mem ≡ true → encode (windowOf mem) ++ drop windowSize mem ≡ mem
+  unfolding soundMemory
+  memory-again h = rw (bytes-again (take windowSize mem) (and-right (long mem) (soundBytes (take windowSize mem)) h)) (take-append-drop windowSize mem)
+
+  -- WHAT A CALL COMES TO
+  pub data Performed (c : Call) : Reply (List ℕ) → Type 0 where
+    refused : Performed c (handBack mem 1)
+    ruled : soundMemory mem ≡ true → Performed c (layInto mem (step limits (windowOf mem) c))
+    opened : long mem ≡ true → Performed c (anew mem (step limits (fresh 0) c))
+
+  pub performed : (c : Call) → Performed c (perform mem c)
+  unfolding perform memoryRefused
+  performed c = go (long mem) refl (isOpen c) (soundMemory mem) refl
+    where
+      go : (l : Bool) → long mem ≡ l → (o s : Bool) → soundMemory mem ≡ s
+          → Performed c (cond (not l || (not o && not s)) (handBack mem 1) (cond s (layInto mem (step limits (windowOf mem) c)) (anew mem (step limits (fresh 0) c))))
+      go false p o s q = refused
+      go true p true true q = ruled q
+      go true p true false q = opened p
+      go true p false true q = ruled q
+      go true p false false q = refused
+
+  -- answer 1, with the memory as it was: too short, or for every call but open no sound window
+  pub perform-short : (c : Call) → long mem ≡ false → perform mem c ≡ handBack mem 1
+  unfolding perform memoryRefused
+  perform-short c h = rw h
+
+  pub perform-unsound : (c : Call) → soundMemory mem ≡ false → isOpen c ≡ false → perform mem c ≡ handBack mem 1
+  unfolding perform memoryRefused
+  perform-unsound c h o = rw (h, o) (go (long mem))
+    where
+      go : (b : Bool) → cond (not b || true) (handBack mem 1) (anew mem (step limits (fresh 0) c)) ≡ handBack mem 1
+      go true = refl
+      go false = refl
+
+  -- on a sound window a call is the rules' step, whatever it answers
+  pub perform-sound : (c : Call) → soundMemory mem ≡ true → perform mem c ≡ layInto mem (step limits (windowOf mem) c)
+  unfolding perform memoryRefused
+  perform-sound c h = rw (sound-long h, h, and-false (not (isOpen c)))
+
+  pub perform-answer : (c : Call) → soundMemory mem ≡ true → perform mem c .answer ≡ step limits (windowOf mem) c .answer
+  unfolding layInto
+  perform-answer c h = ap (λ r. r .answer) (perform-sound c h)
+
+  pub perform-number : (c : Call) → soundMemory mem ≡ true → perform mem c .number ≡ step limits (windowOf mem) c .number
+  unfolding layInto
+  perform-number c h = ap (λ r. r .number) (perform-sound c h)
+
+  perform-after : (c : Call) → soundMemory mem ≡ true → perform mem c .after ≡ encode (step limits (windowOf mem) c .after) ++ drop windowSize mem
+  unfolding layInto
+  perform-after c h = ap (λ r. r .after) (perform-sound c h)
+
+  -- after any call sound memory is sound again, and decodes to the window that the rules give
+  pub perform-holds : (c : Call) → fits c ≡ true → soundMemory mem ≡ true → Holds (perform mem c .after) (step limits (windowOf mem) c .after)
+  perform-holds c a h = rw (perform-after c h) (laid (step limits (windowOf mem) c .after) (step-sound limits (windowOf mem) c a (memory-sound h)) (drop windowSize mem))
+
+  -- OPEN
+  -- what it answers on memory that is long enough is what the rules answer, of whatever window
+  pub open-answered : (W : Window) (n : ℕ) → long mem ≡ true → perform mem (Open n) .answer ≡ step limits W (Open n) .answer
+  unfolding perform memoryRefused isOpen actionOf isOpening
+  open-answered W n l = rw l (go (soundMemory mem))
+    where
+      anew-answer : (o : Outcome) → anew mem o .answer ≡ o .answer
+      anew-answer o = unfold anew layInto handBack in choose (eqb (o .answer) 0)
+        where
+          choose : (b : Bool) → cond b (layInto mem o) (handBack mem (o .answer)) .answer ≡ o .answer
+          choose true = unfold layInto in refl
+          choose false = unfold handBack in refl
+
+      go : (b : Bool) → cond b (layInto mem (step limits (windowOf mem) (Open n))) (anew mem (step limits (fresh 0) (Open n))) .answer ≡ step limits W (Open n) .answer
+      go true = unfold layInto in open-answer limits (windowOf mem) W n
+      go false = anew-answer (step limits (fresh 0) (Open n)) ∙ open-answer limits (fresh 0) W n
+
+  -- its second number is 0
+  pub open-numbered : (n : ℕ) → perform mem (Open n) .number ≡ 0
+  open-numbered n = go (performed (Open n))
+    where
+      anew-number : (o : Outcome) → o .number ≡ 0 → anew mem o .number ≡ 0
+      anew-number o h = unfold anew in choose (eqb (o .answer) 0)
+        where
+          choose : (b : Bool) → cond b (layInto mem o) (handBack mem (o .answer)) .number ≡ 0
+          choose true = unfold layInto in h
+          choose false = unfold handBack in refl
+
+      go : {r : Reply (List ℕ)} → Performed (Open n) r → r .number ≡ 0
+      go refused = unfold handBack in refl
+      go (ruled h) = unfold layInto in open-number limits (windowOf mem) n
+      go (opened l) = anew-number (step limits (fresh 0) (Open n)) (open-number limits (fresh 0) n)
+
+  -- answered 0, it had room, and it leaves a fresh window's bytes and the untouched tail: nothing of what the memory held
+  pub record Opened (n : ℕ) (r : Reply (List ℕ)) : Type 0 where
+    pub room : long mem ≡ true
+    pub bytes : r .after ≡ encode (fresh n) ++ drop windowSize mem
+
+  pub opened-bytes : (n : ℕ) → perform mem (Open n) .answer ≡ 0 → Opened n (perform mem (Open n))
+  opened-bytes n = go (performed (Open n))
+    where
+      one : _≡_ {A = ℕ} 1 0 → ⊥
+      one q = omega arith
+
+      anew-done : (o : Outcome) → anew mem o .answer ≡ 0 → (o .answer ≡ 0) × (anew mem o .after ≡ encode (o .after) ++ drop windowSize mem)
+      anew-done o = unfold anew in choose (eqb (o .answer) 0) refl
+        where
+          choose : (b : Bool) → eqb (o .answer) 0 ≡ b → cond b (layInto mem o) (handBack mem (o .answer)) .answer ≡ 0
+              → (o .answer ≡ 0) × (cond b (layInto mem o) (handBack mem (o .answer)) .after ≡ encode (o .after) ++ drop windowSize mem)
+          choose true e h = unfold layInto in (eqb-eq (o .answer) 0 e, refl)
+          choose false e h = let q : o .answer ≡ 0 = unfold handBack in h in absurd (false≢true (sym e ∙ rw q))
+
+      go : {r : Reply (List ℕ)} → Performed (Open n) r → r .answer ≡ 0 → Opened n r
+      go refused h = absurd (one (unfold handBack in h))
+      go (ruled q) h = record { room = sound-long q; bytes = unfold layInto in ap (λ X. encode X ++ drop windowSize mem) (opened-fresh limits (windowOf mem) n (unfold layInto in h)) }
+      go (opened l) h = let a = anew-done (step limits (fresh 0) (Open n)) h in
+          record { room = l; bytes = a .1 ∙ ap (λ X. encode X ++ drop windowSize mem) (opened-fresh limits (fresh 0) n (a .0)) }
+
+  pub opened-holds : (n : ℕ) → perform mem (Open n) .answer ≡ 0 → Holds (perform mem (Open n) .after) (fresh n)
+  opened-holds n h = let o = opened-bytes n h in
+      let a : step limits (fresh 0) (Open n) .answer ≡ 0 = sym (open-answered (fresh 0) n (o .room)) ∙ h in
+      rw (o .bytes) (laid (fresh n) (rw (opened-fresh limits (fresh 0) n a) at (opened-sound limits (fresh 0) n a)) (drop windowSize mem))
+
+  -- REFUSED OR BLOCKED: no byte changes; and, unless blocked, the second number is 0
+  pub record Still (r : Reply (List ℕ)) : Type 0 where
+    pub same : r .answer ≢ 0 → r .after ≡ mem
+    pub number : r .answer ≢ 0 → r .answer ≢ 20 → r .number ≡ 0
+
+  pub perform-still : (c : Call) → Still (perform mem c)
+  perform-still c = go (performed c)
+    where
+      back : (a : ℕ) → Still (handBack mem a)
+      back a = unfold handBack in record { same = λ h. refl; number = λ h k. refl }
+
+      anew-still : (o : Outcome) → (o .answer ≢ 0 → o .answer ≢ 20 → o .number ≡ 0) → Still (anew mem o)
+      anew-still o f = unfold anew in choose (eqb (o .answer) 0) refl
+        where
+          choose : (b : Bool) → eqb (o .answer) 0 ≡ b → Still (cond b (layInto mem o) (handBack mem (o .answer)))
+          choose true e = unfold layInto in record { same = λ h. absurd (h (eqb-eq (o .answer) 0 e)); number = f }
+          choose false e = back (o .answer)
+
+      go : {r : Reply (List ℕ)} → Performed c r → Still r
+      go refused = back 1
+      go (ruled q) = unfold layInto in record {
+        same = λ h. ap (λ X. encode X ++ drop windowSize mem) (quiet limits (windowOf mem) c .same h) ∙ memory-again q;
+        number = quiet limits (windowOf mem) c .number;
+      }
+      go (opened l) = anew-still (step limits (fresh 0) c) (quiet limits (fresh 0) c .number)
+
+  -- PAST THE WINDOW: what lies there is as it was, and the memory is as long
+  pub record Tail (bytes : List ℕ) : Type 0 where
+    pub same : drop windowSize bytes ≡ drop windowSize mem
+    pub size : length bytes ≡ length mem
+
+  pub perform-tail : (c : Call) → Tail (perform mem c .after)
+  perform-tail c = go (performed c)
+    where
+      lay : (o : Outcome) → long mem ≡ true → Tail (layInto mem o .after)
+      lay o l = unfold layInto long in record {
+        same = drop-at (encode (o .after)) (drop windowSize mem) windowSize (length-encode (o .after));
+        size = omega (arith, length-append (encode (o .after)) (drop windowSize mem), length-encode (o .after), length-drop windowSize mem, le-of windowSize (length mem) (unfold long in l));
+      }
+
+      back : (a : ℕ) → Tail (handBack mem a .after)
+      back a = unfold handBack in record { same = refl; size = refl }
+
+      anew-tail : (o : Outcome) → long mem ≡ true → Tail (anew mem o .after)
+      anew-tail o l = unfold anew in choose (eqb (o .answer) 0)
+        where
+          choose : (b : Bool) → Tail (cond b (layInto mem o) (handBack mem (o .answer)) .after)
+          choose true = lay o l
+          choose false = back (o .answer)
+
+      go : {r : Reply (List ℕ)} → Performed c r → Tail (r .after)
+      go refused = back 1
+      go (ruled q) = lay (step limits (windowOf mem) c) (sound-long q)
+      go (opened l) = anew-tail (step limits (fresh 0) c) l

@@ -1,0 +1,101 @@
+-- Tables, and sections one after the other: what is read, stored and cut out. Assumes nothing.
+use mathlib.Core.Path.{_≡_, refl, sym, _∙_, ap}
+use mathlib.Core.Bool.{Bool}
+use mathlib.Core.List.{List, [], _∷_, _++_, append-assoc}
+use Prim.Native.Nat.{ℕ, zero, suc, _+_, _<_}
+use native.Mathlib.Nat.{add-zero, zero-add, suc-add, add-assoc, not-suc-le-zero, le-of-suc-le-suc}
+use native.Mathlib.Omega.{arith}
+use lib.ListN.{getD, set, length, take, drop, length-set, length-append, List·getD-append}
+use lib.Seq.{ext-getD, getD-set-same, getD-set-other, set-append-left, getD-append-add, take-at, drop-at, take-append-add, drop-append-add}
+use Rattle.rules.specs.Base.{put, table}
+use Rattle.rules.proofs.BaseLaws.{put-same, put-other, Same, same, other, same?}
+use Rattle.layout.specs.Codec.{Section, section, layOut}
+
+-- tables
+pub length-table {ℓ} : {A : Type ℓ} (k i : ℕ) (f : ℕ → A) → length (table k i f) ≡ k
+unfolding table
+length-table zero i f = refl
+length-table (suc k) i f = ap suc (length-table k (suc i) f)
+
+pub getD-table {ℓ} : {A : Type ℓ} (k i : ℕ) (f : ℕ → A) (j : ℕ) (d : A) → j < k → getD (table k i f) j d ≡ f (i + j)
+unfolding table
+getD-table zero i f j d h = absurd (not-suc-le-zero h)
+getD-table (suc k) i f zero d h = ap f (sym (add-zero i))
+getD-table (suc k) i f (suc j) d h = getD-table k (suc i) f j d (le-of-suc-le-suc h) ∙ ap f (omega arith)
+
+pub getD-table0 {ℓ} : {A : Type ℓ} (k : ℕ) (f : ℕ → A) (j : ℕ) (d : A) → j < k → getD (table k 0 f) j d ≡ f j
+getD-table0 k f j d h = getD-table k 0 f j d h ∙ ap f (zero-add j)
+
+-- a list read by place
+pub table-list {ℓ} : {A : Type ℓ} (d : A) (l : List A) (f : ℕ → A) → ((j : ℕ) → j < length l → f j ≡ getD l j d) → table (length l) 0 f ≡ l
+table-list d l f h = ext-getD d (table (length l) 0 f) l (length-table (length l) 0 f)
+    (λ j s. let t : j < length l = rw length-table at s in getD-table0 (length l) f j d t ∙ h j t)
+
+-- sections: how many bytes, where each begins, and each by its place
+abbrev pub total : List Section → ℕ
+total [] = 0
+total (s ∷ l) = s.size + total l
+
+abbrev pub offset : List Section → ℕ → ℕ
+offset [] k = 0
+offset (s ∷ l) zero = 0
+offset (s ∷ l) (suc k) = s.size + offset l k
+
+abbrev pub nothing : Section
+nothing = section 0 (λ i. 0)
+
+abbrev pub nth : List Section → ℕ → Section
+nth l k = getD l k nothing
+
+-- a section with other contents
+abbrev pub replaced : List Section → ℕ → (ℕ → ℕ) → List Section
+replaced [] k g = []
+replaced (s ∷ l) zero g = section s.size g ∷ l
+replaced (s ∷ l) (suc k) g = s ∷ replaced l k g
+
+pub length-layOut : (l : List Section) → length (layOut l) ≡ total l
+unfolding layOut
+length-layOut [] = refl
+length-layOut (s ∷ l) = length-append (table s.size 0 s.content) (layOut l) ∙ rw (length-table s.size 0 s.content, length-layOut l)
+
+-- past a table, and in it
+skip : (k : ℕ) (f : ℕ → ℕ) (ys : List ℕ) (n : ℕ) → getD (table k 0 f ++ ys) (k + n) 0 ≡ getD ys n 0
+skip k f ys n = ap (λ x. getD (table k 0 f ++ ys) (x + n) 0) (sym (length-table k 0 f)) ∙ getD-append-add (table k 0 f) ys n 0
+
+within : (k : ℕ) (f : ℕ → ℕ) (ys : List ℕ) (n : ℕ) → n < k → getD (table k 0 f ++ ys) n 0 ≡ f n
+within k f ys n h = List·getD-append (table k 0 f) ys 0 n (rw length-table h) ∙ getD-table0 k f n 0 h
+
+-- a byte read
+pub layOut-at : (l : List Section) (k i : ℕ) → i < nth l k .size → getD (layOut l) (offset l k + i) 0 ≡ nth l k .content i
+unfolding layOut section
+layOut-at [] k i h = absurd (not-suc-le-zero h)
+layOut-at (s ∷ l) zero i h = ap (λ x. getD (table s.size 0 s.content ++ layOut l) x 0) (zero-add i) ∙ within s.size s.content (layOut l) i h
+layOut-at (s ∷ l) (suc k) i h = ap (λ x. getD (table s.size 0 s.content ++ layOut l) x 0) (add-assoc s.size (offset l k) i)
+    ∙ skip s.size s.content (layOut l) (offset l k + i) ∙ layOut-at l k i h
+
+-- a section cut out
+drop-skip : (k : ℕ) (f : ℕ → ℕ) (ys : List ℕ) (n : ℕ) → drop (k + n) (table k 0 f ++ ys) ≡ drop n ys
+drop-skip k f ys n = ap (λ x. drop (x + n) (table k 0 f ++ ys)) (sym (length-table k 0 f)) ∙ drop-append-add (table k 0 f) ys n
+
+take-skip : (k : ℕ) (f : ℕ → ℕ) (ys : List ℕ) (n : ℕ) → take (k + n) (table k 0 f ++ ys) ≡ table k 0 f ++ take n ys
+take-skip k f ys n = ap (λ x. take (x + n) (table k 0 f ++ ys)) (sym (length-table k 0 f)) ∙ take-append-add (table k 0 f) ys n
+
+pub layOut-part : (l : List Section) (k : ℕ) → k < length l → take (nth l k .size) (drop (offset l k) (layOut l)) ≡ table (nth l k .size) 0 (nth l k .content)
+unfolding layOut
+layOut-part [] k h = absurd (not-suc-le-zero h)
+layOut-part (s ∷ l) zero h = take-at (table s.size 0 s.content) (layOut l) s.size (length-table s.size 0 s.content)
+layOut-part (s ∷ l) (suc k) h = ap (take (nth l k .size)) (drop-skip s.size s.content (layOut l) (offset l k)) ∙ layOut-part l k (le-of-suc-le-suc h)
+
+-- a section put in another's place: the frame law of all sections at once
+pub layOut-put : (l : List Section) (k : ℕ) (g : ℕ → ℕ) → k < length l
+    → take (offset l k) (layOut l) ++ (table (nth l k .size) 0 g ++ drop (offset l k + nth l k .size) (layOut l)) ≡ layOut (replaced l k g)
+unfolding layOut section
+layOut-put [] k g h = absurd (not-suc-le-zero h)
+layOut-put (s ∷ l) zero g h = ap (λ x. table s.size 0 g ++ drop x (table s.size 0 s.content ++ layOut l)) (zero-add s.size)
+    ∙ ap (λ r. table s.size 0 g ++ r) (drop-at (table s.size 0 s.content) (layOut l) s.size (length-table s.size 0 s.content))
+layOut-put (s ∷ l) (suc k) g h =
+    ap (λ r. r ++ (table (nth l k .size) 0 g ++ drop (s.size + offset l k + nth l k .size) (table s.size 0 s.content ++ layOut l))) (take-skip s.size s.content (layOut l) (offset l k))
+    ∙ ap (λ x. (table s.size 0 s.content ++ take (offset l k) (layOut l)) ++ (table (nth l k .size) 0 g ++ drop x (table s.size 0 s.content ++ layOut l))) (add-assoc s.size (offset l k) (nth l k .size))
+    ∙ ap (λ r. (table s.size 0 s.content ++ take (offset l k) (layOut l)) ++ (table (nth l k .size) 0 g ++ r)) (drop-skip s.size s.content (layOut l) (offset l k + nth l k .size))
+    ∙ append-assoc (table s.size 0 s.content) (take (offset l k) (layOut l)) _
+    ∙ ap (λ r. table s.size 0 s.content ++ r) (layOut-put l k g (le-of-suc-le-suc h))

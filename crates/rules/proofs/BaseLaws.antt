@@ -1,0 +1,279 @@
+-- Laws of tests, bounded quantifiers, largest figures and functions changed at a place. Assumes nothing.
+use mathlib.Core.Path.{_≡_, refl, sym, _∙_, ap, fun-ext}
+use mathlib.Core.Logic.{_⊎_, inl, inr, ⊎-elim, _≢_}
+use mathlib.Core.Bool.{Bool, true, false, not, cond, _&&_, _||_, false≢true}
+use Prim.Native.Nat.{ℕ, zero, suc, _≤_, _<_, zero-le, suc-le-suc}
+use native.Mathlib.Nat.{eq-or-lt-of-le, le-of-suc-le-suc, not-suc-le-zero}
+use native.Mathlib.Omega.{arith}
+use lib.Dec.{leb, ltb, eqb, T, eqb→eq, eqb-refl, leb→le, le→leb, nleb→lt, ltb→lt, nltb→le}
+use Rattle.rules.specs.Base.{put, allBelow, anyBelow, countBelow, exceeds as above}
+
+pub or-left : (a b : Bool) → a ≡ true → a || b ≡ true
+or-left a b e = rw e
+
+pub or-right : (a b : Bool) → b ≡ true → a || b ≡ true
+or-right true b e = refl
+or-right false b e = e
+
+pub or-cases : (a b : Bool) → a || b ≡ true → (a ≡ true) ⊎ (b ≡ true)
+or-cases true b e = inl refl
+or-cases false b e = inr e
+
+pub and-both : (a b : Bool) → a ≡ true → b ≡ true → a && b ≡ true
+and-both a b p q = rw (p, q)
+
+pub and-left : (a b : Bool) → a && b ≡ true → a ≡ true
+and-left true b e = refl
+and-left false b e = e
+
+pub and-right : (a b : Bool) → a && b ≡ true → b ≡ true
+and-right true b e = e
+and-right false b e = absurd (false≢true e)
+
+-- each side taken on
+pub or-map : (a b c d : Bool) → (a ≡ true → c ≡ true) → (b ≡ true → d ≡ true) → a || b ≡ true → c || d ≡ true
+or-map a b c d f g e = ⊎-elim (λ x. or-left c d (f x)) (λ x. or-right c d (g x)) (or-cases a b e)
+
+pub and-map : (a b c d : Bool) → (a ≡ true → c ≡ true) → (b ≡ true → d ≡ true) → a && b ≡ true → c && d ≡ true
+and-map a b c d f g e = and-both c d (f (and-left a b e)) (g (and-right a b e))
+
+pub or-true : (a : Bool) → a || true ≡ true
+or-true true = refl
+or-true false = refl
+
+pub and-false : (a : Bool) → a && false ≡ false
+and-false true = refl
+and-false false = refl
+
+pub or-comm : (a b : Bool) → a || b ≡ b || a
+or-comm true true = refl
+or-comm true false = refl
+or-comm false true = refl
+or-comm false false = refl
+
+pub and-four : (a b c d : Bool) → a && b && c && d ≡ true → (a ≡ true) × (b ≡ true) × (c ≡ true) × (d ≡ true)
+and-four a b c d e = let f = and-left (a && b && c) d e in let g = and-left (a && b) c f in (and-left a b g, and-right a b g, and-right (a && b) c f, and-right (a && b && c) d e)
+
+pub and-five : (a b c d x : Bool) → a && b && c && d && x ≡ true → (a ≡ true) × (b ≡ true) × (c ≡ true) × (d ≡ true) × (x ≡ true)
+and-five a b c d x e = let f = and-four a b c d (and-left (a && b && c && d) x e) in (f .0, f .1, f .2, f .3, and-right (a && b && c && d) x e)
+
+-- tests that failed
+pub not-true : (b : Bool) → not b ≡ true → b ≡ false
+not-true true e = absurd (false≢true e)
+not-true false e = refl
+
+pub not-false : (b : Bool) → not b ≡ false → b ≡ true
+not-false true e = refl
+not-false false e = absurd (false≢true (sym e))
+
+pub or-false-left : (a b : Bool) → a || b ≡ false → a ≡ false
+or-false-left true b e = e
+or-false-left false b e = refl
+
+pub or-false-right : (a b : Bool) → a || b ≡ false → b ≡ false
+or-false-right true b e = absurd (false≢true (sym e))
+or-false-right false b e = e
+
+pub or-none : (a b : Bool) → a || b ≡ false → (a ≡ false) × (b ≡ false)
+or-none a b e = (or-false-left a b e, or-false-right a b e)
+
+pub no-true : (b : Bool) → (b ≡ true → ⊥) → b ≡ false
+no-true true f = absurd (f refl)
+no-true false f = refl
+
+pub both-ways : (a b : Bool) → (a ≡ true → b ≡ true) → (b ≡ true → a ≡ true) → a ≡ b
+both-ways true true f g = refl
+both-ways true false f g = sym (f refl)
+both-ways false true f g = g refl
+both-ways false false f g = refl
+
+pub of-T : (b : Bool) → T b → b ≡ true
+of-T true t = refl
+of-T false t = absurd t
+
+pub to-T : (b : Bool) → b ≡ true → T b
+to-T b e = rw e tt
+
+pub eqb-same : (c : ℕ) → eqb c c ≡ true
+eqb-same c = of-T (eqb c c) (eqb-refl c)
+
+pub eqb-eq : (c d : ℕ) → eqb c d ≡ true → c ≡ d
+eqb-eq c d e = eqb→eq c d (to-T (eqb c d) e)
+
+-- a test as a fact of numbers, and back
+pub le-of : (m n : ℕ) → leb m n ≡ true → m ≤ n
+le-of m n e = leb→le m n (to-T (leb m n) e)
+
+pub lt-of : (m n : ℕ) → ltb m n ≡ true → m < n
+lt-of m n e = ltb→lt m n (to-T (ltb m n) e)
+
+pub ge-of : (m n : ℕ) → ltb m n ≡ false → n ≤ m
+ge-of m n e = nltb→le m n (to-T (not (ltb m n)) (ap not e))
+
+pub gt-of : (m n : ℕ) → leb m n ≡ false → n < m
+gt-of m n e = nleb→lt m n (to-T (not (leb m n)) (ap not e))
+
+pub leb-true : (m n : ℕ) → m ≤ n → leb m n ≡ true
+leb-true m n h = of-T (leb m n) (le→leb m n h)
+
+-- a test against a bound
+pub data Below (e n : ℕ) : Bool → Type 0 where
+  under : e < n → Below e n true
+  over : n ≤ e → Below e n false
+
+pub below : (e n : ℕ) → Below e n (ltb e n)
+below e n = go (ltb e n) (ltb→lt e n) (nltb→le e n)
+  where
+    go : (b : Bool) → (T b → e < n) → (T (not b) → n ≤ e) → Below e n b
+    go true f g = under (f tt)
+    go false f g = over (g tt)
+
+pub ltb-true : (e n : ℕ) → e < n → ltb e n ≡ true
+ltb-true e n h = go (below e n)
+  where
+    go : {b : Bool} → Below e n b → b ≡ true
+    go (under k) = refl
+    go (over k) = absurd (omega arith)
+
+pub ltb-false : (e n : ℕ) → n ≤ e → ltb e n ≡ false
+ltb-false e n h = go (below e n)
+  where
+    go : {b : Bool} → Below e n b → b ≡ false
+    go (under k) = absurd (omega arith)
+    go (over k) = refl
+
+-- two numbers are the same, or not
+pub data Same (a b : ℕ) : Bool → Type 0 where
+  same : a ≡ b → Same a b true
+  other : a ≢ b → Same a b false
+
+pub same? : (a b : ℕ) → Same a b (eqb a b)
+same? a b = go (eqb a b) refl
+  where
+    go : (x : Bool) → eqb a b ≡ x → Same a b x
+    go true e = same (eqb-eq a b e)
+    go false e = other (λ q. false≢true (sym e ∙ (rw q (eqb-same b))))
+
+pub ne-of : (a b : ℕ) → eqb a b ≡ false → a ≢ b
+ne-of a b e q = false≢true (sym e ∙ rw q (eqb-same b))
+
+pub eqb-other : (a b : ℕ) → a ≢ b → eqb a b ≡ false
+eqb-other a b h = go (same? a b)
+  where
+    go : {x : Bool} → Same a b x → x ≡ false
+    go (same e) = absurd (h e)
+    go (other n) = refl
+
+-- for all below a bound
+pub allBelow-intro : (n : ℕ) (p : ℕ → Bool) → ((c : ℕ) → c < n → p c ≡ true) → allBelow n p ≡ true
+unfolding allBelow
+allBelow-intro zero p f = refl
+allBelow-intro (suc n) p f = and-both (allBelow n p) (p n) (allBelow-intro n p (λ c h. f c (omega arith))) (f n (omega arith))
+
+pub allBelow-at : (n : ℕ) (p : ℕ → Bool) → allBelow n p ≡ true → (c : ℕ) → c < n → p c ≡ true
+unfolding allBelow
+allBelow-at zero p e c h = absurd (not-suc-le-zero h)
+allBelow-at (suc n) p e c h = go (same? c n) (allBelow-at n p (and-left (allBelow n p) (p n) e) c)
+  where
+    go : {b : Bool} → Same c n b → (c < n → p c ≡ true) → p c ≡ true
+    go (same q) ih = rw q (and-right (allBelow n p) (p n) e)
+    go (other q) ih = ih (omega arith)
+
+-- a largest figure
+pub over-false : (m n : ℕ) → m ≤ n → above m n ≡ false
+unfolding above
+over-false zero n h = refl
+over-false (suc m) zero h = absurd (not-suc-le-zero h)
+over-false (suc m) (suc n) h = over-false m n (le-of-suc-le-suc h)
+
+pub within-of : (m n : ℕ) → not (above m n) ≡ true → m ≤ n
+unfolding above
+within-of zero n e = zero-le
+within-of (suc m) zero e = absurd (false≢true e)
+within-of (suc m) (suc n) e = suc-le-suc (within-of m n e)
+
+pub over-less : (m k n : ℕ) → k ≤ m → not (above m n) ≡ true → not (above k n) ≡ true
+over-less m k n h e = ap not (over-false k n (omega (arith, within-of m n e)))
+
+-- the last number below a bound, and the others
+below-suc : (d n : ℕ) → d < suc n → (d ≡ n) ⊎ (d < n)
+below-suc d n h = eq-or-lt-of-le (le-of-suc-le-suc h)
+
+pub any-intro : (n : ℕ) (p : ℕ → Bool) (d : ℕ) → d < n → p d ≡ true → anyBelow n p ≡ true
+unfolding anyBelow
+any-intro zero p d h e = absurd (not-suc-le-zero h)
+any-intro (suc n) p d h e =
+    ⊎-elim (λ q. or-right (anyBelow n p) (p n) (rw q at e)) (λ l. or-left (anyBelow n p) (p n) (any-intro n p d l e)) (below-suc d n h)
+
+pub any-elim : (n : ℕ) (p : ℕ → Bool) → anyBelow n p ≡ true → (d : ℕ) × (d < n) × (p d ≡ true)
+unfolding anyBelow
+any-elim zero p e = absurd (false≢true e)
+any-elim (suc n) p e =
+    ⊎-elim (λ q. let r = any-elim n p q in (r .0, omega arith, r .2)) (λ q. (n, omega arith, q)) (or-cases (anyBelow n p) (p n) e)
+
+-- how many
+abbrev pub Within : ℕ → (ℕ → Bool) → (ℕ → Bool) → Type 0
+Within n s t = (c : ℕ) → c < n → s c ≡ true → t c ≡ true
+
+within-pred : {n : ℕ} {s t : ℕ → Bool} → Within (suc n) s t → Within n s t
+within-pred w c h e = w c (omega arith) e
+
+pub count-le : (n : ℕ) (s : ℕ → Bool) → countBelow n s ≤ n
+unfolding countBelow
+count-le zero s = zero-le
+count-le (suc n) s = go (s n) (count-le n s)
+  where
+    go : (b : Bool) → countBelow n s ≤ n → cond b (suc (countBelow n s)) (countBelow n s) ≤ suc n
+    go true h = omega arith
+    go false h = omega arith
+
+-- sets and their counts
+pub count-within : (n : ℕ) (s t : ℕ → Bool) → Within n s t → countBelow n s ≤ countBelow n t
+unfolding countBelow
+count-within zero s t w = zero-le
+count-within (suc n) s t w = go (s n) (t n) (w n (omega arith)) (count-within n s t (within-pred {s = s} {t = t} w))
+  where
+    go : (a b : Bool) → (a ≡ true → b ≡ true) → countBelow n s ≤ countBelow n t
+        → cond a (suc (countBelow n s)) (countBelow n s) ≤ cond b (suc (countBelow n t)) (countBelow n t)
+    go true true f h = omega arith
+    go true false f h = absurd (false≢true (f refl))
+    go false true f h = omega arith
+    go false false f h = h
+
+-- a set within another that has as many members has the same
+pub count-same : (n : ℕ) (s t : ℕ → Bool) → Within n s t → countBelow n t ≤ countBelow n s → Within n t s
+unfolding countBelow
+count-same zero s t w h c l e = absurd (not-suc-le-zero l)
+count-same (suc n) s t w h c l e =
+    let w′ : Within n s t = within-pred {s = s} {t = t} w in
+    let k = go (s n) (t n) (w n (omega arith)) (count-within n s t w′) h in
+    ⊎-elim (λ q. rw q (k .1 (rw q at e))) (λ m. count-same n s t w′ (k .0) c m e) (below-suc c n l)
+  where
+    go : (a b : Bool) → (a ≡ true → b ≡ true) → countBelow n s ≤ countBelow n t
+        → cond b (suc (countBelow n t)) (countBelow n t) ≤ cond a (suc (countBelow n s)) (countBelow n s)
+        → (countBelow n t ≤ countBelow n s) × (b ≡ true → a ≡ true)
+    go true true f i h′ = (omega arith, λ x. refl)
+    go true false f i h′ = absurd (false≢true (f refl))
+    go false true f i h′ = absurd (omega arith)
+    go false false f i h′ = (h′, λ x. x)
+
+-- none below a bound
+pub anyBelow-none : (n : ℕ) (p : ℕ → Bool) → anyBelow n p ≡ false → (c : ℕ) → c < n → p c ≡ false
+anyBelow-none n p e c h = no-true (p c) (λ q. false≢true (sym e ∙ any-intro n p c h q))
+
+pub none-below : (n : ℕ) (p : ℕ → Bool) → ((d : ℕ) → d < n → p d ≡ true → ⊥) → anyBelow n p ≡ false
+none-below n p f = no-true (anyBelow n p) (λ e. let a = any-elim n p e in f (a .0) (a .1) (a .2))
+
+-- functions changed at a place
+module _ {ℓ} {A : Type ℓ} where
+  pub put-same : (f : ℕ → A) (i : ℕ) (v : A) → put f i v i ≡ v
+  unfolding put
+  put-same f i v = rw eqb-same
+
+  pub put-other : (f : ℕ → A) (i : ℕ) (v : A) (j : ℕ) → j ≢ i → put f i v j ≡ f j
+  unfolding put
+  put-other f i v j h = go (same? j i)
+    where
+      go : {b : Bool} → Same j i b → cond b v (f j) ≡ f j
+      go (same e) = absurd (h e)
+      go (other n) = refl

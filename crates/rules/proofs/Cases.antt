@@ -1,0 +1,104 @@
+-- The starred calls to try, each as one list, for tables of any size that have room for them. By computation. Assumes nothing.
+-- `SizeLaws` has those in which a largest figure plays a part.
+use mathlib.Core.Path.{_≡_, refl}
+use mathlib.Core.List.{List, [], _∷_}
+use Prim.Native.Nat.{ℕ, suc}
+use Rattle.rules.specs.Window.{Limits, fresh}
+use Rattle.rules.specs.Calls.{Call, Open, Initiate, Begin, Complete, Lock, Read, Write, Permit, Delegate, Depend, Commit, Abort, Status, Value}
+use Rattle.rules.specs.Refusals.{step}
+use Rattle.rules.specs.Lists.{answers}
+use Rattle.rules.proofs.Computing.{rules}
+
+-- tables with room for two entries, three changes, two records, two permits and two ties
+abbrev pub room : ℕ → ℕ → ℕ → ℕ → ℕ → Limits
+room e c r p t = record { entries = suc (suc e); changes = suc (suc (suc c)); records = suc (suc r); permits = suc (suc p); ties = suc (suc t) }
+
+-- after open 2, whatever the sizes, these calls have these answers and second numbers
+abbrev pub Gives : List Call → List (ℕ × ℕ) → Type 0
+Gives l a = (e c r p t : ℕ) → answers (step (room e c r p t)) (fresh 0) (Open 2 ∷ l) ≡ (0, 0) ∷ a
+
+-- "Changes 1 and 2 run"
+abbrev pub two : List Call → List Call
+two l = Initiate 0 ∷ Initiate 0 ∷ Begin 1 ∷ Begin 2 ∷ l
+
+abbrev pub begun : List (ℕ × ℕ) → List (ℕ × ℕ)
+begun l = (0, 1) ∷ (0, 2) ∷ (0, 0) ∷ (0, 0) ∷ l
+
+-- "The whole case above"
+pub whole-case : Gives (Initiate 0 ∷ Initiate 0 ∷ Begin 1 ∷ Lock 1 0 2 ∷ Write 1 0 7 ∷ Depend 3 1 2 ∷ Abort 2 ∷ Value 0 ∷ [])
+    ((0, 1) ∷ (0, 2) ∷ (0, 0) ∷ (0, 0) ∷ (0, 0) ∷ (0, 0) ∷ (0, 2) ∷ (0, 0) ∷ [])
+unfolding rules
+whole-case e c r p t = refl
+
+-- "Change 1 writes 7 then 9 to entry 0 and is aborted: value 0"
+pub undone : Gives (two (Lock 1 0 2 ∷ Write 1 0 7 ∷ Write 1 0 9 ∷ Abort 1 ∷ Value 0 ∷ []))
+    (begun ((0, 0) ∷ (0, 0) ∷ (0, 0) ∷ (0, 1) ∷ (0, 0) ∷ []))
+unfolding rules
+undone e c r p t = refl
+
+-- "1 holds write, 2 wants read: 20; after permit (1, 2, entry, 1): 0; write still 20"
+pub permit-to-read : Gives (two (Lock 1 0 2 ∷ Lock 2 0 1 ∷ Permit 1 2 0 1 ∷ Lock 2 0 1 ∷ Lock 2 0 2 ∷ []))
+    (begun ((0, 0) ∷ (20, 0) ∷ (0, 0) ∷ (0, 0) ∷ (20, 0) ∷ []))
+unfolding rules
+permit-to-read e c r p t = refl
+
+-- "Wait tie led by 1 with follower 2, then the reverse: 9. So is a group tie of the two", named either way
+pub no-return : Gives (two (Depend 1 1 2 ∷ Depend 1 2 1 ∷ Depend 3 1 2 ∷ Depend 3 2 1 ∷ []))
+    (begun ((0, 0) ∷ (9, 0) ∷ (9, 0) ∷ (9, 0) ∷ []))
+unfolding rules
+no-return e c r p t = refl
+
+-- "2 completed, fall tie led by 1: commit 2 gives 20 with 1"
+pub led : Gives (two (Complete 2 ∷ Depend 2 1 2 ∷ Commit 2 ∷ []))
+    (begun ((0, 0) ∷ (0, 0) ∷ (20, 1) ∷ []))
+unfolding rules
+led e c r p t = refl
+
+-- "1 writes 7 and delegates all to 2; abort 1: value 7; abort 2: value 0"
+pub delegated : Gives (two (Lock 1 0 2 ∷ Write 1 0 7 ∷ Delegate 1 2 65535 ∷ Abort 1 ∷ Value 0 ∷ Abort 2 ∷ Value 0 ∷ []))
+    (begun ((0, 0) ∷ (0, 0) ∷ (0, 0) ∷ (0, 1) ∷ (0, 7) ∷ (0, 1) ∷ (0, 0) ∷ []))
+unfolding rules
+delegated e c r p t = refl
+
+-- "1 writes 7, permits 2 to write, 2 locks and writes 9; abort 1: value 0; abort 2: value 7"
+pub two-writers : Gives (two (Lock 1 0 2 ∷ Write 1 0 7 ∷ Permit 1 2 0 2 ∷ Lock 2 0 2 ∷ Write 2 0 9 ∷ Abort 1 ∷ Value 0 ∷ Abort 2 ∷ Value 0 ∷ []))
+    (begun ((0, 0) ∷ (0, 0) ∷ (0, 0) ∷ (0, 0) ∷ (0, 0) ∷ (0, 1) ∷ (0, 0) ∷ (0, 1) ∷ (0, 7) ∷ []))
+unfolding rules
+two-writers e c r p t = refl
+
+-- "1 holds write, permits 2 to read, 2 locks to read, 3 is initiated; delegate 2 to 3 of that entry gets 10"
+pub unpermitted : Gives (two (Lock 1 0 2 ∷ Permit 1 2 0 1 ∷ Lock 2 0 1 ∷ Initiate 0 ∷ Delegate 2 3 0 ∷ []))
+    (begun ((0, 0) ∷ (0, 0) ∷ (0, 0) ∷ (0, 3) ∷ (10, 0) ∷ []))
+unfolding rules
+unpermitted e c r p t = refl
+
+-- BESIDE THE STARRED ONES
+-- a group is more than direct partners, either way and in any number of steps, and commits as one
+pub whole-group : Gives (two (Initiate 0 ∷ Begin 3 ∷ Depend 3 1 2 ∷ Depend 3 3 2 ∷ Complete 1 ∷ Complete 2 ∷ Commit 1 ∷ Complete 3 ∷ Commit 1 ∷ Status 1 ∷ Status 2 ∷ Status 3 ∷ []))
+    (begun ((0, 3) ∷ (0, 0) ∷ (0, 0) ∷ (0, 0) ∷ (0, 0) ∷ (0, 0) ∷ (20, 3) ∷ (0, 0) ∷ (0, 3) ∷ (0, 4) ∷ (0, 4) ∷ (0, 4) ∷ []))
+unfolding rules
+whole-group e c r p t = refl
+
+-- a follower waits for a leader that is merely completed
+pub leader-completed : Gives (two (Complete 1 ∷ Complete 2 ∷ Depend 2 1 2 ∷ Commit 2 ∷ Commit 1 ∷ Commit 2 ∷ []))
+    (begun ((0, 0) ∷ (0, 0) ∷ (0, 0) ∷ (20, 1) ∷ (0, 1) ∷ (0, 1) ∷ []))
+unfolding rules
+leader-completed e c r p t = refl
+
+-- a fall follower falls with its leader, a wait follower does not; the ended answer 0 with 0, or 21
+pub fallen : Gives (two (Initiate 0 ∷ Depend 2 1 2 ∷ Depend 1 1 3 ∷ Abort 1 ∷ Status 2 ∷ Status 3 ∷ Abort 2 ∷ Commit 2 ∷ []))
+    (begun ((0, 3) ∷ (0, 0) ∷ (0, 0) ∷ (0, 2) ∷ (0, 5) ∷ (0, 1) ∷ (0, 0) ∷ (21, 0) ∷ []))
+unfolding rules
+fallen e c r p t = refl
+
+-- a hand-over, a tie and the first entry together: the withdrawal gives entry 0 its old value back
+pub tied-and-delegated : Gives (two (Lock 1 0 2 ∷ Write 1 0 7 ∷ Lock 1 1 2 ∷ Write 1 1 8 ∷ Delegate 1 2 0 ∷ Depend 3 1 2 ∷ Abort 1 ∷ Value 0 ∷ Value 1 ∷ []))
+    (begun ((0, 0) ∷ (0, 0) ∷ (0, 0) ∷ (0, 0) ∷ (0, 0) ∷ (0, 0) ∷ (0, 2) ∷ (0, 0) ∷ (0, 0) ∷ []))
+unfolding rules
+tied-and-delegated e c r p t = refl
+
+-- an existing tie is 0 again, a group tie also when named the other way round; a permit given again unites
+pub tie-again : Gives (two (Depend 3 2 1 ∷ Depend 3 1 2 ∷ Permit 1 2 0 1 ∷ Permit 1 2 0 2 ∷ Lock 1 0 2 ∷ Lock 2 0 2 ∷ Read 2 0 ∷ Write 2 1 5 ∷ []))
+    (begun ((0, 0) ∷ (0, 0) ∷ (0, 0) ∷ (0, 0) ∷ (0, 0) ∷ (0, 0) ∷ (0, 0) ∷ (8, 0) ∷ []))
+unfolding rules
+tie-again e c r p t = refl

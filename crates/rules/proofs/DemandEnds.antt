@@ -1,0 +1,253 @@
+-- Which changes a call ends, and what becomes of the ties. Assumes nothing.
+use mathlib.Core.Path.{_≡_, refl, sym, _∙_, ap}
+use mathlib.Core.Logic.{_⊎_, inl, inr, ⊎-elim}
+use mathlib.Core.Bool.{Bool, true, false, not, cond, _&&_, _||_, false≢true, true≢false}
+use mathlib.Core.List.{List, [], _∷_}
+use Prim.Native.Nat.{ℕ, suc, _<_, min, max, Ordering}
+use native.Mathlib.Omega.{arith}
+use lib.Dec.{eqb}
+use Rattle.rules.specs.Base.{Key, put, anyBelow, any, insert, byOrder, outside}
+use Rattle.rules.specs.Sets.{Set, reach}
+use Rattle.rules.specs.Window.{Limits, PermitRecord, TieRecord, Window, tieKey, withValue, withHeld, withPermits, withTies, isEnded, live, noChange}
+use Rattle.rules.specs.Ties.{isGroup, isFall, isArrow, tied, grouped, falling, makeTie, addTie, groupOf, endSet}
+use Rattle.rules.specs.Effects.{commitBlockers, entriesNamed, endAll, addChange, handOver}
+use Rattle.rules.specs.Events.{Action, isTying, isOpening}
+use Rattle.rules.proofs.BaseLaws.{or-left, or-right, and-left, and-right, eqb-eq, eqb-same, eqb-other, Same, same, other, same?, Below, under, over, below, ltb-true, any-intro}
+use Rattle.rules.proofs.DemandMoves.{shownStatus, Calm, Move, opened, started, calm, locked, granted, handed, tied as tieing, committed, aborted, live-status}
+use Rattle.rules.proofs.ListLaws.{any-keep-up, any-weaken}
+use Rattle.rules.proofs.SetLaws.{reach-closed}
+use Rattle.rules.proofs.SortLaws.{any-insert, Ordered, below as less, equal, above, ordered}
+use Rattle.rules.proofs.SoundParts.{live-below, Sound, live-change}
+use Rattle.rules.proofs.SoundStep.{group-live, fall-live}
+
+abbrev pub ofKind : ℕ → ℕ → Bool
+ofKind k j = eqb j k
+
+-- the call ends s, all in one way; who is not in s stays as he was
+pub record Ending (W X : Window) (s : Set) (how : ℕ) : Type 0 where
+  pub way : (how ≡ 4) ⊎ (how ≡ 5)
+  pub ends : (c : ℕ) → s c ≡ true → (live W c ≡ true) × (shownStatus X c ≡ how)
+  pub stays : (c : ℕ) → s c ≡ false → isEnded (shownStatus W c) ≡ true → shownStatus X c ≡ shownStatus W c
+  pub fewer : (c : ℕ) → s c ≡ false → isEnded (shownStatus X c) ≡ true → isEnded (shownStatus W c) ≡ true
+  pub on : (c : ℕ) → s c ≡ false → live W c ≡ true → live X c ≡ true
+  pub ties : (k : ℕ → Bool) (l f : ℕ) → s l ≡ false → s f ≡ false → tied (W .ties) k l f ≡ true → tied (X .ties) k l f ≡ true
+  pub together : (a b : ℕ) → live W a ≡ true → live W b ≡ true → grouped (W .ties) a b ≡ true → s a ≡ true → s b ≡ true
+  pub unled : (k l f : ℕ) → isArrow k ≡ true → live W l ≡ true → tied (W .ties) (ofKind k) l f ≡ true → how ≡ 4 → s f ≡ true → ⊥
+  pub fallen : (l f : ℕ) → live W l ≡ true → live W f ≡ true → tied (W .ties) (ofKind 2) l f ≡ true → how ≡ 5 → s l ≡ true → s f ≡ true
+
+pub how-ended : {W X : Window} {s : Set} {how : ℕ} → Ending W X s how → isEnded how ≡ true
+unfolding isEnded
+how-ended P = ⊎-elim (λ q. rw q) (λ q. rw q) (P .way)
+
+abbrev pub none : Set
+none c = false
+
+-- nobody ends
+quietly : (W X : Window) → ((c : ℕ) → isEnded (shownStatus W c) ≡ true → shownStatus X c ≡ shownStatus W c) → ((c : ℕ) → isEnded (shownStatus X c) ≡ true → isEnded (shownStatus W c) ≡ true)
+    → ((c : ℕ) → live W c ≡ true → live X c ≡ true) → ((k : ℕ → Bool) (l f : ℕ) → tied (W .ties) k l f ≡ true → tied (X .ties) k l f ≡ true) → Ending W X none 4
+quietly W X a b c d = record {
+  way = inl refl;
+  ends = λ x e. absurd (false≢true e);
+  stays = λ x e. a x;
+  fewer = λ x e. b x;
+  on = λ x e. c x;
+  ties = λ k l f p q. d k l f;
+  together = λ x y p q r e. absurd (false≢true e);
+  unled = λ k l f p q r h e. false≢true e;
+  fallen = λ l f p q r h e. absurd (false≢true e);
+}
+
+-- adding a record
+any-insert-new {ℓ} : {A : Type ℓ} (key : A → Key) (q : Key → Bool) (x : A) (l : List A) → q (key x) ≡ true → any (λ y. q (key y)) (insert key (λ t u. u) x l) ≡ true
+unfolding any insert byOrder
+any-insert-new key q x [] e = or-left (q (key x)) false e
+any-insert-new key q x (y ∷ l) e = go (ordered (key x) (key y)) (any-insert-new key q x l e)
+  where
+    go : {o : Ordering} → Ordered (key x) (key y) o → any (λ z. q (key z)) (insert key (λ t u. u) x l) ≡ true → any (λ z. q (key z)) (byOrder o (x ∷ y ∷ l) (y ∷ l) (y ∷ insert key (λ t u. u) x l)) ≡ true
+    go (less b) ih = or-left (q (key x)) _ e
+    go (equal b) ih = or-left (q (key y)) _ (ap q (sym b) ∙ e)
+    go (above b) ih = or-right (q (key y)) _ ih
+
+pub tie-old : (t : TieRecord) (ts : List TieRecord) (k : ℕ → Bool) (l f : ℕ) → tied ts k l f ≡ true → tied (addTie t ts) k l f ≡ true
+unfolding tied addTie
+tie-old t ts k l f = any-insert tieKey (λ x y. y) (λ x y. refl) _ t (λ y h. h) ts
+
+pub tie-new : (t : TieRecord) (ts : List TieRecord) (k : ℕ → Bool) → k (t .kind) ≡ true → tied (addTie t ts) k (t .leader) (t .follower) ≡ true
+unfolding tied addTie tieKey
+tie-new t ts k e = any-insert-new tieKey (λ y. k (y .k1) && eqb (y .k2) (t .leader) && eqb (y .k3) (t .follower)) t ts (rw (e, eqb-same (t .leader), eqb-same (t .follower)))
+
+module _ (L : Limits) (W : Window) (z : Sound L W) where
+  -- a set of live changes ends
+  module _ (how : ℕ) (s : Set) (inside : (c : ℕ) → s c ≡ true → live W c ≡ true) where
+    end-ends : (c : ℕ) → s c ≡ true → (live W c ≡ true) × (shownStatus (endAll how s W) c ≡ how)
+    unfolding shownStatus endAll noChange
+    end-ends c e = (inside c e, rw (live-change L W z c (inside c e), e))
+
+    end-stays : (c : ℕ) → s c ≡ false → shownStatus (endAll how s W) c ≡ shownStatus W c
+    unfolding shownStatus endAll noChange
+    end-stays c e = rw e
+
+    end-on : (c : ℕ) → s c ≡ false → live W c ≡ true → live (endAll how s W) c ≡ true
+    unfolding live endAll
+    end-on c e h = rw e h
+
+    end-ties : (k : ℕ → Bool) (l f : ℕ) → s l ≡ false → s f ≡ false → tied (W .ties) k l f ≡ true → tied (endAll how s W .ties) k l f ≡ true
+    unfolding tied endAll
+    end-ties k l f hl hf = any-keep-up _ _ (λ t h. stay t (and-left (k (t .kind) && eqb (t .leader) l) _ h) (and-right (k (t .kind) && eqb (t .leader) l) _ h)) (W .ties)
+      where
+        stay : (t : TieRecord) → k (t .kind) && eqb (t .leader) l ≡ true → eqb (t .follower) f ≡ true → not (s (t .leader) || s (t .follower)) ≡ true
+        stay t p q = rw (eqb-eq (t .leader) l (and-right (k (t .kind)) _ p), eqb-eq (t .follower) f q, hl, hf)
+
+  arrow-blocks : (g : Set) (k l f : ℕ) → isArrow k ≡ true → tied (W .ties) (ofKind k) l f ≡ true → g f ≡ true → commitBlockers W g l ≡ true
+  unfolding tied commitBlockers
+  arrow-blocks g k l f a e h = or-right (g l && not (eqb (W .status l) 3)) _ (weaken (W .ties) e)
+    where
+      one : (t : TieRecord) → eqb (t .kind) k && eqb (t .leader) l && eqb (t .follower) f ≡ true → isArrow (t .kind) && eqb (t .leader) l && g (t .follower) ≡ true
+      one t q = let u = and-left (eqb (t .kind) k && eqb (t .leader) l) (eqb (t .follower) f) q in
+          rw (eqb-eq (t .kind) k (and-left (eqb (t .kind) k) _ u), a, and-right (eqb (t .kind) k) (eqb (t .leader) l) u, eqb-eq (t .follower) f (and-right (eqb (t .kind) k && eqb (t .leader) l) _ q)) h
+
+      weaken : (ts : List TieRecord) → any (λ t. eqb (t .kind) k && eqb (t .leader) l && eqb (t .follower) f) ts ≡ true → any (λ t. isArrow (t .kind) && eqb (t .leader) l && g (t .follower)) ts ≡ true
+      weaken = any-weaken _ _ one
+
+  pub commit-ending : (c : ℕ) → live W c ≡ true → anyBelow (suc (W .given)) (commitBlockers W (groupOf W c)) ≡ false → Ending W (endAll 4 (groupOf W c) W) (groupOf W c) 4
+  unfolding groupOf
+  commit-ending c lc free = record {
+    way = inl refl;
+    ends = end-ends 4 g inside;
+    stays = λ d e h. end-stays 4 g inside d e;
+    fewer = λ d e h. ap isEnded (sym (end-stays 4 g inside d e)) ∙ h;
+    on = end-on 4 g inside;
+    ties = end-ties 4 g inside;
+    together = λ a b la lb e h. reach-closed (suc (W .given)) (grouped (W .ties)) c a b (live-below W a la) (live-below W b lb) h e;
+    unled = λ k l f a ll e q h. false≢true (sym free ∙ any-intro (suc (W .given)) (commitBlockers W g) l (live-below W l ll) (arrow-blocks g k l f a e h));
+    fallen = λ l f ll lf e q h. absurd (four q);
+  }
+    where
+      g : Set
+      g = reach (suc (W .given)) (grouped (W .ties)) c
+
+      inside : (d : ℕ) → g d ≡ true → live W d ≡ true
+      inside = unfold groupOf in group-live L W z c lc
+
+      four : _≡_ {A = ℕ} 4 5 → ⊥
+      four q = omega arith
+
+  pub abort-ending : (c : ℕ) (v : ℕ → ℕ) → live W c ≡ true → Ending W (endAll 5 (endSet W c) (withValue W v)) (endSet W c) 5
+  unfolding endSet endAll withValue shownStatus live noChange falling isFall
+  abort-ending c v lc = record {
+    way = inr refl;
+    ends = end-ends 5 g inside;
+    stays = λ d e h. end-stays 5 g inside d e;
+    fewer = λ d e h. ap isEnded (sym (end-stays 5 g inside d e)) ∙ h;
+    on = end-on 5 g inside;
+    ties = end-ties 5 g inside;
+    together = λ a b la lb e h. closed a b la lb (or-left (grouped (W .ties) a b) _ e) h;
+    unled = λ k l f a ll e q h. four q;
+    fallen = λ l f ll lf e q h. closed l f ll lf (or-right (grouped (W .ties) l f) _ e) h;
+  }
+    where
+      g : Set
+      g = reach (suc (W .given)) (falling (W .ties)) c
+
+      inside : (d : ℕ) → g d ≡ true → live W d ≡ true
+      inside = unfold endSet in fall-live L W z c lc
+
+      closed : (a b : ℕ) → live W a ≡ true → live W b ≡ true → falling (W .ties) a b ≡ true → g a ≡ true → g b ≡ true
+      closed a b la lb e h = reach-closed (suc (W .given)) (falling (W .ties)) c a b (live-below W a la) (live-below W b lb) h e
+
+      four : _≡_ {A = ℕ} 5 4 → ⊥
+      four q = omega arith
+
+  calm-ending : (X : Window) → Calm W X → Ending W X none 4
+  calm-ending X q = quietly W X (q .stay) (q .fewer) (q .on) (λ k l f e. rw (q .ties) e)
+
+  pub start-ending : (p : ℕ) → Ending W (addChange W p) none 4
+  unfolding addChange shownStatus live noChange put isEnded outside
+  start-ending p = quietly W (addChange W p) (λ c. stays c (same? c 0) (same? c (suc (W .given))) (below (W .given) c) (below (suc (W .given)) c))
+      (λ c. few c (same? c 0) (same? c (suc (W .given))) (below (W .given) c) (below (suc (W .given)) c))
+      (λ c h. lives-on c (live-below W c h) (live-status W c h)) (λ k l f e. e)
+    where
+      stays : (c : ℕ) {o a b d : Bool} → Same c 0 o → Same c (suc (W .given)) a → Below (W .given) c b → Below (suc (W .given)) c d
+          → isEnded (cond (o || b) 0 (W .status c)) ≡ true → cond (o || d) 0 (cond a 1 (W .status c)) ≡ cond (o || b) 0 (W .status c)
+      stays c (same i) a b d h = refl
+      stays c (other i) a (under k) d h = absurd (false≢true h)
+      stays c (other i) a (over k) (under j) h = absurd (omega arith)
+      stays c (other i) (same q) (over k) (over j) h = absurd (omega arith)
+      stays c (other i) (other q) (over k) (over j) h = refl
+
+      few : (c : ℕ) {o a b d : Bool} → Same c 0 o → Same c (suc (W .given)) a → Below (W .given) c b → Below (suc (W .given)) c d
+          → isEnded (cond (o || d) 0 (cond a 1 (W .status c))) ≡ true → isEnded (cond (o || b) 0 (W .status c)) ≡ true
+      few c (same i) a b d h = h
+      few c (other i) a b (under k) h = absurd (false≢true h)
+      few c (other i) (same q) b (over j) h = absurd (false≢true h)
+      few c (other i) (other q) (under k) (over j) h = absurd (omega arith)
+      few c (other i) (other q) (over k) (over j) h = h
+
+      lives-on : (c : ℕ) → c < suc (W .given) → not (outside 1 3 (W .status c)) ≡ true → live (addChange W p) c ≡ true
+      lives-on c h k = rw (ltb-true c (suc (suc (W .given))) (omega arith), eqb-other c (suc (W .given)) (omega arith)) k
+
+  held-ending : (h : ℕ → ℕ → ℕ) → Ending W (withHeld W h) none 4
+  unfolding withHeld shownStatus live noChange
+  held-ending h = quietly W (withHeld W h) (λ c e. refl) (λ c e. e) (λ c e. e) (λ k l f e. e)
+
+  permits-ending : (p : List PermitRecord) → Ending W (withPermits W p) none 4
+  unfolding withPermits shownStatus live noChange
+  permits-ending p = quietly W (withPermits W p) (λ c e. refl) (λ c e. e) (λ c e. e) (λ k l f e. e)
+
+  hand-ending : (f t : ℕ) (on : Set) → Ending W (handOver W f t on) none 4
+  unfolding handOver shownStatus live noChange
+  hand-ending f t on = quietly W (handOver W f t on) (λ c h. refl) (λ c h. h) (λ c h. h) (λ k l g h. h)
+
+  tie-ending : (t : TieRecord) → Ending W (withTies W (addTie t (W .ties))) none 4
+  unfolding withTies shownStatus live noChange
+  tie-ending t = quietly W (withTies W (addTie t (W .ties))) (λ c h. refl) (λ c h. h) (λ c h. h) (tie-old t (W .ties))
+
+  pub endingOf : {d : Action} {k : ℕ} {X : Window} → Move W d k X → isOpening d ≡ false → (s : Set) × (how : ℕ) × Ending W X s how
+  unfolding isOpening
+  endingOf (opened n k) o = absurd (true≢false o)
+  endingOf (started p) o = (none, 4, start-ending p)
+  endingOf (calm k X q) o = (none, 4, calm-ending X q)
+  endingOf (locked c e m k h l b q) o = (none, 4, held-ending h)
+  endingOf (granted g t e o k) p = (none, 4, permits-ending _)
+  endingOf (handed f t e k l) o = (none, 4, hand-ending f t (entriesNamed e))
+  endingOf (tieing i l f k a b) o = (none, 4, tie-ending (makeTie i l f))
+  endingOf (committed c k l b) o = (groupOf W c, 4, commit-ending c l b)
+  endingOf (aborted c k v l) o = (endSet W c, 5, abort-ending c v l)
+
+-- a tie just made stands
+pub record New (X : Window) (i l f : ℕ) : Type 0 where
+  pub lead : live X l ≡ true
+  pub follow : live X f ≡ true
+  pub arrow : eqb i 3 ≡ false → tied (X .ties) (ofKind i) l f ≡ true
+  pub group : eqb i 3 ≡ true → grouped (X .ties) l f ≡ true
+
+new-tie : (W : Window) (i l f : ℕ) → live W l ≡ true → live W f ≡ true → New (withTies W (addTie (makeTie i l f) (W .ties))) i l f
+unfolding withTies live makeTie grouped isGroup
+new-tie W i l f a b = record {
+  lead = a;
+  follow = b;
+  arrow = λ e. rw e (tie-new (record { kind = i; leader = l; follower = f }) (W .ties) (ofKind i) (eqb-same i));
+  group = λ e. rw e (go (below l f));
+}
+  where
+    three : TieRecord
+    three = record { kind = 3; leader = min l f; follower = max l f }
+
+    go : {x : Bool} → Below l f x → tied (addTie three (W .ties)) isGroup l f || tied (addTie three (W .ties)) isGroup f l ≡ true
+    go (under h) = let p : min l f ≡ l = omega arith in let q : max l f ≡ f = omega arith in
+        rw (p, q) (or-left (tied (addTie (record { kind = 3; leader = l; follower = f }) (W .ties)) isGroup l f) _ (tie-new (record { kind = 3; leader = l; follower = f }) (W .ties) isGroup refl))
+    go (over h) = let p : min l f ≡ f = omega arith in let q : max l f ≡ l = omega arith in
+        rw (p, q) (or-right (tied (addTie (record { kind = 3; leader = f; follower = l }) (W .ties)) isGroup l f) _ (tie-new (record { kind = 3; leader = f; follower = l }) (W .ties) isGroup refl))
+
+pub fresh-tie : (W : Window) {d : Action} {k : ℕ} {X : Window} → Move W d k X → (i l f : ℕ) → isTying i l f d ≡ true → New X i l f
+unfolding isTying
+fresh-tie W (opened n k) i l f e = absurd (false≢true e)
+fresh-tie W (started p) i l f e = absurd (false≢true e)
+fresh-tie W (calm k X q) i l f e = absurd (false≢true e)
+fresh-tie W (locked c x m k h a b q) i l f e = absurd (false≢true e)
+fresh-tie W (granted g t x o k) i l f e = absurd (false≢true e)
+fresh-tie W (handed g t x k a) i l f e = absurd (false≢true e)
+fresh-tie W (tieing j m g k a b) i l f e = let u = and-left (eqb i j && eqb l m) (eqb f g) e in
+    rw (eqb-eq i j (and-left (eqb i j) _ u), eqb-eq l m (and-right (eqb i j) _ u), eqb-eq f g (and-right (eqb i j && eqb l m) _ e)) (new-tie W j m g a b)
+fresh-tie W (committed c k a b) i l f e = absurd (false≢true e)
+fresh-tie W (aborted c k v a) i l f e = absurd (false≢true e)

@@ -1,0 +1,38 @@
+-- What is proved of the rules, by subject. Other crates cite a file X here as Rattle.rules.proofs.X.
+-- the starred calls and others by computation; a sound window and single faults; the words of demand 3 on one list
+pub mod Computing
+pub mod Cases
+pub mod SoundCases
+pub mod ListCases
+-- tests, lists, orders, sets, ties
+pub mod BaseLaws
+pub mod ListLaws
+pub mod SortLaws
+pub mod SetLaws
+pub mod TieLaws
+-- least closed sets and acyclic ties, by paths
+pub mod PathLaws
+pub mod SourceLaws
+-- a call turned back or blocked changes nothing; figures for any table size
+pub mod RuleLaws
+pub mod SizeLaws
+-- every call keeps a window sound (SoundStep.step-sound), one file for each kind of effect
+pub mod SoundParts
+pub mod SoundPlain
+pub mod SoundLock
+pub mod SoundPermit
+pub mod SoundDelegate
+pub mod SoundDepend
+pub mod SoundEnd
+pub mod SoundStep
+-- demand 2's sentences: when a lock is granted, when a change commits, what a withdrawal puts back
+pub mod Promises
+-- demand 3 of the rules (Demand.rules-kept); DemandAlike carries it to whatever answers alike
+pub mod DemandMoves
+pub mod DemandEnds
+pub mod DemandTies
+pub mod DemandBook
+pub mod DemandWalks
+pub mod Demand
+pub mod DemandGroups
+pub mod DemandAlike

@@ -1,0 +1,123 @@
+-- Tests of all or some of a list, of which a part is kept, of which each is changed, to which one is added. Assumes nothing.
+use mathlib.Core.Path.{_≡_, refl, ap}
+use mathlib.Core.Logic.{⊎-elim}
+use mathlib.Core.Bool.{Bool, true, false, not, cond, _&&_, _||_, false≢true}
+use mathlib.Core.List.{List, [], _∷_, _++_, map, List·Memᴰ, List·Memᴰ·head, List·Memᴰ·tail}
+use Prim.Native.Nat.{ℕ, zero, suc, _+_, _≤_}
+use native.Mathlib.Omega.{arith}
+use lib.ListN.{length, getD}
+use Rattle.rules.specs.Base.{exceeds, all, any, keep}
+use Rattle.rules.proofs.BaseLaws.{or-left, or-right, or-cases, and-both, and-left, and-right, over-less}
+
+module _ {ℓ} {A : Type ℓ} where
+  pub all-weaken : (p q : A → Bool) → ((a : A) → p a ≡ true → q a ≡ true) → (l : List A) → all p l ≡ true → all q l ≡ true
+  unfolding all
+  all-weaken p q f [] e = refl
+  all-weaken p q f (x ∷ l) e = and-both (q x) (all q l) (f x (and-left (p x) (all p l) e)) (all-weaken p q f l (and-right (p x) (all p l) e))
+
+  pub any-keep : (p q : A → Bool) (l : List A) → any p (keep q l) ≡ true → any p l ≡ true
+  unfolding any keep
+  any-keep p q [] e = e
+  any-keep p q (x ∷ l) e = go (q x) e (any-keep p q l)
+    where
+      go : (b : Bool) → any p (cond b (x ∷ keep q l) (keep q l)) ≡ true → (any p (keep q l) ≡ true → any p l ≡ true) → p x || any p l ≡ true
+      go true e′ ih = ⊎-elim (λ a. or-left (p x) (any p l) a) (λ a. or-right (p x) (any p l) (ih a)) (or-cases (p x) (any p (keep q l)) e′)
+      go false e′ ih = or-right (p x) (any p l) (ih e′)
+
+  -- what holds of all, and what holds of those that are kept because they are
+  pub all-keep : (p q r : A → Bool) → ((x : A) → p x ≡ true → q x ≡ true → r x ≡ true) → (l : List A) → all p l ≡ true → all r (keep q l) ≡ true
+  unfolding all keep
+  all-keep p q r f [] e = refl
+  all-keep p q r f (x ∷ l) e = go (q x) refl (all-keep p q r f l (and-right (p x) (all p l) e))
+    where
+      go : (b : Bool) → q x ≡ b → all r (keep q l) ≡ true → all r (cond b (x ∷ keep q l) (keep q l)) ≡ true
+      go true h ih = and-both (r x) (all r (keep q l)) (f x (and-left (p x) (all p l) e) h) ih
+      go false h ih = ih
+
+  pub all-and : (p q : A → Bool) (l : List A) → all p l ≡ true → all q l ≡ true → all (λ x. p x && q x) l ≡ true
+  unfolding all
+  all-and p q [] d e = refl
+  all-and p q (x ∷ l) d e = and-both (p x && q x) (all (λ y. p y && q y) l) (and-both (p x) (q x) (and-left (p x) (all p l) d) (and-left (q x) (all q l) e))
+      (all-and p q l (and-right (p x) (all p l) d) (and-right (q x) (all q l) e))
+
+  pub any-keep-up : (p q : A → Bool) → ((x : A) → p x ≡ true → q x ≡ true) → (l : List A) → any p l ≡ true → any p (keep q l) ≡ true
+  unfolding any keep
+  any-keep-up p q f [] e = e
+  any-keep-up p q f (x ∷ l) e = ⊎-elim (λ h. rw (f x h, h)) (λ h. go (q x) (any-keep-up p q f l h)) (or-cases (p x) (any p l) e)
+    where
+      go : (b : Bool) → any p (keep q l) ≡ true → any p (cond b (x ∷ keep q l) (keep q l)) ≡ true
+      go true h = or-right (p x) (any p (keep q l)) h
+      go false h = h
+
+  pub length-keep : (q : A → Bool) (l : List A) → length (keep q l) ≤ length l
+  unfolding keep
+  length-keep q [] = omega arith
+  length-keep q (x ∷ l) = go (q x) (length-keep q l)
+    where
+      go : (b : Bool) → length (keep q l) ≤ length l → length (cond b (x ∷ keep q l) (keep q l)) ≤ suc (length l)
+      go true h = omega arith
+      go false h = omega arith
+
+  pub fewer : (q : A → Bool) (l : List A) (n : ℕ) → not (exceeds (length l) n) ≡ true → not (exceeds (length (keep q l)) n) ≡ true
+  fewer q l n e = over-less (length l) (length (keep q l)) n (length-keep q l) e
+
+  -- a test of all, and of some, from one member
+  pub all-members : (p : A → Bool) (l : List A) → ((x : A) → List·Memᴰ x l → p x ≡ true) → all p l ≡ true
+  unfolding all
+  all-members p [] f = refl
+  all-members p (x ∷ l) f = and-both (p x) (all p l) (f x (List·Memᴰ·head refl)) (all-members p l (λ y m. f y (List·Memᴰ·tail m)))
+
+  pub any-member : (p : A → Bool) {x : A} {l : List A} → List·Memᴰ x l → p x ≡ true → any p l ≡ true
+  unfolding any
+  any-member p (List·Memᴰ·head {x = y} {xs = l} q) e = or-left (p y) (any p l) (rw q at e)
+  any-member p (List·Memᴰ·tail {x = y} {xs = l} m) e = or-right (p y) (any p l) (any-member p m e)
+
+  -- one member that passes
+  pub any-find : (p : A → Bool) (l : List A) → any p l ≡ true → (x : A) × List·Memᴰ x l × (p x ≡ true)
+  unfolding any
+  any-find p [] e = absurd (false≢true e)
+  any-find p (x ∷ l) e = ⊎-elim (λ a. (x, List·Memᴰ·head refl, a)) (λ a. let m = any-find p l a in (m .0, List·Memᴰ·tail (m .1), m .2)) (or-cases (p x) (any p l) e)
+
+  -- one that passes, of a list of which another test holds throughout
+  pub find : (p q : A → Bool) (l : List A) → any p l ≡ true → all q l ≡ true → (x : A) × (p x ≡ true) × (q x ≡ true)
+  unfolding any all
+  find p q [] e h = absurd (false≢true e)
+  find p q (x ∷ l) e h = ⊎-elim (λ a. (x, a, and-left (q x) (all q l) h)) (λ a. find p q l a (and-right (q x) (all q l) h)) (or-cases (p x) (any p l) e)
+
+  pub all-append : (p : A → Bool) (l : List A) (x : A) → all p l ≡ true → p x ≡ true → all p (l ++ (x ∷ [])) ≡ true
+  unfolding all
+  all-append p [] x e h = and-both (p x) true h refl
+  all-append p (y ∷ l) x e h = and-both (p y) (all p (l ++ (x ∷ []))) (and-left (p y) (all p l) e) (all-append p l x (and-right (p y) (all p l) e) h)
+
+  pub all-getD : (p : A → Bool) (l : List A) (j : ℕ) (d : A) → all p l ≡ true → p d ≡ true → p (getD l j d) ≡ true
+  unfolding all
+  all-getD p [] j d e h = h
+  all-getD p (x ∷ l) zero d e h = and-left (p x) (all p l) e
+  all-getD p (x ∷ l) (suc j) d e h = all-getD p l j d (and-right (p x) (all p l) e) h
+
+  pub length-append-one : (l : List A) (x : A) → length (l ++ (x ∷ [])) ≡ suc (length l)
+  length-append-one [] x = refl
+  length-append-one (y ∷ l) x = ap suc (length-append-one l x)
+
+  -- two parts of which none is in both
+  pub length-parts : (p q : A → Bool) → ((x : A) → p x ≡ true → q x ≡ true → ⊥) → (l : List A) → length (keep p l) + length (keep q l) ≤ length l
+  unfolding keep
+  length-parts p q f [] = omega arith
+  length-parts p q f (x ∷ l) = go (p x) (q x) (f x) (length-parts p q f l)
+    where
+      go : (a b : Bool) → (a ≡ true → b ≡ true → ⊥) → length (keep p l) + length (keep q l) ≤ length l
+          → length (cond a (x ∷ keep p l) (keep p l)) + length (cond b (x ∷ keep q l) (keep q l)) ≤ suc (length l)
+      go true true g h = absurd (g refl refl)
+      go true false g h = omega arith
+      go false true g h = omega arith
+      go false false g h = omega arith
+
+pub all-map {ℓ κ} : {A : Type ℓ} {B : Type κ} (p : B → Bool) (q : A → Bool) (f : A → B) → ((x : A) → q x ≡ true → p (f x) ≡ true) → (l : List A) → all q l ≡ true → all p (map f l) ≡ true
+unfolding all
+all-map p q f h [] e = refl
+all-map p q f h (x ∷ l) e = and-both (p (f x)) (all p (map f l)) (h x (and-left (q x) (all q l) e)) (all-map p q f h l (and-right (q x) (all q l) e))
+
+pub any-weaken {ℓ} : {A : Type ℓ} (p q : A → Bool) → ((x : A) → p x ≡ true → q x ≡ true) → (l : List A) → any p l ≡ true → any q l ≡ true
+unfolding any
+any-weaken p q f [] e = e
+any-weaken p q f (x ∷ l) e = ⊎-elim (λ h. or-left (q x) _ (f x h)) (λ h. or-right (q x) _ (any-weaken p q f l h)) (or-cases (p x) (any p l) e)

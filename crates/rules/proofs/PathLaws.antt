@@ -1,0 +1,132 @@
+-- Least closed sets and acyclic ties in words of paths. Assumes nothing.
+use mathlib.Core.Path.{_≡_, refl, fun-ext}
+use mathlib.Core.Logic.{_⊎_, inl, inr, ⊎-elim, _↔_}
+use mathlib.Core.Bool.{Bool, true, false, not, _&&_, _||_, false≢true}
+use mathlib.Core.List.{List, List·Memᴰ}
+use Prim.Native.Nat.{ℕ, _<_}
+use lib.Dec.{ltb, eqb}
+use Rattle.rules.specs.Base.{all}
+use Rattle.rules.specs.Sets.{Set, Rel, closure, reach}
+use Rattle.rules.specs.Window.{TieRecord}
+use Rattle.rules.specs.Ties.{isArrow, tied, grouped, leading, acyclic}
+use Rattle.rules.proofs.BaseLaws.{or-left, or-right, or-cases, and-left, and-right, lt-of, eqb-eq, both-ways, no-true}
+use Rattle.rules.proofs.ListLaws.{all-members, find}
+use Rattle.rules.proofs.SetLaws.{closure-to, closure-holds, closure-closed, reach-to, reach-seed, reach-closed}
+use Rattle.rules.proofs.TieLaws.{leading-ends, stands-tied}
+
+-- a path along a relation, of any number of steps
+pub data Way (r : Rel) (a : ℕ) : ℕ → Type 0 where
+  stay : Way r a a
+  on : {b c : ℕ} → Way r a b → r b c ≡ true → Way r a c
+
+pub way-join : {r : Rel} {a b c : ℕ} → Way r a b → Way r b c → Way r a c
+way-join p stay = p
+way-join p (on q e) = on (way-join p q) e
+
+pub way-map : {r s : Rel} → ((a b : ℕ) → r a b ≡ true → s a b ≡ true) → {a b : ℕ} → Way r a b → Way s a b
+way-map f stay = stay
+way-map f (on p e) = on (way-map f p) (f _ _ e)
+
+-- a relation of numbers below n
+abbrev pub Bounded : ℕ → Rel → Type 0
+Bounded n r = (a b : ℕ) → r a b ≡ true → (a < n) × (b < n)
+
+-- a path that starts in the set
+abbrev pub From : Rel → Set → ℕ → Type 0
+From r s c = (d : ℕ) × (s d ≡ true) × Way r d c
+
+module _ (n : ℕ) (r : Rel) (ends : Bounded n r) where
+  way-closure : (s : Set) {d c : ℕ} → s d ≡ true → Way r d c → closure n r s c ≡ true
+  way-closure s {d} e stay = closure-holds n r s d e
+  way-closure s e (on {b = x} {c = y} p q) = closure-closed n r s x y (ends x y q .0) (ends x y q .1) (way-closure s e p) q
+
+  -- the closure of a set is what paths from it lead to
+  pub closure-ways : (s : Set) (c : ℕ) → closure n r s c ≡ true ↔ From r s c
+  closure-ways s c = (closure-to n r (From r s) (λ d e m q. (m .0, m .1, on (m .2) q)) s (λ d e. (d, e, stay)) c, λ m. way-closure s (m .1) (m .2))
+
+  pub reach-ways : (c d : ℕ) → reach n r c d ≡ true ↔ Way r c d
+  reach-ways c d = (reach-to n r (Way r c) (λ x y p q. on p q) c stay d, go)
+    where
+      go : {x : ℕ} → Way r c x → reach n r c x ≡ true
+      go stay = reach-seed n r c
+      go (on {b = x} {c = y} p q) = reach-closed n r c x y (ends x y q .0) (ends x y q .1) (go p) q
+
+-- so the bound plays no part where the relation keeps below it
+pub closure-bound : (n m : ℕ) (r : Rel) → Bounded n r → Bounded m r → (s : Set) → closure n r s ≡ closure m r s
+closure-bound n m r p q s = fun-ext (λ c. both-ways _ _ (λ e. closure-ways m r q s c .1 (closure-ways n r p s c .0 e)) (λ e. closure-ways n r p s c .1 (closure-ways m r q s c .0 e)))
+
+pub reach-bound : (n m : ℕ) (r : Rel) → Bounded n r → Bounded m r → (c : ℕ) → reach n r c ≡ reach m r c
+unfolding reach
+reach-bound n m r p q c = closure-bound n m r p q _
+
+-- "A wait or fall tie is an arrow from its leader's group to its follower's": from x's group to y's
+pub record Arrow (ts : List TieRecord) (x y : ℕ) : Type 0 where
+  pub leader : ℕ
+  pub follower : ℕ
+  pub leaves : Way (grouped ts) x leader
+  pub tie : tied ts isArrow leader follower ≡ true
+  pub enters : Way (grouped ts) follower y
+
+-- a path of arrows, one or more
+pub data Arrows (ts : List TieRecord) (x : ℕ) : ℕ → Type 0 where
+  one : {y : ℕ} → Arrow ts x y → Arrows ts x y
+  more : {y z : ℕ} → Arrows ts x y → Arrow ts y z → Arrows ts x z
+
+module _ (ts : List TieRecord) where
+  by-group : (a b : ℕ) → grouped ts a b ≡ true → leading ts a b ≡ true
+  unfolding leading
+  by-group a b e = or-left (grouped ts a b) (tied ts isArrow a b) e
+
+  by-arrow : (a b : ℕ) → tied ts isArrow a b ≡ true → leading ts a b ≡ true
+  unfolding leading
+  by-arrow a b e = or-right (grouped ts a b) (tied ts isArrow a b) e
+
+  either-way : (a b : ℕ) → leading ts a b ≡ true → (grouped ts a b ≡ true) ⊎ (tied ts isArrow a b ≡ true)
+  unfolding leading
+  either-way a b e = or-cases (grouped ts a b) (tied ts isArrow a b) e
+
+  -- an arrow's way, moving freely inside groups
+  across : {x y : ℕ} → Arrow ts x y → Way (leading ts) x y
+  across a = way-join (on (way-map by-group (a .leaves)) (by-arrow _ _ (a .tie))) (way-map by-group (a .enters))
+
+  -- a path of arrows goes on inside the last group, and along one more arrow
+  in-group : {x y z : ℕ} → Arrows ts x y → grouped ts y z ≡ true → Arrows ts x z
+  in-group (one a) g = one (record { leader = a .leader; follower = a .follower; leaves = a .leaves; tie = a .tie; enters = on (a .enters) g })
+  in-group (more p a) g = more p (record { leader = a .leader; follower = a .follower; leaves = a .leaves; tie = a .tie; enters = on (a .enters) g })
+
+  further : {x y z : ℕ} → Arrows ts x y → Way (leading ts) y z → Arrows ts x z
+  further p stay = p
+  further p (on {b = u} {c = w} q e) = go (either-way u w e) (further p q)
+    where
+      go : {x : ℕ} → (grouped ts u w ≡ true) ⊎ (tied ts isArrow u w ≡ true) → Arrows ts x u → Arrows ts x w
+      go (inl g) r = in-group r g
+      go (inr t) r = more r (record { leader = u; follower = w; leaves = stay; tie = t; enters = stay })
+
+  -- its first arrow, and the way from there
+  first : {x y : ℕ} → Arrows ts x y → (l f : ℕ) × Way (leading ts) x l × (tied ts isArrow l f ≡ true) × Way (leading ts) f y
+  first (one a) = (a .leader, a .follower, way-map by-group (a .leaves), a .tie, way-map by-group (a .enters))
+  first (more p a) = let m = first p in (m .0, m .1, m .2, m .3, way-join (m .4) (across a))
+
+  module _ (n : ℕ) (ends : all (λ t. ltb t.leader n && ltb t.follower n) ts ≡ true) where
+    pub leading-bounded : Bounded n (leading ts)
+    leading-bounded a b e = let m = leading-ends (λ x. ltb x n) ts ends a b e in (lt-of a n (m .0), lt-of b n (m .1))
+
+    clear : acyclic n ts ≡ true → (l f : ℕ) → tied ts isArrow l f ≡ true → Way (leading ts) f l → ⊥
+    unfolding acyclic tied
+    clear h l f e p = let m = find _ (λ t. not (isArrow t.kind) || not (reach n (leading ts) t.follower t.leader)) ts e h in go (m .0) (m .1) (m .2)
+      where
+        go : (t : TieRecord) → isArrow t.kind && eqb t.leader l && eqb t.follower f ≡ true → not (isArrow t.kind) || not (reach n (leading ts) t.follower t.leader) ≡ true → ⊥
+        go t x y =
+            let u = and-left (isArrow t.kind && eqb t.leader l) (eqb t.follower f) x in
+            let z = rw (and-left (isArrow t.kind) (eqb t.leader l) u, eqb-eq t.leader l (and-right (isArrow t.kind) (eqb t.leader l) u), eqb-eq t.follower f (and-right (isArrow t.kind && eqb t.leader l) (eqb t.follower f) x)) at y in
+            false≢true (rw (reach-ways n (leading ts) leading-bounded f l .1 p) at z)
+
+    -- "no path of arrows returns to its group"
+    pub acyclic-paths : acyclic n ts ≡ true ↔ ((x : ℕ) → Arrows ts x x → ⊥)
+    unfolding acyclic
+    acyclic-paths = (λ h x p. let m = first p in clear h (m .0) (m .1) (m .3) (way-join (m .4) (m .2)), λ h. all-members _ ts (λ t i. go h t i (isArrow t.kind) refl))
+      where
+        go : ((x : ℕ) → Arrows ts x x → ⊥) → (t : TieRecord) → List·Memᴰ t ts → (b : Bool) → isArrow t.kind ≡ b → not b || not (reach n (leading ts) t.follower t.leader) ≡ true
+        go h t i false e = refl
+        go h t i true e = rw (no-true (reach n (leading ts) t.follower t.leader) (λ q. h t.leader (further (one (record { leader = t.leader; follower = t.follower; leaves = stay; tie = stands-tied isArrow i e; enters = stay }))
+            (reach-ways n (leading ts) leading-bounded t.follower t.leader .0 q))))

@@ -1,0 +1,141 @@
+-- Demand 2's three sentences, of the rules: when a lock is granted, when a change commits, what a withdrawal puts back. Assumes nothing.
+use mathlib.Core.Path.{_≡_, refl, sym, _∙_, ap}
+use mathlib.Core.Logic.{⊎-elim, _↔_, _≢_}
+use mathlib.Core.Bool.{Bool, true, false, not, cond, _&&_, _||_, false≢true, true≢false}
+use mathlib.Core.List.{List, [], _∷_}
+use Prim.Native.Nat.{ℕ, suc, _<_}
+use native.Mathlib.Omega.{arith}
+use lib.Dec.{eqb}
+use Rattle.rules.specs.Base.{put, anyBelow, any}
+use Rattle.rules.specs.Sets.{Set}
+use Rattle.rules.specs.Window.{Limits, LogRecord, TieRecord, Window, withValue, live, isEnded}
+use Rattle.rules.specs.Locks.{clash, permitted}
+use Rattle.rules.specs.Ties.{isArrow, tied, groupOf, endSet}
+use Rattle.rules.specs.Calls.{Lock, Commit, Abort, done, unchanged}
+use Rattle.rules.specs.Effects.{covers, lockBlockers, grantable, lockEntry, commitBlockers, commitGroup, commitChange, undo, endAll, abortAll, abortChange, effect}
+use Rattle.rules.specs.Refusals.{checks, firstFailed, _if_, settle, step}
+use Rattle.rules.proofs.BaseLaws.{or-right, or-cases, or-none, or-false-left, and-both, and-left, and-right, not-true, not-false, no-true, ne-of, eqb-eq, eqb-other, any-intro, none-below, anyBelow-none}
+use Rattle.rules.proofs.DemandMoves.{live-status, not-ended}
+use Rattle.rules.proofs.ListLaws.{any-find, any-weaken}
+use Rattle.rules.proofs.SoundLock.{grant}
+use Rattle.rules.proofs.SoundParts.{Sound, live-below, live-change, ends-live}
+use Rattle.rules.proofs.SoundStep.{group-live}
+use Rattle.rules.proofs.TieLaws.{tied-ends, stands-tied}
+
+-- 0 or 20, by a test
+zeroOr20 : Bool → ℕ
+zeroOr20 b = cond b 0 20
+
+zero-of : (b : Bool) → zeroOr20 b ≡ 0 → b ≡ true
+unfolding zeroOr20
+zero-of true e = refl
+zero-of false e = absurd (omega arith)
+
+of-zero : (b : Bool) → b ≡ true → zeroOr20 b ≡ 0
+unfolding zeroOr20
+of-zero b e = rw e
+
+-- "A lock not already covered is granted exactly when every clashing holder permits it"
+module _ (L : Limits) (W : Window) (z : Sound L W) (c e m : ℕ) (passed : firstFailed (checks L W (Lock c e m)) ≡ 0) (short : covers (W .held e c) m ≡ false) where
+  lock-answer : step L W (Lock c e m) .answer ≡ zeroOr20 (grantable W c e m)
+  unfolding zeroOr20 step settle effect lockEntry done unchanged
+  lock-answer = rw (passed, short) (go (grantable W c e m) _)
+    where
+      go : (b : Bool) (X : Window) → cond b (done 0 X) (unchanged 20 0 W) .answer ≡ zeroOr20 b
+      go true X = refl
+      go false X = refl
+
+  unblocked : ((d : ℕ) → d ≢ c → clash (W .held e d) m ≡ true → permitted W.permits d c e m ≡ true) → grantable W c e m ≡ true
+  unfolding grantable lockBlockers
+  unblocked f = ap not (none-below (suc W.given) (λ d. not (eqb d c) && clash (W .held e d) m && not (permitted W.permits d c e m)) (λ d h q. go d q))
+    where
+      go : (d : ℕ) → not (eqb d c) && clash (W .held e d) m && not (permitted W.permits d c e m) ≡ true → ⊥
+      go d q =
+          let u = and-left (not (eqb d c) && clash (W .held e d) m) _ q in
+          let p = f d (ne-of d c (not-true _ (and-left (not (eqb d c)) _ u))) (and-right (not (eqb d c)) _ u) in
+          false≢true (rw p at (and-right (not (eqb d c) && clash (W .held e d) m) _ q))
+
+  pub lock-granted : step L W (Lock c e m) .answer ≡ 0 ↔ ((d : ℕ) → d ≢ c → clash (W .held e d) m ≡ true → permitted W.permits d c e m ≡ true)
+  lock-granted = (
+    λ a d n h. ⊎-elim (λ q. absurd (false≢true (rw h at q))) (λ q. q) (grant L W z c e m (zero-of (grantable W c e m) (sym lock-answer ∙ a)) d n),
+    λ f. lock-answer ∙ of-zero (grantable W c e m) (unblocked f),
+  )
+
+-- "a change commits exactly when its whole group is completed and none of them has a live leader to wait for or fall with"
+module _ (L : Limits) (W : Window) (z : Sound L W) (c : ℕ) (lc : live W c ≡ true) where
+  commit-answer : step L W (Commit c) .answer ≡ zeroOr20 (not (anyBelow (suc W.given) (commitBlockers W (groupOf W c))))
+  unfolding zeroOr20 step checks firstFailed settle effect commitChange _if_ done unchanged commitGroup isEnded
+  commit-answer = let u = or-none (eqb (W .status c) 4) (eqb (W .status c) 5) (not-ended (W .status c) (live-status W c lc)) in
+      rw (live-change L W z c lc, u .0, u .1) (go (anyBelow (suc W.given) (commitBlockers W (groupOf W c))) _ _ _)
+    where
+      go : (b : Bool) (i j : ℕ) (X : Window) → cond b (unchanged 20 i W) (done j X) .answer ≡ zeroOr20 (not b)
+      go true i j X = refl
+      go false i j X = refl
+
+  pub record Free : Type 0 where
+    pub completed : (d : ℕ) → groupOf W c d ≡ true → W .status d ≡ 3
+    pub unled : (l f : ℕ) → groupOf W c f ≡ true → tied W.ties isArrow l f ≡ true → ⊥
+
+  free-of : anyBelow (suc W.given) (commitBlockers W (groupOf W c)) ≡ false → Free
+  unfolding commitBlockers tied
+  free-of none = record { completed = completed; unled = unled }
+    where
+      clear : (d : ℕ) → live W d ≡ true → (groupOf W c d && not (eqb (W .status d) 3) ≡ false) × (any (λ t. isArrow t.kind && eqb t.leader d && groupOf W c t.follower) W.ties ≡ false)
+      clear d h = or-none _ _ (anyBelow-none (suc W.given) (commitBlockers W (groupOf W c)) none d (live-below W d h))
+
+      completed : (d : ℕ) → groupOf W c d ≡ true → W .status d ≡ 3
+      completed d g = eqb-eq (W .status d) 3 (not-false _ (rw g at (clear d (group-live L W z c lc d g) .0)))
+
+      unled : (l f : ℕ) → groupOf W c f ≡ true → any (λ t. isArrow t.kind && eqb t.leader l && eqb t.follower f) W.ties ≡ true → ⊥
+      unled l f g e = true≢false (sym (any-weaken _ (λ t. isArrow t.kind && eqb t.leader l && groupOf W c t.follower) one W.ties e) ∙ clear l (tied-ends (live W) W.ties (ends-live L W z) isArrow l f e .0) .1)
+        where
+          one : (t : TieRecord) → isArrow t.kind && eqb t.leader l && eqb t.follower f ≡ true → isArrow t.kind && eqb t.leader l && groupOf W c t.follower ≡ true
+          one t q = and-both (isArrow t.kind && eqb t.leader l) _ (and-left (isArrow t.kind && eqb t.leader l) _ q) (rw (eqb-eq t.follower f (and-right (isArrow t.kind && eqb t.leader l) _ q)) g)
+
+  of-free : Free → anyBelow (suc W.given) (commitBlockers W (groupOf W c)) ≡ false
+  unfolding commitBlockers
+  of-free f = none-below (suc W.given) _ (λ d h e. ⊎-elim (unready d) (led d) (or-cases (groupOf W c d && not (eqb (W .status d) 3)) _ e))
+    where
+      unready : (d : ℕ) → groupOf W c d && not (eqb (W .status d) 3) ≡ true → ⊥
+      unready d q = false≢true (rw (f .completed d (and-left (groupOf W c d) _ q)) at (and-right (groupOf W c d) _ q))
+
+      led : (d : ℕ) → any (λ t. isArrow t.kind && eqb t.leader d && groupOf W c t.follower) W.ties ≡ true → ⊥
+      led d q = let m = any-find _ W.ties q in let t = m .0 in let u = and-left (isArrow t.kind && eqb t.leader d) (groupOf W c t.follower) (m .2) in
+          f .unled d t.follower (and-right (isArrow t.kind && eqb t.leader d) (groupOf W c t.follower) (m .2))
+          (rw (eqb-eq t.leader d (and-right (isArrow t.kind) (eqb t.leader d) u)) at (stands-tied isArrow (m .1) (and-left (isArrow t.kind) (eqb t.leader d) u)))
+
+  pub commit-done : step L W (Commit c) .answer ≡ 0 ↔ Free
+  commit-done = (
+    λ a. free-of (not-true _ (zero-of (not (anyBelow (suc W.given) (commitBlockers W (groupOf W c)))) (sym commit-answer ∙ a))),
+    λ f. commit-answer ∙ of-zero (not (anyBelow (suc W.given) (commitBlockers W (groupOf W c)))) (ap not (of-free f)),
+  )
+
+-- the value before of the oldest record of the set on the entry; where there is none, v
+unfoldable pub oldestBefore : Set → ℕ → List LogRecord → ℕ → ℕ
+oldestBefore s e [] v = v
+oldestBefore s e (r ∷ l) v = cond (s r.owner && eqb e r.entry) r.before (oldestBefore s e l v)
+
+-- one pass, newest first, leaves on each entry the value before of the oldest record
+pub undo-oldest : (s : Set) (l : List LogRecord) (v : ℕ → ℕ) (e : ℕ) → undo s l v e ≡ oldestBefore s e l (v e)
+unfolding undo oldestBefore put
+undo-oldest s [] v e = refl
+undo-oldest s (r ∷ l) v e = go (s r.owner) (undo-oldest s l v e)
+  where
+    go : (b : Bool) → undo s l v e ≡ oldestBefore s e l (v e) → cond b (λ j. cond (eqb j r.entry) r.before (undo s l v j)) (undo s l v) e ≡ cond (b && eqb e r.entry) r.before (oldestBefore s e l (v e))
+    go true ih = rw ih
+    go false ih = ih
+
+-- "a withdrawal puts back the earlier values logged for exactly the changes it ends"
+module _ (L : Limits) (W : Window) (z : Sound L W) (c : ℕ) (lc : live W c ≡ true) where
+  abort-after : step L W (Abort c) .after ≡ endAll 5 (endSet W c) (withValue W (undo (endSet W c) W.log W.value))
+  unfolding step checks firstFailed settle effect abortChange _if_ done abortAll isEnded
+  abort-after = let u = or-none (eqb (W .status c) 4) (eqb (W .status c) 5) (not-ended (W .status c) (live-status W c lc)) in rw (live-change L W z c lc, u .0, u .1)
+
+  pub abort-restores : (e : ℕ) → step L W (Abort c) .after .value e ≡ oldestBefore (endSet W c) e W.log (W .value e)
+  unfolding endAll withValue
+  abort-restores e = ap (λ X. X .value e) abort-after ∙ undo-oldest (endSet W c) W.log W.value e
+
+  -- and those are the changes that it ends
+  pub abort-ends : (d : ℕ) → step L W (Abort c) .after .status d ≡ cond (endSet W c d) 5 (W .status d)
+  unfolding endAll withValue
+  abort-ends d = ap (λ X. X .status d) abort-after

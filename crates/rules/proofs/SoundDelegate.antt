@@ -1,0 +1,118 @@
+-- A delegate that leaves each clashing pair its permit keeps a window sound. Assumes nothing.
+use mathlib.Core.Path.{_≡_, refl, sym, _∙_}
+use mathlib.Core.Logic.{⊎-elim, _≢_}
+use mathlib.Core.Bool.{Bool, true, false, not, cond, _&&_, _||_, false≢true}
+use mathlib.Core.List.{map}
+use Prim.Native.Nat.{ℕ, _≤_, max}
+use native.Mathlib.Omega.{arith}
+use lib.Dec.{leb, ltb, eqb}
+use lib.ListN.{length, length-map}
+use Rattle.rules.specs.Base.{keep}
+use Rattle.rules.specs.Sets.{Set}
+use Rattle.rules.specs.Window.{Limits, LogRecord, PermitRecord, Window, permitKey, live}
+use Rattle.rules.specs.Locks.{clashesPermitted, unitePermits, addPermit}
+use Rattle.rules.specs.Sound.{heldSound, recordSound, permitSound}
+use Rattle.rules.specs.Effects.{moveHeld, moveLog, movePermits, handOver}
+use Rattle.rules.proofs.BaseLaws.{Same, same, other, same?, or-right, or-cases, and-both, and-left, and-right, not-true, eqb-eq, eqb-same, eqb-other, ne-of, leb-true, le-of, over-less}
+use Rattle.rules.proofs.ListLaws.{all-map, all-keep, length-parts}
+use Rattle.rules.proofs.SortLaws.{rising-keep, all-inserts, inserts-rising, length-inserts}
+use Rattle.rules.proofs.SoundParts.{Sound, record-parts, permit-parts, fits-all, held-most}
+use Rattle.rules.proofs.SoundPermit.{unite-key, unite-sound}
+
+-- the greater of two locks
+held-max : (a b : ℕ) (i l n : Bool) → leb a 2 && (eqb a 0 || (i && l)) ≡ true → leb b 2 && (eqb b 0 || (i && n)) ≡ true → n ≡ true
+    → leb (max a b) 2 && (eqb (max a b) 0 || (i && n)) ≡ true
+held-max a b i l n p q t = and-both (leb (max a b) 2) (eqb (max a b) 0 || (i && n))
+    (leb-true (max a b) 2 (omega (arith, le-of a 2 (and-left (leb a 2) _ p), le-of b 2 (and-left (leb b 2) _ q))))
+    (⊎-elim (λ z. let r : max a b ≡ b = omega (arith, eqb-eq a 0 z) in rw r (and-right (leb b 2) (eqb b 0 || (i && n)) q))
+    (λ y. or-right (eqb (max a b) 0) (i && n) (and-both i n (and-left i l y) t))
+    (or-cases (eqb a 0) (i && l) (and-right (leb a 2) (eqb a 0 || (i && l)) p)))
+
+module _ (L : Limits) (W : Window) (from to : ℕ) (on : Set) (k : Sound L W) (lives : live W to ≡ true) (fit : clashesPermitted (handOver W from to on) ≡ true) where
+  hand-held : (e c : ℕ) → heldSound W.entries (live W) (handOver W from to on .held) e c ≡ true
+  unfolding heldSound handOver moveHeld
+  hand-held e c = go (on e) (same? c to) (same? c from)
+    where
+      go : (h : Bool) {x y : Bool} → Same c to x → Same c from y → (let m = cond h (cond x (max (W .held e from) (W .held e to)) (cond y 0 (W .held e c))) (W .held e c) in
+          leb m 2 && (eqb m 0 || (ltb e W.entries && live W c))) ≡ true
+      go false x y = k .helds e c
+      go true (same i) y = rw i (held-max (W .held e from) (W .held e to) (ltb e W.entries) (live W from) (live W to) (k .helds e from) (k .helds e to) lives)
+      go true (other n) (same j) = refl
+      go true (other n) (other o) = k .helds e c
+
+  -- a record, moved where it is from's on the entry
+  moved : LogRecord → LogRecord
+  moved r = cond (eqb r.owner from && on r.entry) (record { owner = to; entry = r.entry; before = r.before }) r
+
+  hand-record : (r : LogRecord) → recordSound W.entries (live W) W.held r ≡ true → recordSound W.entries (live W) (handOver W from to on .held) (moved r) ≡ true
+  unfolding recordSound handOver moveHeld moved
+  hand-record r h = go (same? r.owner from) (same? r.owner to) (on r.entry) refl
+    where
+      x : (live W r.owner ≡ true) × (ltb r.entry W.entries ≡ true) × (ltb r.before 4294967296 ≡ true) × (eqb (W .held r.entry r.owner) 2 ≡ true)
+      x = record-parts W.entries (live W) W.held r h
+
+      two : W .held r.entry r.owner ≡ 2
+      two = eqb-eq (W .held r.entry r.owner) 2 (x .3)
+
+      most : (c : ℕ) → W .held r.entry c ≤ 2
+      most = held-most W (k .helds) r.entry
+
+      go : {a b : Bool} → Same r.owner from a → Same r.owner to b → (z : Bool) → on r.entry ≡ z
+          → recordSound W.entries (live W) (handOver W from to on .held) (cond (a && z) (record { owner = to; entry = r.entry; before = r.before }) r) ≡ true
+      go (same i) b true q = let g : max (W .held r.entry from) (W .held r.entry to) ≡ 2 = omega (arith, rw i at two, most to) in rw (lives, x .1, x .2, q, eqb-same to, g)
+      go (same i) b false q = rw (q, x .0, x .1, x .2, x .3)
+      go (other n) (same j) true q = let g : max (W .held r.entry from) (W .held r.entry to) ≡ 2 = omega (arith, rw j at two, most from) in rw (x .0, x .1, x .2, q, j, eqb-same to, g)
+      go (other n) (same j) false q = rw (q, x .0, x .1, x .2, x .3)
+      go (other n) (other o) true q = rw (q, eqb-other r.owner to o, eqb-other r.owner from n, x .0, x .1, x .2, x .3)
+      go (other n) (other o) false q = rw (q, x .0, x .1, x .2, x .3)
+
+  given : PermitRecord → Bool
+  given p = eqb p.giver from && on p.entry
+
+  goes : PermitRecord → Bool
+  goes p = given p && not (eqb p.taker to)
+
+  stays : PermitRecord → Bool
+  stays p = not (given p)
+
+  handed : PermitRecord → PermitRecord
+  handed p = record { giver = to; taker = p.taker; entry = p.entry; ops = p.ops }
+
+  hand-permit : (p : PermitRecord) → permitSound W.entries (live W) p ≡ true → goes p ≡ true → permitSound W.entries (live W) (handed p) ≡ true
+  unfolding goes handed permitSound
+  hand-permit p h g = let x = permit-parts W.entries (live W) p h in
+      let n : to ≢ p .taker = λ q. ne-of p.taker to (not-true (eqb p.taker to) (and-right (given p) (not (eqb p.taker to)) g)) (sym q) in
+      rw (lives, x .1, x .2, x .3, eqb-other to p.taker n)
+
+  hand-room : length (movePermits from to (on) W.permits) ≤ length W.permits
+  unfolding movePermits addPermit given goes stays handed
+  hand-room = omega (
+    arith,
+    length-inserts permitKey unitePermits unite-key (map handed (keep goes W.permits)) (keep stays W.permits),
+    length-map (keep goes W.permits) handed,
+    length-parts goes stays (λ p a b. false≢true (sym (not-true (given p) b) ∙ and-left (given p) (not (eqb p.taker to)) a)) W.permits,
+  )
+
+  pub hand-sound : Sound L (handOver W from to on)
+  unfolding handOver moveLog live moved movePermits addPermit given goes stays handed
+  hand-sound = record {
+    some = k .some;
+    entries = k .entries;
+    changes = k .changes;
+    room-log = rw (length-map W.log moved) (k .room-log);
+    room-permits = over-less (length W.permits) (length (movePermits from to (on) W.permits)) L.permits hand-room (k .room-permits);
+    room-ties = k .room-ties;
+    values = k .values;
+    statuses = k .statuses;
+    parents = k .parents;
+    helds = hand-held;
+    records = all-map _ (recordSound W.entries (live W) W.held) moved hand-record W.log (k .records);
+    permits = all-inserts permitKey unitePermits unite-key (permitSound W.entries (live W)) (λ p q a b. unite-sound W.entries (live W) p q b) (map handed (keep goes W.permits)) (keep stays W.permits)
+        (all-map (permitSound W.entries (live W)) (λ p. permitSound W.entries (live W) (handed p)) handed (λ p h. h) (keep goes W.permits) (all-keep (permitSound W.entries (live W)) goes _ hand-permit W.permits (k .permits)))
+        (all-keep (permitSound W.entries (live W)) stays _ (λ p a b. a) W.permits (k .permits));
+    ties = k .ties;
+    permit-order = inserts-rising permitKey unitePermits unite-key (map handed (keep goes W.permits)) (keep stays W.permits) (rising-keep permitKey stays W.permits (k .permit-order));
+    tie-order = k .tie-order;
+    no-circle = k .no-circle;
+    locks = fits-all (handOver W from to on) hand-held fit;
+  }

@@ -1,0 +1,121 @@
+-- Ending a set of live changes keeps a window sound. Assumes nothing.
+use mathlib.Core.Path.{_≡_, refl, sym, _∙_, ap, fun-ext}
+use mathlib.Core.Logic.{⊎-elim}
+use mathlib.Core.Bool.{Bool, true, false, not, cond, _&&_, _||_, false≢true}
+use Prim.Native.Nat.{ℕ, suc}
+use lib.Dec.{leb, ltb, eqb}
+use Rattle.rules.specs.Base.{all, keep, outside}
+use Rattle.rules.specs.Sets.{Set}
+use Rattle.rules.specs.Window.{Limits, LogRecord, PermitRecord, TieRecord, Window, permitKey, tieKey, live, noChange}
+use Rattle.rules.specs.Locks.{pairPermitted, permitted, contains, clash}
+use Rattle.rules.specs.Sound.{statusSound, heldSound, recordSound, permitSound, tieSound}
+use Rattle.rules.specs.Effects.{endAll}
+use Rattle.rules.proofs.BaseLaws.{or-cases, or-map, or-true, and-left, and-right, and-false, not-true, no-true, or-false-left, or-false-right, eqb-eq, ltb-true}
+use Rattle.rules.proofs.ListLaws.{all-weaken, all-keep, any-keep-up, fewer}
+use Rattle.rules.proofs.SortLaws.{rising-keep}
+use Rattle.rules.proofs.SoundParts.{Sound, clash-left, clash-right, live-below, live-zero, live-change, ends-live}
+use Rattle.rules.proofs.TieLaws.{acyclic-keep}
+
+module _ (L : Limits) (W : Window) (how : ℕ) (s : Set) (ended : outside 1 3 how ≡ true) (ranged : outside 1 5 how ≡ false)
+    (lives : (c : ℕ) → s c ≡ true → live W c ≡ true) (k : Sound L W) where
+  none : s 0 ≡ false
+  none = no-true (s 0) (λ e. false≢true (sym (live-zero L W k) ∙ lives 0 e))
+
+  -- who lives on
+  left : Set
+  left c = not (s c) && live W c
+
+  live-end : live (endAll how s W) ≡ left
+  unfolding live endAll left
+  live-end = fun-ext (λ c. go c (s c))
+    where
+      go : (c : ℕ) (b : Bool) → ltb c (suc W.given) && not (outside 1 3 (cond b how (W .status c))) ≡ not b && (ltb c (suc W.given) && not (outside 1 3 (W .status c)))
+      go c true = rw ended (and-false (ltb c (suc W.given)))
+      go c false = refl
+
+  end-statuses : (c : ℕ) → statusSound W.given (λ d. cond (s d) how (W .status d)) c ≡ true
+  unfolding statusSound noChange
+  end-statuses c = go (s c) refl
+    where
+      go : (b : Bool) → s c ≡ b → cond (noChange W c) (eqb (cond b how (W .status c)) 0) (not (outside 1 5 (cond b how (W .status c)))) ≡ true
+      go true f = rw (live-change L W k c (lives c f), ranged)
+      go false f = k .statuses c
+
+  heldLeft : ℕ → ℕ → ℕ
+  heldLeft e c = cond (s c) 0 (W .held e c)
+
+  end-helds : (e c : ℕ) → heldSound W.entries left heldLeft e c ≡ true
+  unfolding heldSound left heldLeft
+  end-helds e c = go (s c)
+    where
+      go : (b : Bool) → leb (cond b 0 (W .held e c)) 2 && (eqb (cond b 0 (W .held e c)) 0 || (ltb e W.entries && (not b && live W c))) ≡ true
+      go true = refl
+      go false = k .helds e c
+
+  keptRecord : LogRecord → Bool
+  keptRecord r = not (s r.owner)
+
+  end-record : (r : LogRecord) → recordSound W.entries (live W) W.held r ≡ true → keptRecord r ≡ true → recordSound W.entries left heldLeft r ≡ true
+  unfolding recordSound left heldLeft keptRecord
+  end-record r h q = rw (not-true (s r.owner) q) h
+
+  keptPermit : PermitRecord → Bool
+  keptPermit p = not (s p.giver || s p.taker)
+
+  end-permit : (p : PermitRecord) → permitSound W.entries (live W) p ≡ true → keptPermit p ≡ true → permitSound W.entries left p ≡ true
+  unfolding permitSound left keptPermit
+  end-permit p h q = let n = not-true (s p.giver || s p.taker) q in rw (or-false-left (s p.giver) (s p.taker) n, or-false-right (s p.giver) (s p.taker) n) h
+
+  keptTie : TieRecord → Bool
+  keptTie t = not (s t.leader || s t.follower)
+
+  end-tie : (t : TieRecord) → tieSound (live W) t ≡ true → keptTie t ≡ true → tieSound left t ≡ true
+  unfolding tieSound left keptTie
+  end-tie t h q = let n = not-true (s t.leader || s t.follower) q in rw (or-false-left (s t.leader) (s t.follower) n, or-false-right (s t.leader) (s t.follower) n) h
+
+  end-circle : all (λ t. ltb t.leader (suc W.given)) W.ties ≡ true
+  end-circle = all-weaken (λ t. live W t.leader && live W t.follower) (λ t. ltb t.leader (suc W.given))
+      (λ t h. ltb-true t.leader (suc W.given) (live-below W t.leader (and-left (live W t.leader) (live W t.follower) h))) W.ties (ends-live L W k)
+
+  -- a permit from one that lives on, to one that lives on or to anybody, stays
+  end-permitted : (a b e m : ℕ) → s a ≡ false → s b ≡ false → permitted W.permits a b e m ≡ true → permitted (keep keptPermit W.permits) a b e m ≡ true
+  unfolding permitted keptPermit
+  end-permitted a b e m ha hb = any-keep-up _ keptPermit (λ p h. go p (and-left (eqb p.giver a && (eqb p.taker b || eqb p.taker 0)) _ (and-left _ (contains p.ops m) h))) W.permits
+    where
+      go : (p : PermitRecord) → eqb p.giver a && (eqb p.taker b || eqb p.taker 0) ≡ true → not (s p.giver || s p.taker) ≡ true
+      go p x = rw (ap s (eqb-eq p.giver a (and-left (eqb p.giver a) (eqb p.taker b || eqb p.taker 0) x)) ∙ ha)
+          (⊎-elim (λ z. ap not (ap s (eqb-eq p.taker b z) ∙ hb)) (λ z. ap not (ap s (eqb-eq p.taker 0 z) ∙ none)) (or-cases (eqb p.taker b) (eqb p.taker 0) (and-right (eqb p.giver a) (eqb p.taker b || eqb p.taker 0) x)))
+
+  end-pair : (e a b : ℕ) → pairPermitted (endAll how s W) e a b ≡ true
+  unfolding pairPermitted endAll keptPermit
+  end-pair e a b = go (s a) (s b) refl refl
+    where
+      go : (x y : Bool) → s a ≡ x → s b ≡ y
+          → eqb a b || not (clash (cond x 0 (W .held e a)) (cond y 0 (W .held e b))) || permitted (keep keptPermit W.permits) a b e (cond y 0 (W .held e b)) || permitted (keep keptPermit W.permits) b a e (cond x 0 (W .held e a)) ≡ true
+      go true y p q = rw (clash-left, or-true)
+      go false true p q = rw (clash-right, or-true)
+      go false false p q = or-map (eqb a b || not (clash (W .held e a) (W .held e b)) || permitted W.permits a b e (W .held e b)) (permitted W.permits b a e (W .held e a)) _ _
+          (or-map (eqb a b || not (clash (W .held e a) (W .held e b))) (permitted W.permits a b e (W .held e b)) _ _ (λ z. z) (end-permitted a b e (W .held e b) p q))
+          (end-permitted b a e (W .held e a) q p) (k .locks e a b)
+
+  pub end-sound : Sound L (endAll how s W)
+  unfolding endAll heldLeft keptRecord keptPermit keptTie
+  end-sound = record {
+    some = k .some;
+    entries = k .entries;
+    changes = k .changes;
+    room-log = fewer _ W.log L.records (k .room-log);
+    room-permits = fewer _ W.permits L.permits (k .room-permits);
+    room-ties = fewer _ W.ties L.ties (k .room-ties);
+    values = k .values;
+    statuses = end-statuses;
+    parents = k .parents;
+    helds = rw live-end end-helds;
+    records = rw live-end (all-keep (recordSound W.entries (live W) W.held) keptRecord (recordSound W.entries left heldLeft) end-record W.log (k .records));
+    permits = rw live-end (all-keep (permitSound W.entries (live W)) keptPermit (permitSound W.entries left) end-permit W.permits (k .permits));
+    ties = rw live-end (all-keep (tieSound (live W)) keptTie (tieSound left) end-tie W.ties (k .ties));
+    permit-order = rising-keep permitKey keptPermit W.permits (k .permit-order);
+    tie-order = rising-keep tieKey keptTie W.ties (k .tie-order);
+    no-circle = acyclic-keep (suc W.given) keptTie W.ties end-circle (k .no-circle);
+    locks = end-pair;
+  }

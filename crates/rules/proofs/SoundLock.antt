@@ -1,0 +1,109 @@
+-- A lock that is granted keeps a window sound. Assumes nothing.
+use mathlib.Core.Path.{_≡_, refl, sym, _∙_, ap}
+use mathlib.Core.Logic.{_⊎_, inl, inr, ⊎-elim, _≢_}
+use mathlib.Core.Bool.{Bool, true, false, not, cond, _&&_, _||_, false≢true}
+use Prim.Native.Nat.{ℕ, suc}
+use lib.Dec.{leb, ltb, eqb}
+use Rattle.rules.specs.Base.{put2}
+use Rattle.rules.specs.Window.{Limits, LogRecord, Window, withHeld, live}
+use Rattle.rules.specs.Locks.{clash, permitted, pairPermitted}
+use Rattle.rules.specs.Sound.{heldSound, recordSound}
+use Rattle.rules.specs.Effects.{lockBlockers, grantable, putHeld}
+use Rattle.rules.proofs.BaseLaws.{anyBelow-none, not-true, Below, under, over as beyond, below, Same, same, other, same?, eqb-other, eqb-eq, eqb-same, or-left, or-right, or-comm, or-true}
+use Rattle.rules.proofs.ListLaws.{all-weaken}
+use Rattle.rules.proofs.SoundParts.{Sound, clash-left, held-no-change, record-parts}
+
+swap-and : (a b c : Bool) → a && b && c ≡ b && a && c
+swap-and true true c = refl
+swap-and true false c = refl
+swap-and false true c = refl
+swap-and false false c = refl
+
+clash-swap : (a b : ℕ) → clash a b ≡ clash b a
+unfolding clash
+clash-swap a b = swap-and (ltb 0 a) (ltb 0 b) _ ∙ ap (λ x. ltb 0 b && ltb 0 a && x) (or-comm (eqb a 2) (eqb b 2))
+
+no-blocker : (a b : Bool) → a && not b ≡ false → (not a ≡ true) ⊎ (b ≡ true)
+no-blocker true true e = inr refl
+no-blocker true false e = absurd (false≢true (sym e))
+no-blocker false b e = inl refl
+
+-- what a lock that may be granted knows of each other holder
+module _ (L : Limits) (W : Window) (k : Sound L W) (c e m : ℕ) (free : grantable W c e m ≡ true) where
+  pub grant : (d : ℕ) → d ≢ c → (not (clash (W .held e d) m) ≡ true) ⊎ (permitted W.permits d c e m ≡ true)
+  unfolding grantable lockBlockers
+  grant d n = go (below d (suc (W .given)))
+    where
+      go : {b : Bool} → Below d (suc (W .given)) b → (not (clash (W .held e d) m) ≡ true) ⊎ (permitted W.permits d c e m ≡ true)
+      go (under h) = no-blocker (clash (W .held e d) m) (permitted W.permits d c e m)
+          (rw (eqb-other d c n) at (anyBelow-none (suc (W .given)) (lockBlockers W c e m) (not-true _ free) d h))
+      go (beyond h) = inl (rw (held-no-change W (k .helds) e d h, clash-left))
+
+module _ (L : Limits) (W : Window) (c e m : ℕ) (k : Sound L W)
+    (mode : leb m 2 ≡ true) (entry : ltb e W.entries ≡ true) (lives : live W c ≡ true) (short : leb m (W .held e c) ≡ false) (free : grantable W c e m ≡ true) where
+  lock-pair : (x a b : ℕ) → pairPermitted (putHeld W e c m) x a b ≡ true
+  unfolding pairPermitted putHeld withHeld put2
+  lock-pair x a b = go (same? x e) (same? a c) (same? b c)
+    where
+      four : (p q r s : Bool) → q ≡ true → p || q || r || s ≡ true
+      four true q r s h = refl
+      four false q r s h = rw h
+
+      third : (p q r s : Bool) → r ≡ true → p || q || r || s ≡ true
+      third p q r s h = or-left (p || q || r) s (or-right (p || q) r h)
+
+      go : {p q r : Bool} → Same x e p → Same a c q → Same b c r
+          → eqb a b || not (clash (cond (p && q) m (W .held x a)) (cond (p && r) m (W .held x b))) || permitted W.permits a b x (cond (p && r) m (W .held x b))
+          || permitted W.permits b a x (cond (p && q) m (W .held x a)) ≡ true
+      go (other n) q r = k .locks x a b
+      go (same i) (other n) (other o) = k .locks x a b
+      go (same i) (same j) (same l) = or-left _ _ (or-left _ _ (or-left (eqb a b) _ (rw (j, l) (eqb-same c))))
+      go (same i) (same j) (other o) = ⊎-elim
+          (λ f. four (eqb a b) _ _ _ (rw (i, clash-swap m) f))
+          (λ f. or-right (eqb a b || not (clash m (W .held x b)) || permitted W.permits a b x (W .held x b)) _ (rw (i, j) f)) (grant L W k c e m free b o)
+      go (same i) (other n) (same l) = ⊎-elim (λ f. four (eqb a b) _ _ _ (rw i f)) (λ f. third (eqb a b) _ _ _ (rw (i, l) f)) (grant L W k c e m free a n)
+
+  lock-held : (x d : ℕ) → heldSound W.entries (live W) (putHeld W e c m .held) x d ≡ true
+  unfolding heldSound putHeld withHeld put2
+  lock-held x d = go (same? x e) (same? d c)
+    where
+      go : {p q : Bool} → Same x e p → Same d c q
+          → leb (cond (p && q) m (W .held x d)) 2 && (eqb (cond (p && q) m (W .held x d)) 0 || (ltb x W.entries && live W d)) ≡ true
+      go (same i) (same j) = rw (mode, i, j, entry, lives) (or-true (eqb m 0))
+      go (same i) (other n) = k .helds x d
+      go (other n) q = k .helds x d
+
+  lock-record : (r : LogRecord) → recordSound W.entries (live W) W.held r ≡ true → recordSound W.entries (live W) (putHeld W e c m .held) r ≡ true
+  unfolding recordSound putHeld withHeld put2
+  lock-record r h = go (same? r.entry e) (same? r.owner c)
+    where
+      two : r .entry ≡ e → r .owner ≡ c → W .held e c ≡ 2
+      two i j = rw (i, j) at (eqb-eq (W .held r.entry r.owner) 2 (record-parts W.entries (live W) W.held r h .3))
+
+      go : {p q : Bool} → Same r.entry e p → Same r.owner c q
+          → live W r.owner && ltb r.entry W.entries && ltb r.before 4294967296 && eqb (cond (p && q) m (W .held r.entry r.owner)) 2 ≡ true
+      go (other n) q = h
+      go (same i) (other n) = h
+      go (same i) (same j) = absurd (false≢true (sym short ∙ rw (two i j) mode))
+
+  pub lock-sound : Sound L (putHeld W e c m)
+  unfolding putHeld withHeld live
+  lock-sound = record {
+    some = k .some;
+    entries = k .entries;
+    changes = k .changes;
+    room-log = k .room-log;
+    room-permits = k .room-permits;
+    room-ties = k .room-ties;
+    values = k .values;
+    statuses = k .statuses;
+    parents = k .parents;
+    helds = lock-held;
+    records = all-weaken (recordSound W.entries (live W) W.held) _ lock-record W.log (k .records);
+    permits = k .permits;
+    ties = k .ties;
+    permit-order = k .permit-order;
+    tie-order = k .tie-order;
+    no-circle = k .no-circle;
+    locks = lock-pair;
+  }

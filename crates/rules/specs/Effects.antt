@@ -1,0 +1,151 @@
+-- Document 01, "The calls": what a call that is not turned back does. Assumes nothing.
+use mathlib.Core.Bool.{Bool, not, cond, _&&_, _||_}
+use mathlib.Core.List.{List, [], _∷_, _++_, map, foldr}
+use Prim.Native.Nat.{ℕ, suc, max}
+use lib.Dec.{leb, eqb}
+use Rattle.rules.specs.Base.{put, put2, anyBelow, countBelow, lowestBelow, any, keep}
+use Rattle.rules.specs.Sets.{Set}
+use Rattle.rules.specs.Window.{LogRecord, PermitRecord, Window, fresh, withValue, withStatus, withHeld, withLog, withPermits, withTies}
+use Rattle.rules.specs.Locks.{clash, permitted, makePermit, addPermit}
+use Rattle.rules.specs.Ties.{isArrow, makeTie, addTie, groupOf, endSet}
+use Rattle.rules.specs.Calls.{Call, Open, Initiate, Begin, Complete, Lock, Read, Write, Permit, Delegate, Depend, Commit, Abort, Status, Parent, Value, Outcome, done, unchanged}
+
+-- INITIATE
+-- "Changes, numbered 1, 2, 3 as they are initiated. A number is never given twice": the next number, with status 1
+unfoldable pub addChange : Window → ℕ → Window
+addChange W p = record {
+  entries = W.entries;
+  value = W.value;
+  given = suc W.given;
+  status = put W.status (suc W.given) 1;
+  parent = put W.parent (suc W.given) p;
+  held = W.held;
+  log = W.log;
+  permits = W.permits;
+  ties = W.ties;
+}
+
+-- LOCK
+-- "0 if a lock held already covers the mode": "Write covers read"
+unfoldable pub covers : ℕ → ℕ → Bool
+covers held mode = leb mode held
+
+-- the other holders that keep a lock from being granted: those whose lock clashes with the mode and that have no permit for it
+unfoldable pub lockBlockers : Window → ℕ → ℕ → ℕ → Set
+lockBlockers W c e m d = not (eqb d c) && clash (W .held e d) m && not (permitted W.permits d c e m)
+
+-- "granted if each other holder whose lock clashes with the mode has a permit, to this change or to anybody, that contains the mode"
+unfoldable pub grantable : Window → ℕ → ℕ → ℕ → Bool
+grantable W c e m = not (anyBelow (suc W.given) (lockBlockers W c e m))
+
+unfoldable pub putHeld : Window → ℕ → ℕ → ℕ → Window
+putHeld W e c m = withHeld W (put2 W.held e c m)
+
+-- "0 if a lock held already covers the mode. Otherwise granted if … Otherwise 20, and no byte changes"
+unfoldable pub lockEntry : Window → ℕ → ℕ → ℕ → Outcome
+lockEntry W c e m = cond (covers (W .held e c) m) (done 0 W) (cond (grantable W c e m) (done 0 (putHeld W e c m)) (unchanged 20 0 W))
+
+-- WRITE
+-- "adds a log record with the old value, then stores, equal values too"
+unfoldable pub writeEntry : Window → ℕ → ℕ → ℕ → Window
+writeEntry W c e v = withLog (withValue W (put W.value e v)) (W.log ++ (record { owner = c; entry = e; before = W .value e } ∷ []))
+
+-- DELEGATE (delegation)
+-- "65,535 is every entry"
+unfoldable pub every : ℕ
+every = 65535
+
+-- the entries that a delegate names
+unfoldable pub entriesNamed : ℕ → Set
+entriesNamed entry e = eqb entry every || eqb e entry
+
+-- "moves … locks … A lock meets one already held as the greater"
+unfoldable pub moveHeld : ℕ → ℕ → Set → (ℕ → ℕ → ℕ) → ℕ → ℕ → ℕ
+moveHeld from to on held e c = cond (on e) (cond (eqb c to) (max (held e from) (held e to)) (cond (eqb c from) 0 (held e c))) (held e c)
+
+-- "moves log ownership"
+unfoldable pub moveLog : ℕ → ℕ → Set → List LogRecord → List LogRecord
+moveLog from to on = map (λ r. cond (eqb r.owner from && on r.entry) (record { owner = to; entry = r.entry; before = r.before }) r)
+
+-- "moves … the permits that from has given. A permit that would be from to to itself is dropped. Permits received do not move"
+unfoldable pub movePermits : ℕ → ℕ → Set → List PermitRecord → List PermitRecord
+movePermits from to on ps =
+    foldr addPermit (keep (λ p. not (eqb p.giver from && on p.entry)) ps)
+    (map (λ p. record { giver = to; taker = p.taker; entry = p.entry; ops = p.ops })
+    (keep (λ p. eqb p.giver from && on p.entry && not (eqb p.taker to)) ps))
+
+-- "moves log ownership, locks and the permits that from has given", on a set of entries
+unfoldable pub handOver : Window → ℕ → ℕ → Set → Window
+handOver W from to on = record {
+  entries = W.entries;
+  value = W.value;
+  given = W.given;
+  status = W.status;
+  parent = W.parent;
+  held = moveHeld from to on W.held;
+  log = moveLog from to on W.log;
+  permits = movePermits from to on W.permits;
+  ties = W.ties;
+}
+
+-- COMMIT AND ABORT
+-- "An ended change loses its locks, log records, ties, and permits given and received. Remaining records close up in order"
+unfoldable pub endAll : ℕ → Set → Window → Window
+endAll how s W = record {
+  entries = W.entries;
+  value = W.value;
+  given = W.given;
+  status = λ c. cond (s c) how (W .status c);
+  parent = W.parent;
+  held = λ e c. cond (s c) 0 (W .held e c);
+  log = keep (λ r. not (s r.owner)) W.log;
+  permits = keep (λ p. not (s p.giver || s p.taker)) W.permits;
+  ties = keep (λ t. not (s t.leader || s t.follower)) W.ties;
+}
+
+-- "how many changes this call ended"
+unfoldable pub size : Window → Set → ℕ
+size W s = countBelow (suc W.given) s
+
+-- "the members of its group that are not completed, and all leaders of wait or fall ties to any member"
+unfoldable pub commitBlockers : Window → Set → Set
+commitBlockers W g c = g c && not (eqb (W .status c) 3) || any (λ t. isArrow t.kind && eqb t.leader c && g t.follower) W.ties
+
+-- "If there is any, the answer is 20, its second number is the lowest change number in that set, and no byte changes. If there is none, the whole group becomes committed"
+unfoldable pub commitGroup : Window → Set → Outcome
+commitGroup W g = cond (anyBelow (suc W.given) (commitBlockers W g)) (unchanged 20 (lowestBelow (suc W.given) (commitBlockers W g)) W) (done (size W g) (endAll 4 g W))
+
+-- "if committed, 0 with 0. If aborted, 21"
+unfoldable pub commitChange : Window → ℕ → Outcome
+commitChange W c = cond (eqb (W .status c) 4) (done 0 W) (cond (eqb (W .status c) 5) (unchanged 21 0 W) (commitGroup W (groupOf W c)))
+
+-- "Log records owned by the set are undone in one pass, newest first, each storing its value before. Other owners' records stay"
+unfoldable pub undo : Set → List LogRecord → (ℕ → ℕ) → ℕ → ℕ
+undo s [] v = v
+undo s (r ∷ l) v = cond (s r.owner) (put (undo s l v) r.entry r.before) (undo s l v)
+
+-- "the call ends the least set": undone, then ended as aborted
+unfoldable pub abortAll : Window → Set → Outcome
+abortAll W s = done (size W s) (endAll 5 s (withValue W (undo s W.log W.value)))
+
+-- "if aborted, 0 with 0. If committed, 21"
+unfoldable pub abortChange : Window → ℕ → Outcome
+abortChange W c = cond (eqb (W .status c) 5) (done 0 W) (cond (eqb (W .status c) 4) (unchanged 21 0 W) (abortAll W (endSet W c)))
+
+-- each call, in the order of "The calls"
+unfoldable pub effect : Window → Call → Outcome
+effect W (Open n) = done 0 (fresh n)
+effect W (Initiate p) = done (suc W.given) (addChange W p)
+effect W (Begin c) = done 0 (withStatus W (put W.status c 2))
+effect W (Complete c) = done 0 (withStatus W (put W.status c 3))
+effect W (Lock c e m) = lockEntry W c e m
+effect W (Read c e) = done (W .value e) W
+effect W (Write c e v) = done 0 (writeEntry W c e v)
+effect W (Permit g t e o) = done 0 (withPermits W (addPermit (makePermit g t e o) W.permits))
+effect W (Delegate f t e) = done 0 (handOver W f t (entriesNamed e))
+effect W (Depend k l f) = done 0 (withTies W (addTie (makeTie k l f) W.ties))
+effect W (Commit c) = commitChange W c
+effect W (Abort c) = abortChange W c
+effect W (Status c) = done (W .status c) W
+effect W (Parent c) = done (W .parent c) W
+effect W (Value e) = done (W .value e) W

@@ -1,0 +1,75 @@
+-- Document 01, "Lists of calls": a call made, and what the words of demand 3 look at in it. Assumes nothing.
+use mathlib.Core.Bool.{Bool, true, false, cond, _&&_}
+use Prim.Native.Nat.{ℕ, max}
+use lib.Dec.{eqb}
+use Rattle.rules.specs.Calls.{Call, Open, Initiate, Begin, Complete, Lock, Read, Write, Permit, Delegate, Depend, Commit, Abort, Status, Parent, Value}
+
+-- a call made: its arguments, answer and second number, and the statuses that status calls would give after it
+pub record Event : Type 0 where
+  pub call : Call
+  pub answer : ℕ
+  pub number : ℕ
+  pub status : ℕ → ℕ
+
+-- what the words look at: opens, initiates, what the book enters, ties made
+pub data Action : Type 0 where
+  opening initiating other : Action
+  locking : (change entry mode : ℕ) → Action
+  permitting : (giver taker entry operations : ℕ) → Action
+  delegating : (from to entry : ℕ) → Action
+  tying : (kind leader follower : ℕ) → Action
+
+unfoldable pub actionOf : Call → Action
+actionOf (Open n) = opening
+actionOf (Initiate p) = initiating
+actionOf (Begin c) = other
+actionOf (Complete c) = other
+actionOf (Lock c e m) = locking c e m
+actionOf (Read c e) = other
+actionOf (Write c e v) = other
+actionOf (Permit g t e o) = permitting g t e o
+actionOf (Delegate f t e) = delegating f t e
+actionOf (Depend k l f) = tying k l f
+actionOf (Commit c) = other
+actionOf (Abort c) = other
+actionOf (Status c) = other
+actionOf (Parent c) = other
+actionOf (Value e) = other
+
+-- "answered 0": "Any other call, or any other answer, enters nothing"
+unfoldable pub action : Event → Action
+action e = cond (eqb e.answer 0) (actionOf e.call) other
+
+-- "An open answered 0"
+unfoldable pub isOpening : Action → Bool
+isOpening opening = true
+isOpening initiating = false
+isOpening other = false
+isOpening (locking c e m) = false
+isOpening (permitting g t e o) = false
+isOpening (delegating f t e) = false
+isOpening (tying k l f) = false
+
+-- an open, whatever it answers
+unfoldable pub isOpen : Call → Bool
+isOpen c = isOpening (actionOf c)
+
+-- "a depend answered 0" of this kind, leader and follower
+unfoldable pub isTying : ℕ → ℕ → ℕ → Action → Bool
+isTying k l f opening = false
+isTying k l f initiating = false
+isTying k l f other = false
+isTying k l f (locking c e m) = false
+isTying k l f (permitting g t e o) = false
+isTying k l f (delegating h t e) = false
+isTying k l f (tying k′ l′ f′) = eqb k k′ && eqb l l′ && eqb f f′
+
+-- "the highest given" after an action with second number n, h before it
+unfoldable pub highestAfter : Action → ℕ → ℕ → ℕ
+highestAfter opening n h = h
+highestAfter initiating n h = max n h
+highestAfter other n h = h
+highestAfter (locking c e m) n h = h
+highestAfter (permitting g t e o) n h = h
+highestAfter (delegating f t e) n h = h
+highestAfter (tying k l f) n h = h
