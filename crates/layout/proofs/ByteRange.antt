@@ -14,8 +14,9 @@ use Rattle.rules.specs.Sound.{statusSound, parentSound, recordSound, permitSoun
 use Rattle.rules.proofs.BaseLaws.{and-both, and-left, and-right, or-cases, lt-of, ltb-true, eqb-eq, within-of, ge-of, not-true, or-false-right}
 use Rattle.rules.proofs.ListLaws.{all-weaken, all-getD}
 use Rattle.rules.proofs.SoundParts.{Sound, live-below, record-parts, permit-parts, tie-parts, inside-of, status-range}
-use Rattle.layout.specs.Codec.{Section, section, sections, layOut, lineByte, headSize, valuesSize, changesSize, lineSize, locksSize, permitsSize, tiesSize, logSize, byte, pack, noRecord, noPermit, noTie, headByte, valueByte, changeByte, lockByte, recordBytes, logByte, permitBytes, permitByte, tieBytes, tieByte, figures, encode}
+use Rattle.layout.specs.Codec.{lineByte, headSize, valuesSize, changesSize, lineSize, locksSize, permitsSize, tiesSize, logSize, byte, pack, noRecord, noPermit, noTie, headByte, valueByte, changeByte, lockByte, recordBytes, logByte, permitBytes, permitByte, tieBytes, tieByte, figures, encode}
 use Rattle.layout.proofs.CodecLaws.{bit-most}
+use Rattle.layout.proofs.SectionLaws.{Section, section, sections, layOut, encode-sections}
 
 abbrev pub small : ℕ → Bool
 small x = ltb x 256
@@ -119,12 +120,12 @@ module _ (W : Window) (k : Sound limits W) where
   tie-small i = place-small tieBytes W.ties noTie (tieSound (live W)) sound-tie (k .ties) (unfold tieBytes all in refl) (i / 4) (i % 4)
 
   pub encode-small : all small (encode W) ≡ true
-  unfolding encode sections valueByte lineByte
-  encode-small = all-section small headSize (headByte (figures W)) _ head-small
+  unfolding sections valueByte lineByte
+  encode-small = rw (encode-sections W) (all-section small headSize (headByte (figures W)) _ head-small
       (all-section small valuesSize (valueByte (W .value)) _ (λ i. byte-small (i % 4) (W .value (i / 4)))
       (all-section small changesSize (changeByte (W .status) (W .parent)) _ change-small
       (all-section small lineSize lineByte _ (λ i. refl)
       (all-section small locksSize (lockByte (W .held)) _ lock-small
       (all-section small permitsSize (permitByte (W .permits)) _ permit-small
       (all-section small tiesSize (tieByte (W .ties)) _ tie-small
-      (all-section small logSize (logByte (W .log)) [] log-small (all-none small))))))))
+      (all-section small logSize (logByte (W .log)) [] log-small (all-none small)))))))))

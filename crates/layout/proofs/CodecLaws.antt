@@ -10,42 +10,42 @@ use lib.ListN.{getD, length, List·getD-eq-default}
 use Rattle.rules.specs.Base.{table}
 use Rattle.rules.specs.Window.{Window}
 use Rattle.rules.proofs.BaseLaws.{Below, under, over, below, ltb-false}
-use Rattle.layout.specs.Codec.{byte, bit, pack, noRecord, noPermit, noTie, figures, headByte, valueByte, changeByte, lockByte, permitByte, tieByte, recordBytes, logByte, permitBytes, tieBytes, headSize, valuesSize, changesSize, locksSize, permitsSize, tiesSize, logSize, section, headAt, valuesAt, changesAt, locksAt, permitsAt, tiesAt, logAt, windowSize, sections, encode, inside, join2, join4, unpack, readFigure, readValue, readStatus, readParent, readHeld, readRecord, readPermit, readTie, decode}
-use Rattle.layout.proofs.SectionLaws.{length-layOut, layOut-at, table-list}
+use Rattle.layout.specs.Codec.{byte, bit, pack, noRecord, noPermit, noTie, figures, headByte, valueByte, changeByte, lockByte, permitByte, tieByte, recordBytes, logByte, permitBytes, tieBytes, headSize, valuesSize, changesSize, locksSize, permitsSize, tiesSize, logSize, headAt, valuesAt, changesAt, locksAt, permitsAt, tiesAt, logAt, windowSize, encode, inside, join2, join4, unpack, readFigure, readValue, readStatus, readParent, readHeld, readRecord, readPermit, readTie, decode}
+use Rattle.layout.proofs.SectionLaws.{section, sections, encode-sections, length-layOut, layOut-at, table-list}
 
 -- the bytes of each section, read; the size of a window
 module _ (W : Window) where
   pub length-encode : length (encode W) ≡ windowSize
-  unfolding encode sections section
-  length-encode = length-layOut (sections W)
+  unfolding sections section
+  length-encode = rw (encode-sections W) (length-layOut (sections W))
 
   pub head-at : (i : ℕ) → i < headSize → inside headAt (encode W) i ≡ headByte (figures W) i
-  unfolding inside encode sections section
-  head-at i h = layOut-at (sections W) 0 i h
+  unfolding inside sections section
+  head-at i h = rw (encode-sections W) (layOut-at (sections W) 0 i h)
 
   pub values-at : (i : ℕ) → i < valuesSize → inside valuesAt (encode W) i ≡ valueByte (W .value) i
-  unfolding inside encode sections section
-  values-at i h = layOut-at (sections W) 1 i h
+  unfolding inside sections section
+  values-at i h = rw (encode-sections W) (layOut-at (sections W) 1 i h)
 
   pub changes-at : (i : ℕ) → i < changesSize → inside changesAt (encode W) i ≡ changeByte (W .status) (W .parent) i
-  unfolding inside encode sections section
-  changes-at i h = layOut-at (sections W) 2 i h
+  unfolding inside sections section
+  changes-at i h = rw (encode-sections W) (layOut-at (sections W) 2 i h)
 
   pub locks-at : (i : ℕ) → i < locksSize → inside locksAt (encode W) i ≡ lockByte (W .held) i
-  unfolding inside encode sections section
-  locks-at i h = layOut-at (sections W) 4 i h
+  unfolding inside sections section
+  locks-at i h = rw (encode-sections W) (layOut-at (sections W) 4 i h)
 
   pub permits-at : (i : ℕ) → i < permitsSize → inside permitsAt (encode W) i ≡ permitByte (W .permits) i
-  unfolding inside encode sections section
-  permits-at i h = layOut-at (sections W) 5 i h
+  unfolding inside sections section
+  permits-at i h = rw (encode-sections W) (layOut-at (sections W) 5 i h)
 
   pub ties-at : (i : ℕ) → i < tiesSize → inside tiesAt (encode W) i ≡ tieByte (W .ties) i
-  unfolding inside encode sections section
-  ties-at i h = layOut-at (sections W) 6 i h
+  unfolding inside sections section
+  ties-at i h = rw (encode-sections W) (layOut-at (sections W) 6 i h)
 
   pub log-at : (i : ℕ) → i < logSize → inside logAt (encode W) i ≡ logByte (W .log) i
-  unfolding inside encode sections section
-  log-at i h = layOut-at (sections W) 7 i h
+  unfolding inside sections section
+  log-at i h = rw (encode-sections W) (layOut-at (sections W) 7 i h)
 
 -- numbers of two and of four bytes
 pub join2-byte : (v : ℕ) → v < 65536 → join2 (byte 0 v) (byte 1 v) ≡ v

@@ -1,7 +1,7 @@
--- Tables, and sections one after the other: what is read, stored and cut out. Assumes nothing.
+-- Tables, and sections one after the other: a byte read, a section cut out, a section put in place. Assumes nothing.
 use mathlib.Core.Path.{_≡_, refl, sym, _∙_, ap}
 use mathlib.Core.Bool.{Bool}
-use mathlib.Core.List.{List, [], _∷_, _++_, append-assoc}
+use mathlib.Core.List.{List, [], _∷_, _++_, append-assoc, append-nil}
 use Prim.Native.Nat.{ℕ, zero, suc, _+_, _<_}
 use native.Mathlib.Nat.{add-zero, zero-add, suc-add, add-assoc, not-suc-le-zero, le-of-suc-le-suc}
 use native.Mathlib.Omega.{arith}
@@ -9,7 +9,8 @@ use lib.ListN.{getD, set, length, take, drop, length-set, length-append, List·g
 use lib.Seq.{ext-getD, getD-set-same, getD-set-other, set-append-left, getD-append-add, take-at, drop-at, take-append-add, drop-append-add}
 use Rattle.rules.specs.Base.{put, table}
 use Rattle.rules.proofs.BaseLaws.{put-same, put-other, Same, same, other, same?}
-use Rattle.layout.specs.Codec.{Section, section, layOut}
+use Rattle.rules.specs.Window.{Window}
+use Rattle.layout.specs.Codec.{headSize, valuesSize, changesSize, lineSize, locksSize, permitsSize, tiesSize, logSize, figures, headByte, valueByte, changeByte, lineByte, lockByte, permitByte, tieByte, logByte, headSection, valueSection, changeSection, lineSection, lockSection, permitSection, tieSection, logSection, encode}
 
 -- tables
 pub length-table {ℓ} : {A : Type ℓ} (k i : ℕ) (f : ℕ → A) → length (table k i f) ≡ k
@@ -31,7 +32,28 @@ pub table-list {ℓ} : {A : Type ℓ} (d : A) (l : List A) (f : ℕ → A) → (
 table-list d l f h = ext-getD d (table (length l) 0 f) l (length-table (length l) 0 f)
     (λ j s. let t : j < length l = rw length-table at s in getD-table0 (length l) f j d t ∙ h j t)
 
--- sections: how many bytes, where each begins, and each by its place
+-- sections, one after the other
+pub record Section : Type 0 where
+  pub size : ℕ
+  pub content : ℕ → ℕ
+
+unfoldable pub section : ℕ → (ℕ → ℕ) → Section
+section n f = record { size = n; content = f }
+
+unfoldable pub layOut : List Section → List ℕ
+layOut [] = []
+layOut (s ∷ l) = table s.size 0 s.content ++ layOut l
+
+-- those of a window
+unfoldable pub sections : Window → List Section
+sections W = section headSize (headByte (figures W)) ∷ section valuesSize (valueByte W.value) ∷ section changesSize (changeByte W.status W.parent) ∷ section lineSize lineByte
+    ∷ section locksSize (lockByte W.held) ∷ section permitsSize (permitByte W.permits) ∷ section tiesSize (tieByte W.ties) ∷ section logSize (logByte W.log) ∷ []
+
+pub encode-sections : (W : Window) → encode W ≡ layOut (sections W)
+unfolding encode headSection valueSection changeSection lineSection lockSection permitSection tieSection logSection layOut sections section
+encode-sections W = rw append-nil
+
+-- how many bytes, where each begins, and each by its place
 abbrev pub total : List Section → ℕ
 total [] = 0
 total (s ∷ l) = s.size + total l

@@ -138,24 +138,35 @@ logByte log i = getD (recordBytes (getD log (i / 6) noRecord)) (i % 6) 0
 unfoldable pub figures : Window → List ℕ
 figures W = W.entries ∷ W.given ∷ length W.log ∷ length W.permits ∷ length W.ties ∷ []
 
-pub record Section : Type 0 where
-  pub size : ℕ
-  pub content : ℕ → ℕ
+-- the sections, each whole
+unfoldable pub headSection : List ℕ → List ℕ
+headSection figures = table headSize 0 (headByte figures)
 
-unfoldable pub section : ℕ → (ℕ → ℕ) → Section
-section n f = record { size = n; content = f }
+unfoldable pub valueSection : (ℕ → ℕ) → List ℕ
+valueSection value = table valuesSize 0 (valueByte value)
+
+unfoldable pub changeSection : (ℕ → ℕ) → (ℕ → ℕ) → List ℕ
+changeSection status parent = table changesSize 0 (changeByte status parent)
+
+unfoldable pub lineSection : List ℕ
+lineSection = table lineSize 0 lineByte
+
+unfoldable pub lockSection : (ℕ → ℕ → ℕ) → List ℕ
+lockSection held = table locksSize 0 (lockByte held)
+
+unfoldable pub permitSection : List PermitRecord → List ℕ
+permitSection permits = table permitsSize 0 (permitByte permits)
+
+unfoldable pub tieSection : List TieRecord → List ℕ
+tieSection ties = table tiesSize 0 (tieByte ties)
+
+unfoldable pub logSection : List LogRecord → List ℕ
+logSection log = table logSize 0 (logByte log)
 
 -- one after the other
-unfoldable pub layOut : List Section → List ℕ
-layOut [] = []
-layOut (s ∷ l) = table s.size 0 s.content ++ layOut l
-
-unfoldable pub sections : Window → List Section
-sections W = section headSize (headByte (figures W)) ∷ section valuesSize (valueByte W.value) ∷ section changesSize (changeByte W.status W.parent) ∷ section lineSize lineByte
-    ∷ section locksSize (lockByte W.held) ∷ section permitsSize (permitByte W.permits) ∷ section tiesSize (tieByte W.ties) ∷ section logSize (logByte W.log) ∷ []
-
 unfoldable pub encode : Window → List ℕ
-encode W = layOut (sections W)
+encode W = headSection (figures W) ++ (valueSection W.value ++ (changeSection W.status W.parent ++ (lineSection
+    ++ (lockSection W.held ++ (permitSection W.permits ++ (tieSection W.ties ++ logSection W.log))))))
 
 -- BYTES AS A WINDOW
 -- byte i of the section that begins there
