@@ -3,6 +3,7 @@
 pub mod Cases
 -- tables, and sections one after the other: a byte read, a section cut out, a section put in place
 pub mod SectionLaws
+pub mod RecordLaws
 -- decode (encode W) ≡ W of a sound W; the bytes of a sound window are below 256
 pub mod CodecLaws
 pub mod SoundCodec

@@ -1,0 +1,84 @@
+-- A section of records, each of so many bytes: its records' bytes one after the other, and zeros. Assumes nothing.
+use mathlib.Core.Path.{_≡_, refl, sym, _∙_, ap, fun-ext}
+use mathlib.Core.List.{List, [], _∷_, _++_, append-assoc}
+use Prim.Native.Nat.{ℕ, zero, suc, _+_, _-_, _*_, _/_, _%_, _≤_, _<_}
+use native.Mathlib.Nat.{add-div-right, add-mod-right, div-eq-of-lt, mod-eq-of-lt, mod-lt, zero-mul, suc-mul, add-comm, zero-add, suc-add, sub-zero, suc-sub-suc, le-of-suc-le-suc, not-suc-le-zero}
+use native.Mathlib.Numerals.{add-one}
+use native.Mathlib.Omega.{arith}
+use lib.ListN.{getD, length, replicate, getD-replicate, length-append}
+use Rattle.rules.specs.Base.{table}
+use Rattle.rules.specs.Window.{LogRecord, PermitRecord, TieRecord}
+use Rattle.layout.specs.Codec.{noRecord, noPermit, noTie, byte, permitBytes, permitByte, tieBytes, tieByte, recordBytes, logByte, permitsSize, tiesSize, logSize, permitSection, tieSection, logSection}
+use Rattle.layout.proofs.SectionLaws.{table-list}
+
+-- tables
+pub table-append {ℓ} : {A : Type ℓ} (m n i : ℕ) (f : ℕ → A) → table (m + n) i f ≡ table m i f ++ table n (i + m) f
+unfolding table
+table-append zero n i f = let e : i + 0 ≡ i = omega arith in rw (zero-add n, e)
+table-append (suc m) n i f = let e : suc i + m ≡ i + suc m = omega arith in rw (suc-add m n) (ap (λ l. f i ∷ l) (table-append m n (suc i) f ∙ rw e))
+
+table-shift {ℓ} : {A : Type ℓ} (k i w : ℕ) (f : ℕ → A) → table k (i + w) f ≡ table k i (λ j. f (j + w))
+unfolding table
+table-shift zero i w f = refl
+table-shift (suc k) i w f = ap (λ l. f (i + w) ∷ l) (ap (λ j. table k j f) (sym (suc-add i w)) ∙ table-shift k (suc i) w f)
+
+pub table-zeros : (k i : ℕ) (f : ℕ → ℕ) → ((j : ℕ) → f j ≡ 0) → table k i f ≡ replicate k 0
+unfolding table
+table-zeros zero i f h = refl
+table-zeros (suc k) i f h = rw (h i) (ap (λ l. 0 ∷ l) (table-zeros k (suc i) f h))
+
+-- the records' bytes, one after the other
+unfoldable pub flat {ℓ} : {A : Type ℓ} → (A → List ℕ) → List A → List ℕ
+flat bytes [] = []
+flat bytes (x ∷ l) = bytes x ++ flat bytes l
+
+-- byte i of a section of records of w bytes
+unfoldable pub placeByte {ℓ} : {A : Type ℓ} → ℕ → (A → List ℕ) → A → List A → ℕ → ℕ
+placeByte w bytes none l i = getD (bytes (getD l (i / w) none)) (i % w) 0
+
+module _ {ℓ} {A : Type ℓ} (w : ℕ) (pos : 0 < w) (bytes : A → List ℕ) (none : A) (size : (x : A) → length (bytes x) ≡ w) (blank : bytes none ≡ replicate w 0) where
+  pub length-flat : (l : List A) → length (flat bytes l) ≡ length l * w
+  unfolding flat
+  length-flat [] = sym (zero-mul w)
+  length-flat (x ∷ l) = length-append (bytes x) (flat bytes l) ∙ rw (size x, length-flat l, suc-mul (length l) w) (add-comm w (length l * w))
+
+  no-place : (i : ℕ) → placeByte w bytes none [] i ≡ 0
+  unfolding placeByte
+  no-place i = rw blank (getD-replicate w (i % w) 0 0 (mod-lt i pos))
+
+  first-place : (x : A) (l : List A) → table w 0 (placeByte w bytes none (x ∷ l)) ≡ bytes x
+  unfolding placeByte
+  first-place x l = ap (λ k. table k 0 (placeByte w bytes none (x ∷ l))) (sym (size x)) ∙ table-list 0 (bytes x) (placeByte w bytes none (x ∷ l)) (λ j h. go j (rw size at h))
+    where
+      go : (j : ℕ) → j < w → getD (bytes (getD (x ∷ l) (j / w) none)) (j % w) 0 ≡ getD (bytes x) j 0
+      go j h = rw (div-eq-of-lt h, mod-eq-of-lt h)
+
+  next-place : (x : A) (l : List A) (j : ℕ) → placeByte w bytes none (x ∷ l) (j + w) ≡ placeByte w bytes none l j
+  unfolding placeByte
+  next-place x l j = rw (add-div-right j pos, add-mod-right j w, add-one)
+
+  -- the section is the records' bytes and zeros
+  pub records-flat : (most : ℕ) (l : List A) → length l ≤ most → table (most * w) 0 (placeByte w bytes none l) ≡ flat bytes l ++ replicate ((most - length l) * w) 0
+  unfolding flat
+  records-flat most [] h = rw (sub-zero most) (table-zeros (most * w) 0 (placeByte w bytes none []) no-place)
+  records-flat zero (x ∷ l) h = absurd (not-suc-le-zero h)
+  records-flat (suc most) (x ∷ l) h =
+      ap (λ k. table k 0 (placeByte w bytes none (x ∷ l))) (suc-mul most w ∙ add-comm (most * w) w)
+      ∙ table-append w (most * w) 0 (placeByte w bytes none (x ∷ l))
+      ∙ ap (λ r. r ++ table (most * w) (0 + w) (placeByte w bytes none (x ∷ l))) (first-place x l)
+      ∙ ap (λ r. bytes x ++ r) (table-shift (most * w) 0 w (placeByte w bytes none (x ∷ l)) ∙ ap (table (most * w) 0) (fun-ext (next-place x l)) ∙ records-flat most l (le-of-suc-le-suc h))
+      ∙ sym (append-assoc (bytes x) (flat bytes l) (replicate ((most - length l) * w) 0))
+      ∙ ap (λ k. (bytes x ++ flat bytes l) ++ replicate (k * w) 0) (sym (suc-sub-suc most (length l)))
+
+-- the three sections of records
+pub permits-flat : (l : List PermitRecord) → length l ≤ 1024 → permitSection l ≡ flat permitBytes l ++ replicate ((1024 - length l) * 4) 0
+unfolding permitSection permitByte permitBytes placeByte
+permits-flat l h = records-flat 4 (omega arith) permitBytes noPermit (λ p. refl) refl 1024 l h
+
+pub ties-flat : (l : List TieRecord) → length l ≤ 512 → tieSection l ≡ flat tieBytes l ++ replicate ((512 - length l) * 4) 0
+unfolding tieSection tieByte tieBytes placeByte
+ties-flat l h = records-flat 4 (omega arith) tieBytes noTie (λ p. refl) refl 512 l h
+
+pub log-flat : (l : List LogRecord) → length l ≤ 2048 → logSection l ≡ flat recordBytes l ++ replicate ((2048 - length l) * 6) 0
+unfolding logSection logByte recordBytes placeByte byte
+log-flat l h = records-flat 6 (omega arith) recordBytes noRecord (λ p. refl) refl 2048 l h
