@@ -13,7 +13,7 @@ use Rattle.rules.specs.Sound.{sound}
 use Rattle.rules.specs.Calls.{Call, Open, fits, Reply, Outcome}
 use Rattle.rules.specs.Refusals.{step}
 use Rattle.rules.specs.Events.{actionOf, isOpening, isOpen}
-use Rattle.rules.proofs.BaseLaws.{and-false, and-left, and-right, and-both, not-false, eqb-eq, eqb-same, eqb-other, le-of, leb-true}
+use Rattle.rules.proofs.BaseLaws.{and-false, and-left, and-right, and-both, eqb-eq, eqb-same, Same, same, other, same?, le-of, leb-true}
 use Rattle.rules.proofs.RuleLaws.{quiet, open-answer, open-number}
 use Rattle.rules.proofs.SoundParts.{Sound, sound-parts, parts-sound}
 use Rattle.rules.proofs.SoundStep.{step-sound, opened-sound, opened-fresh}
@@ -50,7 +50,22 @@ bytes-again bs h = sameBytes-eq (encode (decode bs)) bs (and-left (sameBytes (en
 pub sound-encodings : (bs : List ℕ) → soundBytes bs ≡ true ↔ ((W : Window) × Sound limits W × (encode W ≡ bs))
 sound-encodings bs = (λ h. (decode bs, bytes-sound bs h, bytes-again bs h), λ m. rw (m .2) at (encode-sound (m .0) (m .1)))
 
--- MEMORY that begins with the bytes of W, which is sound
+-- MEMORY
+module _ (mem : List ℕ) where
+  -- sound memory is its window's bytes and the rest
+  pub memory-again : soundMemory mem ≡ true → encode (windowOf mem) ++ drop windowSize mem ≡ mem
+  unfolding soundMemory
+  memory-again h = rw (bytes-again (take windowSize mem) (and-right (long mem) (soundBytes (take windowSize mem)) h)) (take-append-drop windowSize mem)
+
+  pub sound-long : soundMemory mem ≡ true → long mem ≡ true
+  unfolding soundMemory
+  sound-long h = and-left (long mem) _ h
+
+  pub memory-sound : soundMemory mem ≡ true → Sound limits (windowOf mem)
+  unfolding soundMemory
+  memory-sound h = bytes-sound (take windowSize mem) (and-right (long mem) (soundBytes (take windowSize mem)) h)
+
+-- memory that begins with the bytes of W, which is sound
 pub record Holds (mem : List ℕ) (W : Window) : Type 0 where
   pub sound : soundMemory mem ≡ true
   pub window : windowOf mem ≡ W
@@ -63,36 +78,36 @@ laid W k tail = let t : take windowSize (encode W ++ tail) ≡ encode W = take-a
 }
 
 module _ (mem : List ℕ) where
-  pub sound-long : soundMemory mem ≡ true → long mem ≡ true
-  unfolding soundMemory
-  sound-long h = and-left (long mem) (soundBytes (take windowSize mem)) h
-
-  pub memory-sound : soundMemory mem ≡ true → Sound limits (windowOf mem)
-  unfolding soundMemory
-  memory-sound h = bytes-sound (take windowSize mem) (and-right (long mem) (soundBytes (take windowSize mem)) h)
-
-  -- sound memory is its window's bytes and the rest
-  pub memory-again : soundMemory mem ≡ true → encode (windowOf mem) ++ drop windowSize mem ≡ mem
-  unfolding soundMemory
-  memory-again h = rw (bytes-again (take windowSize mem) (and-right (long mem) (soundBytes (take windowSize mem)) h)) (take-append-drop windowSize mem)
-
   -- WHAT A CALL COMES TO
   pub data Performed (c : Call) : Reply (List ℕ) → Type 0 where
     refused : Performed c (handBack mem 1)
     ruled : soundMemory mem ≡ true → Performed c (layInto mem (step limits (windowOf mem) c))
-    opened : long mem ≡ true → Performed c (anew mem (step limits (fresh 0) c))
+    opened : long mem ≡ true → isOpen c ≡ true → Performed c (anew mem (step limits (fresh 0) c))
 
   pub performed : (c : Call) → Performed c (perform mem c)
   unfolding perform memoryRefused
-  performed c = go (long mem) refl (isOpen c) (soundMemory mem) refl
+  performed c = go (long mem) refl (isOpen c) refl (soundMemory mem) refl
     where
-      go : (l : Bool) → long mem ≡ l → (o s : Bool) → soundMemory mem ≡ s
+      go : (l : Bool) → long mem ≡ l → (o : Bool) → isOpen c ≡ o → (s : Bool) → soundMemory mem ≡ s
           → Performed c (cond (not l || (not o && not s)) (handBack mem 1) (cond s (layInto mem (step limits (windowOf mem) c)) (anew mem (step limits (fresh 0) c))))
-      go false p o s q = refused
-      go true p true true q = ruled q
-      go true p true false q = opened p
-      go true p false true q = ruled q
-      go true p false false q = refused
+      go false p o e s q = refused
+      go true p true e true q = ruled q
+      go true p true e false q = opened p e
+      go true p false e true q = ruled q
+      go true p false e false q = refused
+
+  -- an open on memory with no sound window: laid in where it is done, else the memory as it was
+  pub data Anewed (o : Outcome) : Reply (List ℕ) → Type 0 where
+    begun : o .answer ≡ 0 → Anewed o (layInto mem o)
+    kept : o .answer ≢ 0 → Anewed o (handBack mem (o .answer))
+
+  pub anewed : (o : Outcome) → Anewed o (anew mem o)
+  unfolding anew
+  anewed o = go (same? (o .answer) 0)
+    where
+      go : {b : Bool} → Same (o .answer) 0 b → Anewed o (cond b (layInto mem o) (handBack mem (o .answer)))
+      go (same e) = begun e
+      go (other n) = kept n
 
   -- answer 1, with the memory as it was: too short, or for every call but open no sound window
   pub perform-short : (c : Call) → long mem ≡ false → perform mem c ≡ handBack mem 1
@@ -110,7 +125,7 @@ module _ (mem : List ℕ) where
   -- on a sound window a call is the rules' step, whatever it answers
   pub perform-sound : (c : Call) → soundMemory mem ≡ true → perform mem c ≡ layInto mem (step limits (windowOf mem) c)
   unfolding perform memoryRefused
-  perform-sound c h = rw (sound-long h, h, and-false (not (isOpen c)))
+  perform-sound c h = rw (sound-long mem h, h, and-false (not (isOpen c)))
 
   pub perform-answer : (c : Call) → soundMemory mem ≡ true → perform mem c .answer ≡ step limits (windowOf mem) c .answer
   unfolding layInto
@@ -126,7 +141,7 @@ module _ (mem : List ℕ) where
 
   -- after any call sound memory is sound again, and decodes to the window that the rules give
   pub perform-holds : (c : Call) → fits c ≡ true → soundMemory mem ≡ true → Holds (perform mem c .after) (step limits (windowOf mem) c .after)
-  perform-holds c a h = rw (perform-after c h) (laid (step limits (windowOf mem) c .after) (step-sound limits (windowOf mem) c a (memory-sound h)) (drop windowSize mem))
+  perform-holds c a h = rw (perform-after c h) (laid (step limits (windowOf mem) c .after) (step-sound limits (windowOf mem) c a (memory-sound mem h)) (drop windowSize mem))
 
   -- OPEN
   -- what it answers on memory that is long enough is what the rules answer, of whatever window
@@ -134,32 +149,26 @@ module _ (mem : List ℕ) where
   unfolding perform memoryRefused isOpen actionOf isOpening
   open-answered W n l = rw l (go (soundMemory mem))
     where
-      anew-answer : (o : Outcome) → anew mem o .answer ≡ o .answer
-      anew-answer o = unfold anew layInto handBack in choose (eqb (o .answer) 0)
-        where
-          choose : (b : Bool) → cond b (layInto mem o) (handBack mem (o .answer)) .answer ≡ o .answer
-          choose true = unfold layInto in refl
-          choose false = unfold handBack in refl
+      begun-answer : {o : Outcome} {r : Reply (List ℕ)} → Anewed o r → r .answer ≡ o .answer
+      begun-answer (begun e) = unfold layInto in refl
+      begun-answer (kept n) = unfold handBack in refl
 
       go : (b : Bool) → cond b (layInto mem (step limits (windowOf mem) (Open n))) (anew mem (step limits (fresh 0) (Open n))) .answer ≡ step limits W (Open n) .answer
       go true = unfold layInto in open-answer limits (windowOf mem) W n
-      go false = anew-answer (step limits (fresh 0) (Open n)) ∙ open-answer limits (fresh 0) W n
+      go false = begun-answer (anewed (step limits (fresh 0) (Open n))) ∙ open-answer limits (fresh 0) W n
 
   -- its second number is 0
   pub open-numbered : (n : ℕ) → perform mem (Open n) .number ≡ 0
   open-numbered n = go (performed (Open n))
     where
-      anew-number : (o : Outcome) → o .number ≡ 0 → anew mem o .number ≡ 0
-      anew-number o h = unfold anew in choose (eqb (o .answer) 0)
-        where
-          choose : (b : Bool) → cond b (layInto mem o) (handBack mem (o .answer)) .number ≡ 0
-          choose true = unfold layInto in h
-          choose false = unfold handBack in refl
+      anew-number : {o : Outcome} {r : Reply (List ℕ)} → Anewed o r → o .number ≡ 0 → r .number ≡ 0
+      anew-number (begun e) h = unfold layInto in h
+      anew-number (kept n) h = unfold handBack in refl
 
       go : {r : Reply (List ℕ)} → Performed (Open n) r → r .number ≡ 0
       go refused = unfold handBack in refl
       go (ruled h) = unfold layInto in open-number limits (windowOf mem) n
-      go (opened l) = anew-number (step limits (fresh 0) (Open n)) (open-number limits (fresh 0) n)
+      go (opened l o) = anew-number (anewed (step limits (fresh 0) (Open n))) (open-number limits (fresh 0) n)
 
   -- answered 0, it had room, and it leaves a fresh window's bytes and the untouched tail: nothing of what the memory held
   pub record Opened (n : ℕ) (r : Reply (List ℕ)) : Type 0 where
@@ -172,19 +181,17 @@ module _ (mem : List ℕ) where
       one : _≡_ {A = ℕ} 1 0 → ⊥
       one q = omega arith
 
-      anew-done : (o : Outcome) → anew mem o .answer ≡ 0 → (o .answer ≡ 0) × (anew mem o .after ≡ encode (o .after) ++ drop windowSize mem)
-      anew-done o = unfold anew in choose (eqb (o .answer) 0) refl
-        where
-          choose : (b : Bool) → eqb (o .answer) 0 ≡ b → cond b (layInto mem o) (handBack mem (o .answer)) .answer ≡ 0
-              → (o .answer ≡ 0) × (cond b (layInto mem o) (handBack mem (o .answer)) .after ≡ encode (o .after) ++ drop windowSize mem)
-          choose true e h = unfold layInto in (eqb-eq (o .answer) 0 e, refl)
-          choose false e h = let q : o .answer ≡ 0 = unfold handBack in h in absurd (false≢true (sym e ∙ rw q))
+      lay : (o : Outcome) → long mem ≡ true → o .after ≡ fresh n → Opened n (layInto mem o)
+      lay o l e = record { room = l; bytes = unfold layInto in ap (λ X. encode X ++ drop windowSize mem) e }
+
+      anew-done : {r : Reply (List ℕ)} → long mem ≡ true → Anewed (step limits (fresh 0) (Open n)) r → r .answer ≡ 0 → Opened n r
+      anew-done l (begun e) h = lay (step limits (fresh 0) (Open n)) l (opened-fresh limits (fresh 0) n e)
+      anew-done l (kept m) h = absurd (m (unfold handBack in h))
 
       go : {r : Reply (List ℕ)} → Performed (Open n) r → r .answer ≡ 0 → Opened n r
       go refused h = absurd (one (unfold handBack in h))
-      go (ruled q) h = record { room = sound-long q; bytes = unfold layInto in ap (λ X. encode X ++ drop windowSize mem) (opened-fresh limits (windowOf mem) n (unfold layInto in h)) }
-      go (opened l) h = let a = anew-done (step limits (fresh 0) (Open n)) h in
-          record { room = l; bytes = a .1 ∙ ap (λ X. encode X ++ drop windowSize mem) (opened-fresh limits (fresh 0) n (a .0)) }
+      go (ruled q) h = lay (step limits (windowOf mem) (Open n)) (sound-long mem q) (opened-fresh limits (windowOf mem) n (unfold layInto in h))
+      go (opened l o) h = anew-done l (anewed (step limits (fresh 0) (Open n))) h
 
   pub opened-holds : (n : ℕ) → perform mem (Open n) .answer ≡ 0 → Holds (perform mem (Open n) .after) (fresh n)
   opened-holds n h = let o = opened-bytes n h in
@@ -202,20 +209,17 @@ module _ (mem : List ℕ) where
       back : (a : ℕ) → Still (handBack mem a)
       back a = unfold handBack in record { same = λ h. refl; number = λ h k. refl }
 
-      anew-still : (o : Outcome) → (o .answer ≢ 0 → o .answer ≢ 20 → o .number ≡ 0) → Still (anew mem o)
-      anew-still o f = unfold anew in choose (eqb (o .answer) 0) refl
-        where
-          choose : (b : Bool) → eqb (o .answer) 0 ≡ b → Still (cond b (layInto mem o) (handBack mem (o .answer)))
-          choose true e = unfold layInto in record { same = λ h. absurd (h (eqb-eq (o .answer) 0 e)); number = f }
-          choose false e = back (o .answer)
+      anew-still : {o : Outcome} {r : Reply (List ℕ)} → (o .answer ≢ 0 → o .answer ≢ 20 → o .number ≡ 0) → Anewed o r → Still r
+      anew-still f (begun e) = unfold layInto in record { same = λ h. absurd (h e); number = f }
+      anew-still f (kept n) = back _
 
       go : {r : Reply (List ℕ)} → Performed c r → Still r
       go refused = back 1
       go (ruled q) = unfold layInto in record {
-        same = λ h. ap (λ X. encode X ++ drop windowSize mem) (quiet limits (windowOf mem) c .same h) ∙ memory-again q;
+        same = λ h. ap (λ X. encode X ++ drop windowSize mem) (quiet limits (windowOf mem) c .same h) ∙ memory-again mem q;
         number = quiet limits (windowOf mem) c .number;
       }
-      go (opened l) = anew-still (step limits (fresh 0) c) (quiet limits (fresh 0) c .number)
+      go (opened l o) = anew-still (quiet limits (fresh 0) c .number) (anewed (step limits (fresh 0) c))
 
   -- PAST THE WINDOW: what lies there is as it was, and the memory is as long
   pub record Tail (bytes : List ℕ) : Type 0 where
@@ -234,14 +238,11 @@ module _ (mem : List ℕ) where
       back : (a : ℕ) → Tail (handBack mem a .after)
       back a = unfold handBack in record { same = refl; size = refl }
 
-      anew-tail : (o : Outcome) → long mem ≡ true → Tail (anew mem o .after)
-      anew-tail o l = unfold anew in choose (eqb (o .answer) 0)
-        where
-          choose : (b : Bool) → Tail (cond b (layInto mem o) (handBack mem (o .answer)) .after)
-          choose true = lay o l
-          choose false = back (o .answer)
+      anew-tail : {o : Outcome} {r : Reply (List ℕ)} → long mem ≡ true → Anewed o r → Tail (r .after)
+      anew-tail {o} l (begun e) = lay o l
+      anew-tail {o} l (kept n) = back (o .answer)
 
       go : {r : Reply (List ℕ)} → Performed c r → Tail (r .after)
       go refused = back 1
-      go (ruled q) = lay (step limits (windowOf mem) c) (sound-long q)
-      go (opened l) = anew-tail (step limits (fresh 0) c) l
+      go (ruled q) = lay (step limits (windowOf mem) c) (sound-long mem q)
+      go (opened l o) = anew-tail l (anewed (step limits (fresh 0) c))
