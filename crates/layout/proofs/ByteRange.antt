@@ -1,21 +1,28 @@
--- The bytes of a sound window are bytes. Assumes nothing.
+-- The bytes of a sound window are bytes, and a call leaves bytes where bytes were. Assumes nothing.
 use mathlib.Core.Path.{_≡_, refl}
-use mathlib.Core.Bool.{Bool, true, false, cond, _&&_}
+use mathlib.Core.Bool.{Bool, true, false}
 use mathlib.Core.Logic.{⊎-elim}
 use mathlib.Core.List.{List, [], _∷_, _++_}
 use Prim.Native.Nat.{ℕ, zero, suc, _+_, _*_, _^_, _/_, _%_, _-_, _<_}
 use native.Mathlib.Omega.{arith}
 use native.Mathlib.Nat.{mod-lt}
 use lib.Dec.{ltb, eqb}
-use lib.ListN.{getD}
+use lib.ListN.{getD, drop}
 use Rattle.rules.specs.Base.{all, table}
-use Rattle.rules.specs.Window.{limits, LogRecord, PermitRecord, TieRecord, Window, live, noChange}
+use Rattle.rules.specs.Window.{limits, fresh, LogRecord, PermitRecord, TieRecord, Window, live, noChange}
+use Rattle.rules.specs.Calls.{Call, fits, Reply, Outcome}
+use Rattle.rules.specs.Refusals.{step}
 use Rattle.rules.specs.Sound.{statusSound, parentSound, recordSound, permitSound, tieSound}
 use Rattle.rules.proofs.BaseLaws.{and-both, and-left, and-right, or-cases, lt-of, ltb-true, eqb-eq, within-of, ge-of, not-true, or-false-right}
 use Rattle.rules.proofs.ListLaws.{all-weaken, all-getD}
+use Rattle.rules.proofs.RuleLaws.{is-open}
+use Rattle.rules.proofs.SoundStep.{step-sound, opened-sound}
 use Rattle.rules.proofs.SoundParts.{Sound, live-below, record-parts, permit-parts, tie-parts, inside-of, status-range}
 use Rattle.layout.specs.Codec.{lineByte, headSize, valuesSize, changesSize, lineSize, locksSize, permitsSize, tiesSize, logSize, byte, pack, noRecord, noPermit, noTie, headByte, valueByte, changeByte, lockByte, recordBytes, logByte, permitBytes, permitByte, tieBytes, tieByte, figures, encode}
+use Rattle.layout.specs.Codec.{windowSize}
+use Rattle.layout.specs.Memory.{windowOf, handBack, layInto, perform}
 use Rattle.layout.proofs.CodecLaws.{bit-most}
+use Rattle.layout.proofs.MemoryLaws.{Performed, refused, ruled, opened, performed, Anewed, begun, kept, anewed, memory-sound}
 use Rattle.layout.proofs.SectionLaws.{Section, section, sections, layOut, encode-sections}
 
 abbrev pub small : ℕ → Bool
@@ -129,3 +136,25 @@ module _ (W : Window) (k : Sound limits W) where
       (all-section small permitsSize (permitByte (W .permits)) _ permit-small
       (all-section small tiesSize (tieByte (W .ties)) _ tie-small
       (all-section small logSize (logByte (W .log)) [] log-small (all-none small)))))))))
+
+all-drop : (p : ℕ → Bool) (n : ℕ) (l : List ℕ) → all p l ≡ true → all p (drop n l) ≡ true
+unfolding all
+all-drop p zero l e = e
+all-drop p (suc n) [] e = e
+all-drop p (suc n) (x ∷ l) e = all-drop p n l (and-right (p x) (all p l) e)
+
+-- memory of bytes is memory of bytes after any call
+pub perform-small : (mem : List ℕ) (c : Call) → fits c ≡ true → all small mem ≡ true → all small (perform mem c .after) ≡ true
+perform-small mem c f h = go (performed mem c)
+  where
+    lay : (o : Outcome) → Sound limits (o .after) → all small (layInto mem o .after) ≡ true
+    lay o k = unfold layInto in all-join small (encode (o .after)) (drop windowSize mem) (encode-small (o .after) k) (all-drop small windowSize mem h)
+
+    again : {o : Outcome} {r : Reply (List ℕ)} → (o .answer ≡ 0 → Sound limits (o .after)) → Anewed mem o r → all small (r .after) ≡ true
+    again {o} s (begun e) = lay o (s e)
+    again s (kept n) = unfold handBack in h
+
+    go : {r : Reply (List ℕ)} → Performed mem c r → all small (r .after) ≡ true
+    go refused = unfold handBack in h
+    go (ruled q) = lay (step limits (windowOf mem) c) (step-sound limits (windowOf mem) c f (memory-sound mem q))
+    go (opened l o) = let m = is-open c o in again (λ e. rw (m .1) (opened-sound limits (fresh 0) (m .0) (rw (m .1) at e))) (anewed mem (step limits (fresh 0) c))

@@ -1,5 +1,5 @@
 -- The starred calls on lent memory that is long enough, whatever it holds. Assumes nothing.
-use mathlib.Core.Path.{_≡_, refl, sym, _∙_, ap}
+use mathlib.Core.Path.{_≡_, refl, _∙_, ap}
 use mathlib.Core.Bool.{true}
 use mathlib.Core.List.{List, [], _∷_, _++_}
 use Prim.Native.Nat.{ℕ}
@@ -14,7 +14,7 @@ use Rattle.rules.proofs.Computing.{rules}
 use Rattle.rules.proofs.SizeLaws.{initiates}
 use Rattle.layout.specs.Memory.{long, perform}
 use Rattle.layout.proofs.CallLists.{answers-list}
-use Rattle.layout.proofs.MemoryLaws.{open-answered, open-numbered}
+use Rattle.layout.proofs.MemoryLaws.{open-answered}
 
 module _ (mem : List ℕ) (enough : long mem ≡ true) where
   after-open : (l : List Call) → all fits l ≡ true → answers perform mem (Open 2 ∷ l) ≡ answers (step limits) (fresh 0) (Open 2 ∷ l)

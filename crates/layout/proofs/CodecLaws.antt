@@ -1,15 +1,14 @@
 -- What is encoded is decoded again. Assumes nothing.
 use mathlib.Core.Path.{_≡_, refl, sym, _∙_, ap, fun-ext}
 use mathlib.Core.Bool.{Bool, true, false, cond, _&&_}
-use mathlib.Core.List.{[], _∷_}
 use Prim.Native.Nat.{ℕ, zero, suc, _+_, _*_, _/_, _%_, _^_, _≤_, _<_}
-use native.Mathlib.Nat.{zero-div, pow-suc, mul-comm, div-div-eq-div-mul, add-zero, not-suc-le-zero, le-of-suc-le-suc}
+use native.Mathlib.Nat.{pow-suc, mul-comm, div-div-eq-div-mul, add-zero, not-suc-le-zero, le-of-suc-le-suc}
 use native.Mathlib.Omega.{arith}
 use lib.Dec.{eqb}
-use lib.ListN.{getD, length, List·getD-eq-default}
+use lib.ListN.{getD, length}
 use Rattle.rules.specs.Base.{table}
 use Rattle.rules.specs.Window.{Window}
-use Rattle.rules.proofs.BaseLaws.{Below, under, over, below, ltb-false}
+use Rattle.rules.proofs.BaseLaws.{Below, under, over, below}
 use Rattle.layout.specs.Codec.{byte, bit, pack, noRecord, noPermit, noTie, figures, headByte, valueByte, changeByte, lockByte, permitByte, tieByte, recordBytes, logByte, permitBytes, tieBytes, headSize, valuesSize, changesSize, locksSize, permitsSize, tiesSize, logSize, headAt, valuesAt, changesAt, locksAt, permitsAt, tiesAt, logAt, windowSize, encode, inside, join2, join4, unpack, readFigure, readValue, readStatus, readParent, readHeld, readRecord, readPermit, readTie, decode}
 use Rattle.layout.proofs.SectionLaws.{section, sections, encode-sections, length-layOut, layOut-at, table-list}
 

@@ -1,15 +1,15 @@
 -- What is proved of the bytes of a window. Other crates cite a file X here as Rattle.layout.proofs.X.
 -- the starred calls on lent memory
 pub mod Cases
--- tables, and sections one after the other: a byte read, a section cut out, a section put in place
+-- tables, and sections one after the other: a byte read, a section cut out, a section put in place; sections of records
 pub mod SectionLaws
 pub mod RecordLaws
--- decode (encode W) ≡ W of a sound W; the bytes of a sound window are below 256
+-- decode (encode W) ≡ W of a sound W (SoundCodec.sound-again)
 pub mod CodecLaws
 pub mod SoundCodec
-pub mod ByteRange
--- the calls on lent memory, and lists of them: what the rules do, and nothing past the window
+-- the calls on lent memory, and lists of them: what the rules do, bytes where bytes were, and nothing past the window
 pub mod MemoryLaws
 pub mod CallLists
+pub mod ByteRange
 -- demand 3 of the calls on lent memory (Demand.bytes-kept)
 pub mod Demand

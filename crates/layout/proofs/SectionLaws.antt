@@ -1,14 +1,13 @@
 -- Tables, and sections one after the other: a byte read, a section cut out, a section put in place. Assumes nothing.
 use mathlib.Core.Path.{_≡_, refl, sym, _∙_, ap}
-use mathlib.Core.Bool.{Bool}
 use mathlib.Core.List.{List, [], _∷_, _++_, append-assoc, append-nil}
 use Prim.Native.Nat.{ℕ, zero, suc, _+_, _<_}
-use native.Mathlib.Nat.{add-zero, zero-add, suc-add, add-assoc, not-suc-le-zero, le-of-suc-le-suc}
+use native.Mathlib.Nat.{add-zero, zero-add, add-assoc, not-suc-le-zero, le-of-suc-le-suc}
 use native.Mathlib.Omega.{arith}
-use lib.ListN.{getD, set, length, take, drop, length-set, length-append, List·getD-append}
-use lib.Seq.{ext-getD, getD-set-same, getD-set-other, set-append-left, getD-append-add, take-at, drop-at, take-append-add, drop-append-add}
+use lib.ListN.{getD, length, take, drop, length-append, List·getD-append}
+use lib.Seq.{ext-getD, getD-append-add, take-at, drop-at, take-append-add, drop-append-add}
 use Rattle.rules.specs.Base.{put, table}
-use Rattle.rules.proofs.BaseLaws.{put-same, put-other, Same, same, other, same?}
+use Rattle.rules.proofs.BaseLaws.{other}
 use Rattle.rules.specs.Window.{Window}
 use Rattle.layout.specs.Codec.{headSize, valuesSize, changesSize, lineSize, locksSize, permitsSize, tiesSize, logSize, figures, headByte, valueByte, changeByte, lineByte, lockByte, permitByte, tieByte, logByte, headSection, valueSection, changeSection, lineSection, lockSection, permitSection, tieSection, logSection, encode}
 

@@ -6,17 +6,16 @@ use mathlib.Core.List.{List, [], _∷_, _++_}
 use Prim.Native.Nat.{ℕ, suc, _≤_, _<_}
 use native.Mathlib.Omega.{arith}
 use Rattle.rules.specs.Base.{anyBelow, all, outside}
-use Rattle.rules.specs.Sets.{Set}
 use Rattle.rules.specs.Window.{Limits, Window, fresh, withHeld, withPermits, withTies, withValue, isEnded, isLive, noChange, live}
 use Rattle.rules.specs.Ties.{grouped, groupOf}
 use Rattle.rules.specs.Calls.{Call, Open, fits}
 use Rattle.rules.specs.Effects.{endAll, addChange, handOver}
 use Rattle.rules.specs.Refusals.{step}
 use Rattle.rules.specs.Events.{Event, Action, opening, initiating, other as nothing, locking, permitting, delegating, tying, actionOf, action, isOpening, isTying, highestAfter}
-use Rattle.rules.specs.Lists.{status, remember, event, history, tieMade, enter, strike, book, highest, isGrouped, firstOfGroup, liveGroups, walks, Kept, Demand3After, Demand3, final}
+use Rattle.rules.specs.Lists.{status, remember, event, history, tieMade, enter, strike, book, highest, isGrouped, firstOfGroup, liveGroups, walks, Demand3After, Demand3, final}
 use Rattle.rules.proofs.BaseLaws.{none-below, within-of, or-cases, and-both, and-left, and-right, any-intro, Within, count-within}
 use Rattle.rules.proofs.DemandBook.{bookOf, strike-same, book-next, clash-permitted}
-use Rattle.rules.proofs.DemandEnds.{Ending, endingOf, fresh-tie}
+use Rattle.rules.proofs.DemandEnds.{endingOf, fresh-tie}
 use Rattle.rules.proofs.DemandMoves.{shownStatus, status-shown, Move, opened, started, calm, locked, granted, handed, tied, committed, aborted, move, live-unended, live-status, given-live}
 use Rattle.rules.proofs.DemandTies.{TieHistory, Bound, stands, over as gone, story-next, story-fresh, story-lasts, story-groups, story-falls, story-waits}
 use Rattle.rules.proofs.DemandWalks.{final-append, firstInGroup, groupCount, all-end}

@@ -16,7 +16,7 @@ use Rattle.rules.specs.Calls.{Call, Commit, done, unchanged}
 use Rattle.rules.specs.Effects.{effect, commitChange, commitBlockers, commitGroup, endAll}
 use Rattle.rules.specs.Refusals.{step, settle, checks, firstFailed, _if_}
 use Rattle.rules.specs.Lists.{final, walks}
-use Rattle.rules.proofs.BaseLaws.{not-true, none-below, or-none, or-left, or-right, or-cases, and-both, and-left, and-right, eqb-same, Same, same, other, same?, Below, under, over, below, ltb-true, any-intro, any-elim, Within, count-within, count-same}
+use Rattle.rules.proofs.BaseLaws.{not-true, none-below, or-none, or-left, or-right, or-cases, and-both, and-left, and-right, Same, same, other, same?, ltb-true, any-intro, any-elim, Within, count-within, count-same}
 use Rattle.rules.proofs.DemandEnds.{Ending, commit-ending}
 use Rattle.rules.proofs.DemandMoves.{shownStatus, live-unended, live-status, not-ended}
 use Rattle.rules.proofs.ListLaws.{all-weaken, all-and, any-weaken}

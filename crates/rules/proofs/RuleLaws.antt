@@ -1,13 +1,14 @@
 -- A call that is unchanged back or blocked leaves the window as it was. Assumes nothing.
 use mathlib.Core.Path.{_≡_, refl}
 use mathlib.Core.Logic.{_≢_}
-use mathlib.Core.Bool.{Bool, true, false, cond, _||_}
+use mathlib.Core.Bool.{Bool, true, false, cond, _||_, false≢true}
 use Prim.Native.Nat.{ℕ, zero, suc}
 use lib.Dec.{ltb}
 use Rattle.rules.specs.Base.{exceeds}
 use Rattle.rules.specs.Window.{Limits, Window, fresh}
 use Rattle.rules.specs.Calls.{Call, Open, Initiate, Begin, Complete, Lock, Read, Write, Permit, Delegate, Depend, Commit, Abort, Status, Parent, Value, Outcome, unchanged, done}
 use Rattle.rules.specs.Effects.{effect, lockEntry, commitChange, commitGroup, abortChange, abortAll}
+use Rattle.rules.specs.Events.{actionOf, isOpening, isOpen}
 use Rattle.rules.specs.Refusals.{step, settle, checks, _if_, firstFailed}
 
 -- an answer other than 0 leaves the window as it was; other than 20, its second number is 0
@@ -59,6 +60,25 @@ quiet-effect W (Value e) = search quiets
 pub quiet : (L : Limits) (W : Window) (c : Call) → Quiet W (step L W c)
 unfolding step
 quiet L W c = quiet-settle W (firstFailed (checks L W c)) (effect W c) (quiet-effect W c)
+
+-- a call that is an open
+pub is-open : (c : Call) → isOpen c ≡ true → (n : ℕ) × (c ≡ Open n)
+unfolding isOpen actionOf isOpening
+is-open (Open n) e = (n, refl)
+is-open (Initiate p) e = absurd (false≢true e)
+is-open (Begin c) e = absurd (false≢true e)
+is-open (Complete c) e = absurd (false≢true e)
+is-open (Lock c x m) e = absurd (false≢true e)
+is-open (Read c x) e = absurd (false≢true e)
+is-open (Write c x v) e = absurd (false≢true e)
+is-open (Permit g t x o) e = absurd (false≢true e)
+is-open (Delegate f t x) e = absurd (false≢true e)
+is-open (Depend k l f) e = absurd (false≢true e)
+is-open (Commit c) e = absurd (false≢true e)
+is-open (Abort c) e = absurd (false≢true e)
+is-open (Status c) e = absurd (false≢true e)
+is-open (Parent c) e = absurd (false≢true e)
+is-open (Value x) e = absurd (false≢true e)
 
 -- open does the same whatever the window was
 pub open-answer : (L : Limits) (W X : Window) (n : ℕ) → step L W (Open n) .answer ≡ step L X (Open n) .answer

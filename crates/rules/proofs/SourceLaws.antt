@@ -11,7 +11,7 @@ use Rattle.rules.specs.Base.{all, any, countBelow}
 use Rattle.rules.specs.Sets.{Rel, reach}
 use Rattle.rules.specs.Window.{TieRecord}
 use Rattle.rules.specs.Ties.{isGroup, isArrow, tied, grouped, leading}
-use Rattle.rules.proofs.BaseLaws.{or-left, or-right, or-cases, and-left, and-right, to-T, eqb-other, Within, count-le, count-within, count-same}
+use Rattle.rules.proofs.BaseLaws.{or-left, or-right, or-cases, and-left, and-right, to-T, Within, count-le, count-within, count-same}
 use Rattle.rules.proofs.ListLaws.{find}
 use Rattle.rules.proofs.SetLaws.{Closed, reach-seed, reach-closed, reach-least}
 
