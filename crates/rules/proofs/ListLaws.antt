@@ -67,6 +67,11 @@ module _ {ℓ} {A : Type ℓ} where
   all-members p [] f = refl
   all-members p (x ∷ l) f = and-both (p x) (all p l) (f x (List·Memᴰ·head refl)) (all-members p l (λ y m. f y (List·Memᴰ·tail m)))
 
+  pub all-member : (p : A → Bool) {x : A} {l : List A} → List·Memᴰ x l → all p l ≡ true → p x ≡ true
+  unfolding all
+  all-member p (List·Memᴰ·head {x = y} {xs = l} q) e = rw q (and-left (p y) (all p l) e)
+  all-member p (List·Memᴰ·tail {x = y} {xs = l} m) e = all-member p m (and-right (p y) (all p l) e)
+
   pub any-member : (p : A → Bool) {x : A} {l : List A} → List·Memᴰ x l → p x ≡ true → any p l ≡ true
   unfolding any
   any-member p (List·Memᴰ·head {x = y} {xs = l} q) e = or-left (p y) (any p l) (rw q at e)

@@ -3,15 +3,16 @@
 use mathlib.Core.Path.{_≡_, refl, sym, _∙_, ap}
 use mathlib.Core.Logic.{⊎-elim, _↔_, _≢_}
 use mathlib.Core.Bool.{Bool, true, false, not, cond, _&&_, false≢true, true≢false}
-use mathlib.Core.List.{List, [], _∷_}
+use mathlib.Core.List.{List, [], _∷_, List·Memᴰ}
 use Prim.Native.Nat.{ℕ, suc}
 use native.Mathlib.Omega.{arith}
 use lib.Dec.{ltb, eqb}
-use Rattle.rules.specs.Base.{put, anyBelow, all, any}
+use lib.ListN.{length}
+use Rattle.rules.specs.Base.{put, exceeds, anyBelow, all, any}
 use Rattle.rules.specs.Sets.{Set}
-use Rattle.rules.specs.Window.{Limits, LogRecord, TieRecord, Window, withValue, live, isEnded}
+use Rattle.rules.specs.Window.{Limits, LogRecord, TieRecord, Window, tieKey, withValue, live, isEnded}
 use Rattle.rules.specs.Locks.{clash, permitted}
-use Rattle.rules.specs.Ties.{isArrow, tied, grouped, falling, groupOf, endSet}
+use Rattle.rules.specs.Ties.{makeTie, addTie, acyclic, isArrow, tied, grouped, falling, groupOf, endSet}
 use Rattle.rules.specs.Calls.{Lock, Commit, Abort, done, unchanged}
 use Rattle.rules.specs.Effects.{covers, lockBlockers, grantable, lockEntry, commitBlockers, commitGroup, commitChange, undo, endAll, abortAll, abortChange, effect}
 use Rattle.rules.specs.Refusals.{checks, firstFailed, _if_, settle, step}
@@ -19,6 +20,7 @@ use Rattle.rules.proofs.BaseLaws.{lt-of, ltb-true, or-cases, or-none, a
 use Rattle.rules.proofs.DemandMoves.{live-status, not-ended}
 use Rattle.rules.proofs.ListLaws.{all-weaken, any-find, any-weaken}
 use Rattle.rules.proofs.PathLaws.{Way, reach-ways, Arrows, acyclic-paths}
+use Rattle.rules.proofs.SortLaws.{insert-standing}
 use Rattle.rules.proofs.SoundLock.{grant}
 use Rattle.rules.proofs.SoundParts.{Sound, live-below, live-change, ends-live}
 use Rattle.rules.proofs.SoundStep.{group-live}
@@ -43,6 +45,12 @@ module _ (L : Limits) (W : Window) (z : Sound L W) where
   -- "no path of arrows returns to its group"
   pub no-return : (x : ℕ) → Arrows W.ties x x → ⊥
   no-return = acyclic-paths W.ties (suc W.given) ends-below .0 (z .no-circle)
+
+  -- "an existing tie is 0 again": neither 9 nor 11 applies, and the ties stay as they are
+  pub tie-again : (k l f : ℕ) → List·Memᴰ (makeTie k l f) W.ties
+      → (addTie (makeTie k l f) W.ties ≡ W.ties) × (acyclic (suc W.given) (addTie (makeTie k l f) W.ties) ≡ true) × (not (exceeds (length (addTie (makeTie k l f) W.ties)) L.ties) ≡ true)
+  unfolding addTie
+  tie-again k l f m = let e = insert-standing tieKey m (z .tie-order) in (e, rw e (z .no-circle), rw e (z .room-ties))
 
 -- 0 or 20, by a test
 zeroOr20 : Bool → ℕ
