@@ -62,7 +62,7 @@ pub data Grouped (p : List Event) (a : ℕ) : ℕ → Type 0 where
   along : {b c : ℕ} → Grouped p a b → tieMade p 3 b c ≡ true → Grouped p a c
   against : {b c : ℕ} → Grouped p a b → tieMade p 3 c b ≡ true → Grouped p a c
 
--- "The book has the locks of each change and the standing permits"
+-- "The book has the locks of each change and the standing permits" (a lock table kept by who watches the calls)
 pub record Book : Type 0 where
   pub held : ℕ → ℕ → ℕ
   pub permits : List PermitRecord

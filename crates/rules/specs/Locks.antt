@@ -14,7 +14,7 @@ clash a b = ltb 0 a && ltb 0 b && (eqb a 2 || eqb b 2)
 unfoldable pub contains : ℕ → ℕ → Bool
 contains ops mode = eqb ops mode || eqb ops 3
 
--- the giver has a permit on the entry, "to this change or to anybody, that contains the mode"
+-- the giver has a permit (a leave to conflict) on the entry, "to this change or to anybody, that contains the mode"
 unfoldable pub permitted : List PermitRecord → ℕ → ℕ → ℕ → ℕ → Bool
 permitted ps giver taker entry mode = any (λ p. eqb p.giver giver && (eqb p.taker taker || eqb p.taker 0) && eqb p.entry entry && contains p.ops mode) ps
 

@@ -62,6 +62,6 @@ parts L W =
     ∷ clashesPermitted W
     ∷ []
 
--- "A window is sound when"
+-- "A window is sound when" (the invariant of its data)
 unfoldable pub sound : Limits → Window → Bool
 sound L W = all (λ b. b) (parts L W)

@@ -17,7 +17,7 @@ isFall k = eqb k 2
 unfoldable pub isGroup : ℕ → Bool
 isGroup k = eqb k 3
 
--- "A wait or fall tie is an arrow from its leader's group to its follower's"
+-- "A wait or fall tie is an arrow from its leader's group to its follower's" (an edge of the dependency graph)
 unfoldable pub isArrow : ℕ → Bool
 isArrow k = isWait k || isFall k
 
@@ -45,7 +45,7 @@ falling ts a b = grouped ts a b || tied ts isFall a b
 unfoldable pub leading : List TieRecord → Rel
 leading ts a b = grouped ts a b || tied ts isArrow a b
 
--- "A group is a live change with all that group ties reach from it"
+-- "A group is a live change with all that group ties reach from it" (a connected component of the group-commit dependencies)
 unfoldable pub groupOf : Window → ℕ → Set
 groupOf W c = reach (suc W.given) (grouped W.ties) c
 
@@ -53,7 +53,7 @@ groupOf W c = reach (suc W.given) (grouped W.ties) c
 unfoldable pub endSet : Window → ℕ → Set
 endSet W c = reach (suc W.given) (falling W.ties) c
 
--- "no path of arrows returns to its group": no arrow's follower leads to its leader, moving freely inside groups.
+-- "no path of arrows returns to its group" (the dependency graph has no cycle): no arrow's follower leads to its leader, moving freely inside groups.
 -- proofs/PathLaws.acyclic-paths says the same by paths
 unfoldable pub acyclic : ℕ → List TieRecord → Bool
 acyclic n ts = all (λ t. not (isArrow t.kind) || not (reach n (leading ts) t.follower t.leader)) ts
