@@ -1,15 +1,18 @@
 -- A section of records, each of so many bytes: its records' bytes one after the other, and zeros. Assumes nothing.
 use mathlib.Core.Path.{_≡_, refl, sym, _∙_, ap, fun-ext}
+use mathlib.Core.Bool.{Bool}
 use mathlib.Core.List.{List, [], _∷_, _++_, append-assoc}
 use Prim.Native.Nat.{ℕ, zero, suc, _+_, _-_, _*_, _/_, _%_, _≤_, _<_}
-use native.Mathlib.Nat.{add-div-right, add-mod-right, div-eq-of-lt, mod-eq-of-lt, mod-lt, zero-mul, suc-mul, add-comm, zero-add, suc-add, sub-zero, suc-sub-suc, le-of-suc-le-suc, not-suc-le-zero}
+use native.Mathlib.Nat.{div-add-mod', mul-add-div-right, mul-add-mod-self-right, mul-le-mul-right, le-div-iff-mul-le, add-zero, add-div-right, add-mod-right, div-eq-of-lt, mod-eq-of-lt, mod-lt, zero-mul, suc-mul, add-comm, zero-add, suc-add, sub-zero, suc-sub-suc, le-of-suc-le-suc, not-suc-le-zero}
 use native.Mathlib.Numerals.{add-one}
 use native.Mathlib.Omega.{arith}
-use lib.ListN.{getD, length, replicate, getD-replicate, length-append}
+use lib.ListN.{getD, length, replicate, getD-replicate, length-append, List·getD-eq-default}
+use lib.Seq.{ext-getD}
 use Rattle.rules.specs.Base.{table}
 use Rattle.rules.specs.Window.{LogRecord, PermitRecord, TieRecord}
+use Rattle.rules.proofs.BaseLaws.{Below, under, over, below}
 use Rattle.layout.specs.Codec.{noRecord, noPermit, noTie, byte, permitBytes, permitByte, tieBytes, tieByte, recordBytes, logByte, permitSection, tieSection, logSection}
-use Rattle.layout.proofs.SectionLaws.{table-list}
+use Rattle.layout.proofs.SectionLaws.{length-table, getD-table0, table-list}
 
 -- tables
 pub table-append {ℓ} : {A : Type ℓ} (m n i : ℕ) (f : ℕ → A) → table (m + n) i f ≡ table m i f ++ table n (i + m) f
@@ -82,3 +85,26 @@ ties-flat l h = records-flat 4 (omega arith) tieBytes noTie (λ p. refl) refl 51
 pub log-flat : (l : List LogRecord) → length l ≤ 2048 → logSection l ≡ flat recordBytes l ++ replicate ((2048 - length l) * 6) 0
 unfolding logSection logByte recordBytes placeByte byte
 log-flat l h = records-flat 6 (omega arith) recordBytes noRecord (λ p. refl) refl 2048 l h
+
+-- byte k of place j, and a section read back from its bytes
+module _ {ℓ} {A : Type ℓ} (w : ℕ) (pos : 0 < w) (bytes : A → List ℕ) (none : A) where
+  pub place-at : (most : ℕ) (l : List A) (j k : ℕ) → j < most → k < w → getD (table (most * w) 0 (placeByte w bytes none l)) (j * w + k) 0 ≡ getD (bytes (getD l j none)) k 0
+  unfolding placeByte
+  place-at most l j k hj hk = getD-table0 (most * w) (placeByte w bytes none l) (j * w + k) 0 (place-below most j k hj hk)
+      ∙ rw (mul-add-div-right pos j k, div-eq-of-lt hk, mul-add-mod-self-right j w k, mod-eq-of-lt hk, add-zero)
+    where
+      place-below : (m i r : ℕ) → i < m → r < w → i * w + r < m * w
+      place-below m i r hi hr = let s : suc i * w ≤ m * w = mul-le-mul-right w hi in omega (arith, s, suc-mul i w)
+
+  -- n places that hold what the bytes say there, and zeros after them
+  pub places-again : (most n : ℕ) (bs : List ℕ) (read : ℕ → A) → length bs ≡ most * w → ((k : ℕ) → getD (bytes none) k 0 ≡ 0)
+      → ((j k : ℕ) → j < n → k < w → getD (bytes (read j)) k 0 ≡ getD bs (j * w + k) 0) → ((i : ℕ) → n * w ≤ i → i < most * w → getD bs i 0 ≡ 0)
+      → bs ≡ table (most * w) 0 (placeByte w bytes none (table n 0 read))
+  unfolding placeByte
+  places-again most n bs read size blank used rest = ext-getD 0 bs (table (most * w) 0 (placeByte w bytes none (table n 0 read))) (size ∙ sym (length-table (most * w) 0 _))
+      (λ i h. let m : i < most * w = rw size at h in go i m (below (i / w) n) ∙ sym (getD-table0 (most * w) (placeByte w bytes none (table n 0 read)) i 0 m))
+    where
+      go : (i : ℕ) → i < most * w → {b : Bool} → Below (i / w) n b → getD bs i 0 ≡ getD (bytes (getD (table n 0 read) (i / w) none)) (i % w) 0
+      go i m (under h) = rw (getD-table0 n read (i / w) none h) (ap (λ x. getD bs x 0) (sym (div-add-mod' i w)) ∙ sym (used (i / w) (i % w) h (mod-lt i pos)))
+      go i m (over h) = let q : length (table n 0 read) ≤ i / w = rw length-table h in
+          rest i (le-div-iff-mul-le pos .0 h) m ∙ sym (rw (List·getD-eq-default (table n 0 read) none {n = i / w} q) (blank (i % w)))
