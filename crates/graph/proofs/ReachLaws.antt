@@ -1,0 +1,107 @@
+-- What is reached along the ties of a section, for any bound on their ends; and the leaders of ties to a set. Assumes nothing.
+use mathlib.Core.Path.{_≡_, refl, sym, ap, fun-ext, _∙_}
+use mathlib.Core.Bool.{Bool, true, false, _&&_, _||_, or-false, and-true}
+use mathlib.Core.List.{List, [], _∷_}
+use mathlib.Core.Logic.{_≢_}
+use Prim.Native.Nat.{ℕ, suc, _+_, _*_, _≤_, _<_}
+use native.Mathlib.Numerals.{add-one}
+use native.Mathlib.Omega.{arith}
+use lib.Dec.{ltb, eqb}
+use lib.ListN.{length, getD}
+use Rattle.rules.specs.Base.{all, any, anyBelow}
+use Rattle.rules.specs.Sets.{Set, only, closure, reach}
+use Rattle.rules.specs.Window.{TieRecord}
+use Rattle.rules.specs.Ties.{isWait, isFall, isArrow}
+use Rattle.rules.proofs.BaseLaws.{and-both, both-ways, lt-of, ltb-true, any-intro, any-elim, or-comm, eqb-other, eqb-same, Same, same, other, same?}
+use Rattle.rules.proofs.TieLaws.{grouped-ends, falling-ends, leading-ends}
+use Rattle.rules.proofs.PathLaws.{Bounded, closure-bound}
+use Rattle.layout.specs.Codec.{noTie, tieSection}
+use Rattle.sets.specs.declared.Along.{Along}
+use Rattle.sets.specs.declared.Along.the-variants.{Groups, Falls, Arrows}
+use Rattle.sets.specs.Closing.{relation, tieAt}
+use Rattle.sets.proofs.CloseLaws.{section-read, section-ends, any-place, any-at}
+use Rattle.graph.specs.Leaders.{endsBelow, leadsTo, leadersOf}
+
+-- each of a list passes, by its place
+all-at {ℓ} : {A : Type ℓ} (p : A → Bool) (d : A) (l : List A) → ((j : ℕ) → j < length l → p (getD l j d) ≡ true) → all p l ≡ true
+unfolding all
+all-at p d [] h = refl
+all-at p d (x ∷ l) h = and-both (p x) (all p l) (h 0 (omega arith)) (all-at p d l (λ j m. h (suc j) (omega arith)))
+
+-- the ends of ties in bytes are below 256
+section-below : (bs : List ℕ) (ts : List TieRecord) (m : ℕ) → ((i : ℕ) → getD bs i 0 < 256) → 4 * m ≤ length bs → length ts ≡ m → bs ≡ tieSection ts → endsBelow 256 ts ≡ true
+unfolding endsBelow
+section-below bs ts m bytes room len e = all-at (λ t. ltb t.leader 256 && ltb t.follower 256) noTie ts
+    (λ j h. let q = section-ends bs ts m room e bytes j (omega arith) in and-both (ltb (getD ts j noTie .leader) 256) _ (ltb-true _ 256 (q .0)) (ltb-true _ 256 (q .1)))
+
+-- a bound on the ends bounds the relation
+pub relation-bounded : (along : Along) (n : ℕ) (ts : List TieRecord) → endsBelow n ts ≡ true → Bounded n (relation along ts)
+unfolding relation endsBelow
+relation-bounded Groups n ts h a b e = let m = grouped-ends (λ x. ltb x n) ts h a b e in (lt-of a n (m .0), lt-of b n (m .1))
+relation-bounded Falls n ts h a b e = let m = falling-ends (λ x. ltb x n) ts h a b e in (lt-of a n (m .0), lt-of b n (m .1))
+relation-bounded Arrows n ts h a b e = let m = leading-ends (λ x. ltb x n) ts h a b e in (lt-of a n (m .0), lt-of b n (m .1))
+
+-- the empty set with one added
+pub one-added : (c : ℕ) (o s : Set) → ((k : ℕ) → o k ≡ false) → ((k : ℕ) → s k ≡ eqb k c || o k) → s ≡ only c
+unfolding only
+one-added c o s z h = fun-ext (λ k. h k ∙ ap (λ (b : Bool). eqb k c || b) (z k) ∙ or-false (eqb k c))
+
+-- the closure of one along the ties of a section is what is reached from it, for any bound
+pub reached-from : (along : Along) (bs : List ℕ) (ts : List TieRecord) (m n c : ℕ) (s r : Set) → s ≡ only c → ((i : ℕ) → getD bs i 0 < 256) → 4 * m ≤ length bs → length ts ≡ m → bs ≡ tieSection ts → endsBelow n ts ≡ true
+    → ((k : ℕ) → r k ≡ closure 256 (relation along ts) s k) → (k : ℕ) → r k ≡ reach n (relation along ts) c k
+unfolding reach
+reached-from along bs ts m n c s r o bytes room len e ends h k = h k ∙ rw o (ap (λ (u : Set). u k) (closure-bound 256 n (relation along ts)
+    (relation-bounded along 256 ts (section-below bs ts m bytes room len e)) (relation-bounded along n ts ends) (only c)))
+
+-- LEADERS
+eqb-sym : (a b : ℕ) → eqb a b ≡ eqb b a
+eqb-sym a b = go (same? a b)
+  where
+    go : {x : Bool} → Same a b x → x ≡ eqb b a
+    go (same e) = sym (rw e (eqb-same b))
+    go (other u) = sym (eqb-other b a (λ e. u (sym e)))
+
+-- the first m ties of a section, tested one by one, are the list
+pub leaders-of : (bs : List ℕ) (ts : List TieRecord) (m : ℕ) (s : Set) (k : ℕ) → 4 * m ≤ length bs → length ts ≡ m → bs ≡ tieSection ts
+    → anyBelow m (λ j. leadsTo s k (tieAt bs j)) ≡ leadersOf ts s k
+unfolding leadersOf
+leaders-of bs ts m s k room len e = both-ways _ _
+    (λ q. let a = any-elim m (λ j. leadsTo s k (tieAt bs j)) q in
+    any-at (leadsTo s k) noTie ts (a .0) (omega (arith, a .1)) (rw (← section-read bs ts m room e (a .0) (a .1)) (a .2)))
+    (λ q. let a = any-place (leadsTo s k) noTie ts q in
+    any-intro m (λ j. leadsTo s k (tieAt bs j)) (a .0) (omega (arith, a .1)) (rw (section-read bs ts m room e (a .0) (omega (arith, a .1))) (a .2)))
+
+-- one tie more
+pub leaders-next : (t : ℕ → TieRecord) (f s r : Set) (j : ℕ) → ((k : ℕ) → s k ≡ anyBelow j (λ i. leadsTo f k (t i))) → ((k : ℕ) → r k ≡ s k || leadsTo f k (t j))
+    → (k : ℕ) → r k ≡ anyBelow (j + 1) (λ i. leadsTo f k (t i))
+unfolding anyBelow
+leaders-next t f s r j h e k = e k ∙ rw (h k, add-one j)
+
+-- a tie of another kind, or to no member, adds nothing; an arrow to a member adds its leader
+pub leader-none : (t : TieRecord) (f s : Set) → isArrow t.kind && f t.follower ≡ false → (k : ℕ) → s k ≡ s k || leadsTo f k t
+unfolding leadsTo
+leader-none t f s h k = sym (ap (λ (b : Bool). s k || b) (go (isArrow t.kind) (eqb t.leader k) (f t.follower) h) ∙ or-false (s k))
+  where
+    go : (a b c : Bool) → a && c ≡ false → a && b && c ≡ false
+    go true true c e = e
+    go true false c e = refl
+    go false b c e = refl
+
+-- an arrow to a member adds its leader
+pub leader-more : (t : TieRecord) (f s : Set) → isArrow t.kind ≡ true → f t.follower ≡ true → (k : ℕ) → eqb k t.leader || s k ≡ s k || leadsTo f k t
+unfolding leadsTo
+leader-more t f s a h k = or-comm (eqb k t.leader) (s k) ∙ rw (a, h, eqb-sym k t.leader, and-true (eqb t.leader k))
+
+-- the kinds of arrows
+pub arrow-of : (k : ℕ) → 0 < k → k ≤ 2 → isArrow k ≡ true
+unfolding isArrow isWait isFall
+arrow-of k h l = go (same? k 1)
+  where
+    go : {b : Bool} → Same k 1 b → eqb k 1 || eqb k 2 ≡ true
+    go (same e) = rw e
+    go (other u) = let e : k ≡ 2 = omega arith in rw e
+
+-- other kinds are none
+pub no-arrow : (k : ℕ) → k ≢ 1 → k ≢ 2 → isArrow k ≡ false
+unfolding isArrow isWait isFall
+no-arrow k a b = rw (eqb-other k 1 a, eqb-other k 2 b)

@@ -1,0 +1,189 @@
+-- When one tie more lets a path of arrows return to its group, where none did: an arrow, where its follower leads to its leader;
+-- a group tie, where one of its ends leads to the other and not back. Assumes nothing.
+use mathlib.Core.Path.{_≡_, refl, sym, ap, _∙_}
+use mathlib.Core.Bool.{Bool, Bool·beq, true, false, not, _&&_, _||_}
+use mathlib.Core.List.{List, [], _∷_}
+use mathlib.Core.Logic.{_⊎_, inl, inr, ⊎-elim}
+use Prim.Native.Nat.{ℕ, _<_, min, max, Ordering, Ordering·lt, Ordering·eq, Ordering·gt}
+use native.Mathlib.Omega.{arith}
+use lib.Dec.{ltb, eqb}
+use Rattle.rules.specs.Base.{Key, any, insert, byOrder, order, outside}
+use Rattle.rules.specs.Sets.{reach}
+use Rattle.rules.specs.Window.{TieRecord, tieKey}
+use Rattle.rules.specs.Ties.{isGroup, isArrow, makeTie, addTie, tied, grouped, leading, acyclic}
+use Rattle.rules.proofs.BaseLaws.{or-left, or-right, or-cases, or-map, or-none, and-both, and-left, and-right, eqb-eq, eqb-other, no-true, ltb-true, ge-of, Below, under, over, below, other}
+use Rattle.rules.proofs.SortLaws.{all-insert}
+use Rattle.rules.proofs.PathLaws.{Way, stay, on, way-join, way-map}
+use Rattle.rules.proofs.DemandEnds.{tie-old, tie-new}
+use Rattle.graph.specs.Leaders.{endsBelow}
+use Rattle.graph.proofs.ReachLaws.{arrow-of}
+use Rattle.graph.proofs.WayLaws.{NoReturn, reached, unreached, acyclic-of, of-acyclic, Round, around, by-arrow, not-both, back-or-arrow}
+
+-- ONE TIE MORE
+any-inserted {ℓ} : {A : Type ℓ} (key : A → Key) (p : A → Bool) (x : A) (l : List A) → any p (insert key (λ t u. u) x l) ≡ true → (p x ≡ true) ⊎ (any p l ≡ true)
+unfolding any insert byOrder
+any-inserted key p x [] e = or-cases (p x) false e
+any-inserted key p x (y ∷ l) e = go (order (key x) (key y)) e (any-inserted key p x l)
+  where
+    go : (o : Ordering) → any p (byOrder o (x ∷ y ∷ l) (y ∷ l) (y ∷ insert key (λ t u. u) x l)) ≡ true → (any p (insert key (λ t u. u) x l) ≡ true → (p x ≡ true) ⊎ (any p l ≡ true)) → (p x ≡ true) ⊎ (p y || any p l ≡ true)
+    go Ordering·lt q ih = or-cases (p x) (p y || any p l) q
+    go Ordering·eq q ih = inr q
+    go Ordering·gt q ih = ⊎-elim (λ h. inr (or-left (p y) (any p l) h)) (λ h. ⊎-elim inl (λ z. inr (or-right (p y) (any p l) z)) (ih h)) (or-cases (p y) (any p (insert key (λ t u. u) x l)) q)
+
+module _ (t : TieRecord) (ts : List TieRecord) where
+  -- a tie of the longer list is an old one or the new one
+  tied-added : (k : ℕ → Bool) (a b : ℕ) → tied (addTie t ts) k a b ≡ true → (tied ts k a b ≡ true) ⊎ ((k t.kind ≡ true) × (t .leader ≡ a) × (t .follower ≡ b))
+  unfolding tied addTie
+  tied-added k a b e = ⊎-elim (λ q. let u = and-left (k t.kind && eqb t.leader a) (eqb t.follower b) q in
+      inr (and-left (k t.kind) (eqb t.leader a) u, eqb-eq t.leader a (and-right (k t.kind) (eqb t.leader a) u), eqb-eq t.follower b (and-right (k t.kind && eqb t.leader a) (eqb t.follower b) q)))
+      inl (any-inserted tieKey (λ u. k u.kind && eqb u.leader a && eqb u.follower b) t ts e)
+
+  -- the old steps are there
+  leading-old : (a b : ℕ) → leading ts a b ≡ true → leading (addTie t ts) a b ≡ true
+  unfolding leading grouped
+  leading-old a b = or-map _ _ _ _ (or-map _ _ _ _ (tie-old t ts isGroup a b) (tie-old t ts isGroup b a)) (tie-old t ts isArrow a b)
+
+  -- an old path is a path
+  old : {a b : ℕ} → Way (leading ts) a b → Way (leading (addTie t ts)) a b
+  old = way-map leading-old
+
+  -- a new step is the new tie's, either way where it is a group tie
+  leading-added : (a b : ℕ) → leading (addTie t ts) a b ≡ true → (leading ts a b ≡ true) ⊎ (((t .leader ≡ a) × (t .follower ≡ b)) ⊎ ((isGroup t.kind ≡ true) × (t .leader ≡ b) × (t .follower ≡ a)))
+  unfolding leading grouped
+  leading-added a b e = ⊎-elim
+      (λ g. ⊎-elim (λ q. ⊎-elim (λ o. inl (or-left (tied ts isGroup a b || tied ts isGroup b a) _ (or-left (tied ts isGroup a b) _ o))) (λ m. inr (inl (m .1, m .2))) (tied-added isGroup a b q))
+      (λ q. ⊎-elim (λ o. inl (or-left (tied ts isGroup a b || tied ts isGroup b a) _ (or-right (tied ts isGroup a b) _ o))) (λ m. inr (inr (m .0, m .1, m .2))) (tied-added isGroup b a q))
+      (or-cases (tied (addTie t ts) isGroup a b) (tied (addTie t ts) isGroup b a) g))
+      (λ q. ⊎-elim (λ o. inl (or-right (tied ts isGroup a b || tied ts isGroup b a) _ o)) (λ m. inr (inl (m .1, m .2))) (tied-added isArrow a b q))
+      (or-cases (tied (addTie t ts) isGroup a b || tied (addTie t ts) isGroup b a) (tied (addTie t ts) isArrow a b) e)
+
+module _ (t : TieRecord) (ts : List TieRecord) (clear : NoReturn ts) where
+  -- AN ARROW
+  module _ (arrow : isArrow t.kind ≡ true) where
+    arrow-step : (a b : ℕ) → leading (addTie t ts) a b ≡ true → (leading ts a b ≡ true) ⊎ ((t .leader ≡ a) × (t .follower ≡ b))
+    arrow-step a b e = ⊎-elim inl (⊎-elim inr (λ m. absurd (not-both t.kind arrow (m .0)))) (leading-added t ts a b e)
+
+    -- it lets none return whose follower does not lead to its leader
+    arrow-clear : (Way (leading ts) t.follower t.leader → ⊥) → NoReturn (addTie t ts)
+    arrow-clear u l f e w = go (tied-added t ts isArrow l f e) (around (leading ts) (leading (addTie t ts)) (λ a. t .leader ≡ a) (λ b. t .follower ≡ b) arrow-step w)
+      where
+        go : (tied ts isArrow l f ≡ true) ⊎ ((isArrow t.kind ≡ true) × (t .leader ≡ l) × (t .follower ≡ f)) → Way (leading ts) f l ⊎ Round (leading ts) (λ a. t .leader ≡ a) (λ b. t .follower ≡ b) f l → ⊥
+        go (inl o) (inl p) = clear l f o p
+        go (inl o) (inr m) = u (way-join (on (rw (m .comes) (m .fro)) (by-arrow ts l f o)) (rw (m .goes) (m .to)))
+        go (inr n) (inl p) = u (rw (n .1, n .2) p)
+        go (inr n) (inr m) = u (rw (m .comes, n .1) (m .fro))
+
+    -- and else its own path returns
+    arrow-returns : Way (leading ts) t.follower t.leader → NoReturn (addTie t ts) → ⊥
+    arrow-returns w h = h t.leader t.follower (tie-new t ts isArrow arrow) (old t ts w)
+
+  -- A GROUP TIE
+  module _ (group : isGroup t.kind ≡ true) where
+    -- an end of the new tie
+    abbrev End : ℕ → Type 0
+    End x = (t .leader ≡ x) ⊎ (t .follower ≡ x)
+
+    -- a new step goes between its ends
+    group-step : (a b : ℕ) → leading (addTie t ts) a b ≡ true → (leading ts a b ≡ true) ⊎ (End a × End b)
+    group-step a b e = ⊎-elim inl (⊎-elim (λ m. inr (inl (m .0), inr (m .1))) (λ m. inr (inr (m .2), inl (m .1)))) (leading-added t ts a b e)
+
+    -- no arrow is new
+    old-arrow : (l f : ℕ) → tied (addTie t ts) isArrow l f ≡ true → tied ts isArrow l f ≡ true
+    old-arrow l f e = ⊎-elim (λ o. o) (λ m. absurd (not-both t.kind (m .0) group)) (tied-added t ts isArrow l f e)
+
+    -- it lets none return where neither end leads to the other
+    apart-clear : (Way (leading ts) t.leader t.follower → ⊥) → (Way (leading ts) t.follower t.leader → ⊥) → NoReturn (addTie t ts)
+    apart-clear u v l f e w = go (old-arrow l f e) (around (leading ts) (leading (addTie t ts)) End End group-step w)
+      where
+        ends : tied ts isArrow l f ≡ true → {x y : ℕ} → End x → End y → Way (leading ts) f x → Way (leading ts) y l → ⊥
+        ends o (inl a) (inl b) p q = clear l f o (way-join p (rw (sym a ∙ b) q))
+        ends o (inl a) (inr b) p q = v (rw (a, b) (way-join (on q (by-arrow ts l f o)) p))
+        ends o (inr a) (inl b) p q = u (rw (a, b) (way-join (on q (by-arrow ts l f o)) p))
+        ends o (inr a) (inr b) p q = clear l f o (way-join p (rw (sym a ∙ b) q))
+
+        go : tied ts isArrow l f ≡ true → Way (leading ts) f l ⊎ Round (leading ts) End End f l → ⊥
+        go o (inl p) = clear l f o p
+        go o (inr m) = ends o (m .goes) (m .comes) (m .to) (m .fro)
+
+    -- nor where each leads to the other
+    shrink : Way (leading ts) t.leader t.follower → Way (leading ts) t.follower t.leader → {x y : ℕ} → Way (leading (addTie t ts)) x y → Way (leading ts) x y
+    shrink p q stay = stay
+    shrink p q (on {b = a} {c = b} w e) = way-join (shrink p q w)
+        (⊎-elim (λ o. on stay o) (⊎-elim (λ m. rw (← (m .0), ← (m .1)) p) (λ m. rw (← (m .1), ← (m .2)) q)) (leading-added t ts a b e))
+
+    -- so it lets none return
+    both-clear : Way (leading ts) t.leader t.follower → Way (leading ts) t.follower t.leader → NoReturn (addTie t ts)
+    both-clear p q l f e w = clear l f (old-arrow l f e) (shrink p q w)
+
+    -- where one leads to the other and not back, an arrow on the way returns
+    there : leading (addTie t ts) t.leader t.follower ≡ true
+    unfolding leading grouped
+    there = or-left (grouped (addTie t ts) t.leader t.follower) _ (or-left (tied (addTie t ts) isGroup t.leader t.follower) _ (tie-new t ts isGroup group))
+
+    back : leading (addTie t ts) t.follower t.leader ≡ true
+    unfolding leading grouped
+    back = or-left (grouped (addTie t ts) t.follower t.leader) _ (or-right (tied (addTie t ts) isGroup t.follower t.leader) _ (tie-new t ts isGroup group))
+
+    -- a path on to where the new tie leads back
+    one-returns : (a b : ℕ) → leading (addTie t ts) b a ≡ true → Way (leading ts) a b → (Way (leading ts) b a → ⊥) → NoReturn (addTie t ts) → ⊥
+    one-returns a b s w u h = ⊎-elim u (λ m. h (m .leader) (m .follower) (tie-old t ts isArrow (m .leader) (m .follower) (m .arrow)) (way-join (on (old t ts (m .fro)) s) (old t ts (m .to)))) (back-or-arrow ts w)
+
+-- THE TESTS
+beq-comm : (a b : Bool) → Bool·beq a b ≡ Bool·beq b a
+beq-comm true true = refl
+beq-comm true false = refl
+beq-comm false true = refl
+beq-comm false false = refl
+
+module _ (n : ℕ) (t : TieRecord) (ts : List TieRecord) (ends : endsBelow n ts ≡ true) (hl : t .leader < n) (hf : t .follower < n) (h : acyclic n ts ≡ true) where
+  ends-added : endsBelow n (addTie t ts) ≡ true
+  unfolding endsBelow addTie
+  ends-added = all-insert tieKey (λ x y. y) (λ x y. refl) (λ u. ltb u.leader n && ltb u.follower n) t (and-both (ltb t.leader n) _ (ltb-true t.leader n hl) (ltb-true t.follower n hf)) (λ y e. e) ts ends
+
+  clear : NoReturn ts
+  clear = of-acyclic n ts ends h
+
+  -- the longer list is acyclic
+  is-acyclic : NoReturn (addTie t ts) → acyclic n (addTie t ts) ≡ true
+  is-acyclic = acyclic-of n (addTie t ts) ends-added
+
+  -- the longer list is not
+  no-acyclic : (NoReturn (addTie t ts) → ⊥) → acyclic n (addTie t ts) ≡ false
+  no-acyclic u = no-true (acyclic n (addTie t ts)) (λ e. u (of-acyclic n (addTie t ts) ends-added e))
+
+  -- an arrow returns just where its follower leads to its leader
+  pub arrow-test : isArrow t.kind ≡ true → reach n (leading ts) t.follower t.leader ≡ not (acyclic n (addTie t ts))
+  arrow-test k = go (reach n (leading ts) t.follower t.leader) refl
+    where
+      go : (b : Bool) → reach n (leading ts) t.follower t.leader ≡ b → b ≡ not (acyclic n (addTie t ts))
+      go true e = rw (no-acyclic (arrow-returns t ts clear k (reached n ts ends t.follower t.leader e)))
+      go false e = rw (is-acyclic (arrow-clear t ts clear k (unreached n ts ends t.follower t.leader e)))
+
+  -- a group tie returns just where one end leads to the other and not back
+  pub group-test : isGroup t.kind ≡ true → Bool·beq (reach n (leading ts) t.follower t.leader) (reach n (leading ts) t.leader t.follower) ≡ acyclic n (addTie t ts)
+  group-test k = go (reach n (leading ts) t.follower t.leader) (reach n (leading ts) t.leader t.follower) refl refl
+    where
+      go : (a b : Bool) → reach n (leading ts) t.follower t.leader ≡ a → reach n (leading ts) t.leader t.follower ≡ b → Bool·beq a b ≡ acyclic n (addTie t ts)
+      go true true p q = sym (is-acyclic (both-clear t ts clear k (reached n ts ends t.leader t.follower q) (reached n ts ends t.follower t.leader p)))
+      go true false p q = sym (no-acyclic (one-returns t ts clear k t.follower t.leader (there t ts clear k) (reached n ts ends t.follower t.leader p) (unreached n ts ends t.leader t.follower q)))
+      go false true p q = sym (no-acyclic (one-returns t ts clear k t.leader t.follower (back t ts clear k) (reached n ts ends t.leader t.follower q) (unreached n ts ends t.follower t.leader p)))
+      go false false p q = sym (is-acyclic (apart-clear t ts clear k (unreached n ts ends t.leader t.follower q) (unreached n ts ends t.follower t.leader p)))
+
+-- THE SAME OF A TIE AS IT IS MADE
+module _ (n : ℕ) (ts : List TieRecord) (ends : endsBelow n ts ≡ true) (k l f : ℕ) (hl : l < n) (hf : f < n) (h : acyclic n ts ≡ true) where
+  pub arrow-made : outside 1 3 k ≡ false → (k ≡ 3 → ⊥) → reach n (leading ts) f l ≡ not (acyclic n (addTie (makeTie k l f) ts))
+  unfolding makeTie isGroup outside
+  arrow-made r u = let m = or-none (ltb k 1) (ltb 3 k) r in
+      rw (eqb-other k 3 u) (arrow-test n (record { kind = k; leader = l; follower = f }) ts ends hl hf h (arrow-of k (omega (arith, ge-of k 1 (m .0))) (omega (arith, ge-of 3 k (m .1)))))
+
+  -- a group tie, stored with the lower number as leader
+  pub group-made : k ≡ 3 → not (Bool·beq (reach n (leading ts) f l) (reach n (leading ts) l f)) ≡ not (acyclic n (addTie (makeTie k l f) ts))
+  unfolding makeTie isGroup
+  group-made e = rw e (go (below l f))
+    where
+      three : (a b : ℕ) → a < n → b < n → Bool·beq (reach n (leading ts) b a) (reach n (leading ts) a b) ≡ acyclic n (addTie (record { kind = 3; leader = a; follower = b }) ts)
+      three a b ha hb = group-test n (record { kind = 3; leader = a; follower = b }) ts ends ha hb h refl
+
+      go : {b : Bool} → Below l f b → not (Bool·beq (reach n (leading ts) f l) (reach n (leading ts) l f)) ≡ not (acyclic n (addTie (record { kind = 3; leader = min l f; follower = max l f }) ts))
+      go (under q) = let x : min l f ≡ l = omega arith in let y : max l f ≡ f = omega arith in rw (x, y) (ap not (three l f hl hf))
+      go (over q) = let x : min l f ≡ f = omega arith in let y : max l f ≡ l = omega arith in rw (x, y) (ap not (beq-comm (reach n (leading ts) f l) (reach n (leading ts) l f) ∙ three f l hf hl))

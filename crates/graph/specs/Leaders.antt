@@ -1,0 +1,21 @@
+-- Tests of ties that the contracts cite. Assumes nothing.
+use mathlib.Core.Bool.{Bool, _&&_}
+use mathlib.Core.List.{List}
+use Prim.Native.Nat.{ℕ}
+use lib.Dec.{ltb, eqb}
+use Rattle.rules.specs.Base.{all, any}
+use Rattle.rules.specs.Sets.{Set}
+use Rattle.rules.specs.Window.{TieRecord}
+use Rattle.rules.specs.Ties.{isArrow}
+
+-- both ends of each tie are below n
+unfoldable pub endsBelow : ℕ → List TieRecord → Bool
+endsBelow n ts = all (λ t. ltb t.leader n && ltb t.follower n) ts
+
+-- a wait or fall tie from k to a member of the set
+unfoldable pub leadsTo : Set → ℕ → TieRecord → Bool
+leadsTo s k t = isArrow t.kind && eqb t.leader k && s t.follower
+
+-- "all leaders of wait or fall ties to any member"
+unfoldable pub leadersOf : List TieRecord → Set → Set
+leadersOf ts s k = any (leadsTo s k) ts

@@ -1,0 +1,2 @@
+-- Groups, end sets and leaders, read from a section of ties.
+pub mod Leaders

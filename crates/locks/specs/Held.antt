@@ -1,0 +1,43 @@
+-- One entry's locks as sets of changes, and the locks changed by entries. Assumes nothing.
+use mathlib.Core.Path.{_≡_}
+use mathlib.Core.Bool.{true, cond, _&&_}
+use Prim.Native.Nat.{ℕ, _≤_}
+use lib.Dec.{ltb, eqb}
+use Rattle.rules.specs.Sets.{Set}
+use Rattle.rules.specs.Locks.{clash}
+
+-- every lock is "0 none, 1 read or 2 write"
+unfoldable pub Modes : (ℕ → ℕ → ℕ) → Type 0
+Modes held = (e c : ℕ) → held e c ≤ 2
+
+-- there is no lock on an entry from a number on
+unfoldable pub NoneFrom : ℕ → (ℕ → ℕ → ℕ) → Type 0
+NoneFrom entries held = (e c : ℕ) → entries ≤ e → held e c ≡ 0
+
+-- one entry's locks, a row: which change holds it in a mode
+unfoldable pub inMode : ℕ → (ℕ → ℕ) → Set
+inMode mode row c = ltb c 256 && eqb (row c) mode
+
+-- which change holds it at all
+unfoldable pub holding : (ℕ → ℕ) → Set
+holding row c = ltb c 256 && ltb 0 (row c)
+
+-- whose lock on it clashes with a mode
+unfoldable pub clashesWith : ℕ → (ℕ → ℕ) → Set
+clashesWith mode row c = ltb c 256 && clash (row c) mode
+
+-- a row without the locks of a set of changes
+unfoldable pub rowWithout : Set → (ℕ → ℕ) → ℕ → ℕ
+rowWithout s row c = cond (s c) 0 (row c)
+
+-- "An ended change loses its locks": every row without those of the set
+unfoldable pub released : Set → (ℕ → ℕ → ℕ) → ℕ → ℕ → ℕ
+released s held e = rowWithout s (held e)
+
+-- the locks with the rows of a set of entries changed by one rule
+unfoldable pub changedOn : Set → ((ℕ → ℕ) → ℕ → ℕ) → (ℕ → ℕ → ℕ) → ℕ → ℕ → ℕ
+changedOn on rule held e c = cond (on e) (rule (held e) c) (held e c)
+
+-- "65,535 is every entry"
+unfoldable pub everyEntry : Set
+everyEntry e = true

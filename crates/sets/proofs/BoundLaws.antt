@@ -1,0 +1,144 @@
+-- Of the numbers below a bound: whether one passes, all pass, how many, which is the lowest. What tests that agree have alike, and bounds past which none passes. Assumes nothing.
+use mathlib.Core.Path.{_≡_, refl, sym, ap, _∙_}
+use mathlib.Core.Bool.{Bool, true, false, cond, false≢true}
+use Prim.Native.Nat.{ℕ, zero, suc, _+_, _-_, _≤_, _<_}
+use native.Mathlib.Nat.{add-zero, add-suc, not-suc-le-zero}
+use native.Mathlib.Omega.{arith}
+use Rattle.rules.specs.Base.{anyBelow, allBelow, countBelow, lowestBelow}
+use Rattle.rules.proofs.BaseLaws.{any-intro, any-elim, anyBelow-none, none-below, both-ways, Within, count-same, Same, same, other, same?, Below, under, over, below}
+use Rattle.layout.specs.Codec.{bit}
+
+-- tests that agree below the bound
+module _ (f g : ℕ → Bool) where
+  pub any-ext : (n : ℕ) → ((k : ℕ) → k < n → f k ≡ g k) → anyBelow n f ≡ anyBelow n g
+  unfolding anyBelow
+  any-ext zero h = refl
+  any-ext (suc n) h = rw (any-ext n (λ k l. h k (omega arith)), h n (omega arith))
+
+  pub all-ext : (n : ℕ) → ((k : ℕ) → k < n → f k ≡ g k) → allBelow n f ≡ allBelow n g
+  unfolding allBelow
+  all-ext zero h = refl
+  all-ext (suc n) h = rw (all-ext n (λ k l. h k (omega arith)), h n (omega arith))
+
+  pub count-ext : (n : ℕ) → ((k : ℕ) → k < n → f k ≡ g k) → countBelow n f ≡ countBelow n g
+  unfolding countBelow
+  count-ext zero h = refl
+  count-ext (suc n) h = rw (count-ext n (λ k l. h k (omega arith)), h n (omega arith))
+
+  pub lowest-ext : (n : ℕ) → ((k : ℕ) → k < n → f k ≡ g k) → lowestBelow n f ≡ lowestBelow n g
+  unfolding lowestBelow
+  lowest-ext zero h = refl
+  lowest-ext (suc n) h = rw (any-ext n (λ k l. h k (omega arith)), lowest-ext n (λ k l. h k (omega arith)), h n (omega arith))
+
+module _ (p : ℕ → Bool) where
+  -- the lowest is the one that passes, or the bound, with none before it
+  pub lowest-is : (n r : ℕ) → r ≤ n → (r < n → p r ≡ true) → ((k : ℕ) → k < r → p k ≡ false) → lowestBelow n p ≡ r
+  unfolding lowestBelow
+  lowest-is zero r h hit none = omega arith
+  lowest-is (suc n) r h hit none = go (same? r (suc n)) (same? r n) (lowest-is n r)
+    where
+      low : r ≡ suc n → anyBelow n p ≡ false
+      low e = none-below n p (λ d l q. false≢true (sym (none d (omega arith)) ∙ q))
+
+      go : {x y : Bool} → Same r (suc n) x → Same r n y → (r ≤ n → (r < n → p r ≡ true) → ((k : ℕ) → k < r → p k ≡ false) → lowestBelow n p ≡ r)
+          → cond (anyBelow n p) (lowestBelow n p) (cond (p n) n (suc n)) ≡ r
+      go (same e) s ih = rw (low e, none n (omega arith)) (sym e)
+      go (other u) (same e) ih = rw (none-below n p (λ d l q. false≢true (sym (none d (omega arith)) ∙ q)), rw e at (hit (omega arith))) (sym e)
+      go (other u) (other v) ih = rw (any-intro n p r (omega arith) (hit (omega arith))) (ih (omega arith) (λ l. hit (omega arith)) none)
+
+  -- at most the bound
+  pub lowest-most : (n : ℕ) → lowestBelow n p ≤ n
+  unfolding lowestBelow
+  lowest-most zero = omega arith
+  lowest-most (suc n) = go (anyBelow n p) (p n) (lowest-most n)
+    where
+      go : (a b : Bool) → lowestBelow n p ≤ n → cond a (lowestBelow n p) (cond b n (suc n)) ≤ suc n
+      go true b h = omega arith
+      go false true h = omega arith
+      go false false h = omega arith
+
+  -- where one passes, the lowest passes, and none below it
+  pub lowest-hit : (n : ℕ) → anyBelow n p ≡ true → (lowestBelow n p < n) × (p (lowestBelow n p) ≡ true)
+  unfolding anyBelow lowestBelow
+  lowest-hit zero e = absurd (false≢true e)
+  lowest-hit (suc n) e = go (anyBelow n p) (p n) refl refl (lowest-hit n)
+    where
+      go : (a b : Bool) → anyBelow n p ≡ a → p n ≡ b → (anyBelow n p ≡ true → (lowestBelow n p < n) × (p (lowestBelow n p) ≡ true))
+          → (cond a (lowestBelow n p) (cond b n (suc n)) < suc n) × (p (cond a (lowestBelow n p) (cond b n (suc n))) ≡ true)
+      go true b q r ih = let m = ih q in (omega (arith, m .0), m .1)
+      go false true q r ih = (omega arith, r)
+      go false false q r ih = absurd (false≢true (sym (rw (q, r)) ∙ e))
+
+  -- none below the lowest passes
+  pub lowest-below : (n k : ℕ) → k < lowestBelow n p → p k ≡ false
+  unfolding lowestBelow
+  lowest-below zero k h = absurd (not-suc-le-zero h)
+  lowest-below (suc n) k h = go (anyBelow n p) (p n) refl refl h (lowest-below n k)
+    where
+      go : (a b : Bool) → anyBelow n p ≡ a → p n ≡ b → k < cond a (lowestBelow n p) (cond b n (suc n)) → (k < lowestBelow n p → p k ≡ false) → p k ≡ false
+      go true b q r l ih = ih l
+      go false true q r l ih = anyBelow-none n p q k l
+      go false false q r l ih = at (same? k n)
+        where
+          at : {x : Bool} → Same k n x → p k ≡ false
+          at (same e) = rw e r
+          at (other u) = anyBelow-none n p q k (omega arith)
+
+  -- a bound past which none passes plays no part
+  module _ (n m : ℕ) (le : n ≤ m) (past : (k : ℕ) → n ≤ k → p k ≡ false) where
+    before : (k : ℕ) → p k ≡ true → k < n
+    before k e = go (below k n)
+      where
+        go : {b : Bool} → Below k n b → k < n
+        go (under h) = h
+        go (over h) = absurd (false≢true (sym (past k h) ∙ e))
+
+    pub any-bound : anyBelow m p ≡ anyBelow n p
+    any-bound = both-ways _ _ (λ e. let a = any-elim m p e in any-intro n p (a .0) (before (a .0) (a .2)) (a .2))
+        (λ e. let a = any-elim n p e in any-intro m p (a .0) (omega (arith, a .1)) (a .2))
+
+    pub lowest-bound : anyBelow n p ≡ true → lowestBelow m p ≡ lowestBelow n p
+    lowest-bound e = let h = lowest-hit n e in lowest-is m (lowestBelow n p) (omega (arith, h .0)) (λ l. h .1) (lowest-below n)
+
+  count-from : (n i : ℕ) → ((k : ℕ) → n ≤ k → p k ≡ false) → countBelow (n + i) p ≡ countBelow n p
+  unfolding countBelow
+  count-from n zero past = ap (λ x. countBelow x p) (add-zero n)
+  count-from n (suc i) past = ap (λ x. countBelow x p) (add-suc n i) ∙ rw (past (n + i) (omega arith)) (count-from n i past)
+
+  -- how many pass, whatever the bound past them
+  pub count-bound : (n m : ℕ) → n ≤ m → ((k : ℕ) → n ≤ k → p k ≡ false) → countBelow m p ≡ countBelow n p
+  count-bound n m le past = let e : n + (m - n) ≡ m = omega arith in ap (λ x. countBelow x p) (sym e) ∙ count-from n (m - n) past
+
+  -- counted in two parts, and the first apart
+  pub count-add : (n m : ℕ) → countBelow (n + m) p ≡ countBelow n p + countBelow m (λ k. p (n + k))
+  unfolding countBelow
+  count-add n zero = rw (add-zero n, add-zero (countBelow n p))
+  count-add n (suc m) = ap (λ x. countBelow x p) (add-suc n m) ∙ go (p (n + m)) (count-add n m)
+    where
+      go : (b : Bool) → countBelow (n + m) p ≡ countBelow n p + countBelow m (λ k. p (n + k))
+          → cond b (suc (countBelow (n + m) p)) (countBelow (n + m) p) ≡ countBelow n p + cond b (suc (countBelow m (λ k. p (n + k)))) (countBelow m (λ k. p (n + k)))
+      go true e = omega arith
+      go false e = e
+
+  -- the first counted apart
+  pub count-first : (n : ℕ) → countBelow (suc n) p ≡ bit (p 0) + countBelow n (λ k. p (suc k))
+  unfolding countBelow
+  count-first zero = go (p 0)
+    where
+      go : (b : Bool) → cond b 1 0 ≡ bit b + 0
+      go true = refl
+      go false = refl
+  count-first (suc n) = go (p (suc n)) (count-first n)
+    where
+      go : (b : Bool) → countBelow (suc n) p ≡ bit (p 0) + countBelow n (λ k. p (suc k))
+          → cond b (suc (countBelow (suc n) p)) (countBelow (suc n) p) ≡ bit (p 0) + cond b (suc (countBelow n (λ k. p (suc k)))) (countBelow n (λ k. p (suc k)))
+      go true e = omega arith
+      go false e = e
+
+-- a set that holds another and one more has more members
+pub count-more : (n : ℕ) (s t : ℕ → Bool) → Within n s t → (c : ℕ) → c < n → s c ≡ false → t c ≡ true → countBelow n s < countBelow n t
+count-more n s t w c h e q = go (below (countBelow n s) (countBelow n t))
+  where
+    go : {b : Bool} → Below (countBelow n s) (countBelow n t) b → countBelow n s < countBelow n t
+    go (under l) = l
+    go (over l) = absurd (false≢true (sym e ∙ count-same n s t w l c h q))

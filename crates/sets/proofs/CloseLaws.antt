@@ -1,0 +1,246 @@
+-- Ties in bytes as a list of ties, and the least set that none of them adds to as the closure of the rules. Assumes nothing.
+use mathlib.Core.Path.{_≡_, sym, ap, _∙_}
+use mathlib.Core.Bool.{Bool, true, false, _&&_, false≢true}
+use mathlib.Core.List.{List, [], _∷_}
+use mathlib.Core.Logic.{_⊎_, inl, inr, ⊎-elim}
+use Prim.Native.Nat.{ℕ, zero, suc, _+_, _*_, _≤_, _<_}
+use native.Mathlib.Nat.{add-zero, not-suc-le-zero, le-of-suc-le-suc}
+use native.Mathlib.Omega.{arith}
+use lib.Dec.{leb, eqb}
+use lib.ListN.{length, getD}
+use Rattle.rules.specs.Base.{any}
+use Rattle.rules.specs.Sets.{Set, closure}
+use Rattle.rules.specs.Window.{TieRecord}
+use Rattle.rules.specs.Ties.{isWait, isFall, isGroup, isArrow, tied, grouped, falling, leading}
+use Rattle.rules.proofs.BaseLaws.{or-left, or-right, or-cases, and-left, and-right, both-ways, eqb-eq, eqb-same, le-of, leb-true, Same, same, other, same?}
+use Rattle.rules.proofs.SetLaws.{closure-holds, closure-closed, closure-to}
+use Rattle.layout.specs.Codec.{noTie, tieBytes, tieByte, tieSection}
+use Rattle.layout.proofs.SectionLaws.{length-table, getD-table0}
+use Rattle.layout.proofs.CodecLaws.{slot4, rest4}
+use Rattle.sets.specs.declared.Along.{Along}
+use Rattle.sets.specs.declared.Along.the-variants.{Groups, Falls, Arrows}
+use Rattle.sets.specs.Closing.{relation, lowKind, follows, tieAt, passed}
+use Rattle.sets.proofs.PassLaws.{pulled-follower, pulled-leader, pulled-within, Stable, Growing, growing-on, growing-end}
+
+-- TIES IN BYTES
+pub length-ties : (ts : List TieRecord) → length (tieSection ts) ≡ 2048
+unfolding tieSection
+length-ties ts = length-table 2048 0 (tieByte ts)
+
+tie-byte : (ts : List TieRecord) (j i : ℕ) → j < 512 → i < 4 → getD (tieSection ts) (j * 4 + i) 0 ≡ getD (tieBytes (getD ts j noTie)) i 0
+unfolding tieSection tieByte
+tie-byte ts j i h l = getD-table0 2048 (tieByte ts) (j * 4 + i) 0 (omega arith) ∙ rw (slot4 j i l, rest4 j i l)
+
+-- the ties read from a section are those that it holds
+pub tie-read : (ts : List TieRecord) (j : ℕ) → j < 512 → tieAt (tieSection ts) j ≡ getD ts j noTie
+unfolding tieAt tieBytes
+tie-read ts j h = λ i. record {
+  kind = (ap (λ x. getD (tieSection ts) x 0) (sym (add-zero (j * 4))) ∙ tie-byte ts j 0 h (omega arith)) i;
+  leader = tie-byte ts j 1 h (omega arith) i;
+  follower = tie-byte ts j 2 h (omega arith) i;
+}
+
+-- of the first n ties of a section
+pub section-read : (bs : List ℕ) (ts : List TieRecord) (n : ℕ) → 4 * n ≤ length bs → bs ≡ tieSection ts → (j : ℕ) → j < n → tieAt bs j ≡ getD ts j noTie
+section-read bs ts n room e j h = ap (λ l. tieAt l j) e ∙ tie-read ts j (omega (arith, length-ties ts, ap length e))
+
+-- their ends are bytes
+pub section-ends : (bs : List ℕ) (ts : List TieRecord) (n : ℕ) → 4 * n ≤ length bs → bs ≡ tieSection ts → ((i : ℕ) → getD bs i 0 < 256)
+    → (j : ℕ) → j < n → (getD ts j noTie .leader < 256) × (getD ts j noTie .follower < 256)
+unfolding tieAt
+section-ends bs ts n room e bytes j h = let q = section-read bs ts n room e j h in (rw (← q) (bytes (j * 4 + 1)), rw (← q) (bytes (j * 4 + 2)))
+
+-- one of a list passes: it stands at a place
+module _ {ℓ} {A : Type ℓ} (p : A → Bool) (d : A) where
+  pub any-place : (l : List A) → any p l ≡ true → (j : ℕ) × (j < length l) × (p (getD l j d) ≡ true)
+  unfolding any
+  any-place [] e = absurd (false≢true e)
+  any-place (x ∷ l) e = ⊎-elim (λ q. (0, omega arith, q)) (λ q. let m = any-place l q in (suc (m .0), omega (arith, m .1), m .2)) (or-cases (p x) (any p l) e)
+
+  -- what passes at a place passes in the list
+  pub any-at : (l : List A) (j : ℕ) → j < length l → p (getD l j d) ≡ true → any p l ≡ true
+  unfolding any
+  any-at [] j h e = absurd (not-suc-le-zero h)
+  any-at (x ∷ l) zero h e = or-left (p x) (any p l) e
+  any-at (x ∷ l) (suc j) h e = or-right (p x) (any p l) (any-at l j (le-of-suc-le-suc h) e)
+
+-- a tie of a kind that stands, by its place
+pub record Stands (ts : List TieRecord) (kind : ℕ → Bool) (a b : ℕ) : Type 0 where
+  pub place : ℕ
+  pub below : place < length ts
+  pub has : kind (getD ts place noTie .kind) ≡ true
+  pub leads : getD ts place noTie .leader ≡ a
+  pub follow : getD ts place noTie .follower ≡ b
+
+module _ (ts : List TieRecord) (kind : ℕ → Bool) where
+  pub tied-place : (a b : ℕ) → tied ts kind a b ≡ true → Stands ts kind a b
+  unfolding tied
+  tied-place a b e = let m = any-place (λ t. kind t.kind && eqb t.leader a && eqb t.follower b) noTie ts e in go (m .0) (m .1) (m .2)
+    where
+      go : (j : ℕ) → j < length ts → kind (getD ts j noTie .kind) && eqb (getD ts j noTie .leader) a && eqb (getD ts j noTie .follower) b ≡ true → Stands ts kind a b
+      go j h q =
+          let t = getD ts j noTie in
+          let r = and-left (kind (t .kind) && eqb (t .leader) a) (eqb (t .follower) b) q in
+          record {
+            place = j;
+            below = h;
+            has = and-left (kind (t .kind)) (eqb (t .leader) a) r;
+            leads = eqb-eq (t .leader) a (and-right (kind (t .kind)) (eqb (t .leader) a) r);
+            follow = eqb-eq (t .follower) b (and-right (kind (t .kind) && eqb (t .leader) a) (eqb (t .follower) b) q);
+          }
+
+  -- a tie at a place ties its leader to its follower
+  pub tied-at : (j : ℕ) → j < length ts → kind (getD ts j noTie .kind) ≡ true → tied ts kind (getD ts j noTie .leader) (getD ts j noTie .follower) ≡ true
+  unfolding tied
+  tied-at j h e = any-at (λ t. kind t.kind && eqb t.leader (getD ts j noTie .leader) && eqb t.follower (getD ts j noTie .follower)) noTie ts j h
+      (rw (e, eqb-same (getD ts j noTie .leader), eqb-same (getD ts j noTie .follower)))
+
+-- KINDS
+pub follows-of : (low k : ℕ) → low ≤ k → k ≤ 3 → follows low k ≡ true
+unfolding follows
+follows-of low k h l = rw (leb-true low k h, leb-true k 3 l)
+
+-- what such a kind is
+pub follows-low : (low k : ℕ) → follows low k ≡ true → low ≤ k
+unfolding follows
+follows-low low k e = le-of low k (and-left (leb low k) (leb k 3) e)
+
+pub follows-high : (low k : ℕ) → follows low k ≡ true → k ≤ 3
+unfolding follows
+follows-high low k e = le-of k 3 (and-right (leb low k) (leb k 3) e)
+
+-- kind 3 is the group's
+pub group-is : (k : ℕ) → k ≡ 3 → isGroup k ≡ true
+unfolding isGroup
+group-is k e = rw e
+
+pub is-group : (k : ℕ) → isGroup k ≡ true → k ≡ 3
+unfolding isGroup
+is-group k e = eqb-eq k 3 e
+
+-- a group tie is gone along from leader to follower whatever the others
+low-most : (along : Along) → lowKind along ≤ 3
+low-most Groups = omega arith
+low-most Falls = omega arith
+low-most Arrows = omega arith
+
+low-least : (along : Along) → 1 ≤ lowKind along
+low-least Groups = omega arith
+low-least Falls = omega arith
+low-least Arrows = omega arith
+
+-- a group tie is gone along whichever others are
+group-follows : (along : Along) (k : ℕ) → isGroup k ≡ true → follows (lowKind along) k ≡ true
+unfolding isGroup
+group-follows along k e = rw (eqb-eq k 3 e) (follows-of (lowKind along) 3 (low-most along) (omega arith))
+
+-- a fall tie is, with falls
+fall-follows : (k : ℕ) → isFall k ≡ true → follows 2 k ≡ true
+unfolding isFall
+fall-follows k e = rw (eqb-eq k 2 e) (follows-of 2 2 (omega arith) (omega arith))
+
+-- an arrow is, with arrows
+arrow-follows : (k : ℕ) → isArrow k ≡ true → follows 1 k ≡ true
+unfolding isArrow isWait isFall
+arrow-follows k e = ⊎-elim (λ q. rw (eqb-eq k 1 q) (follows-of 1 1 (omega arith) (omega arith))) (λ q. rw (eqb-eq k 2 q) (follows-of 1 2 (omega arith) (omega arith))) (or-cases (eqb k 1) (eqb k 2) e)
+
+-- what a kind that is gone along can be
+kind-cases : (along : Along) (k : ℕ) → follows (lowKind along) k ≡ true → (isGroup k ≡ true) ⊎ (((lowKind along ≤ 2) × (isFall k ≡ true)) ⊎ ((lowKind along ≤ 1) × (isWait k ≡ true)))
+unfolding isGroup isFall isWait
+kind-cases along k e = go (same? k 3) (same? k 2) (follows-low (lowKind along) k e) (follows-high (lowKind along) k e)
+  where
+    go : {x y : Bool} → Same k 3 x → Same k 2 y → lowKind along ≤ k → k ≤ 3 → (eqb k 3 ≡ true) ⊎ (((lowKind along ≤ 2) × (eqb k 2 ≡ true)) ⊎ ((lowKind along ≤ 1) × (eqb k 1 ≡ true)))
+    go (same q) s l h = inl (rw q)
+    go (other u) (same q) l h = inr (inl (omega arith, rw q))
+    go (other u) (other v) l h = let q : k ≡ 1 = omega (arith, low-least along) in inr (inr (omega arith, rw q))
+
+-- THE RELATION, TIE BY TIE
+module _ (ts : List TieRecord) where
+  by-group : (along : Along) (a b : ℕ) → grouped ts a b ≡ true → relation along ts a b ≡ true
+  unfolding relation falling leading
+  by-group Groups a b e = e
+  by-group Falls a b e = or-left (grouped ts a b) (tied ts isFall a b) e
+  by-group Arrows a b e = or-left (grouped ts a b) (tied ts isArrow a b) e
+
+  -- a fall tie's step
+  by-fall : (along : Along) → lowKind along ≤ 2 → (j : ℕ) → j < length ts → isFall (getD ts j noTie .kind) ≡ true → relation along ts (getD ts j noTie .leader) (getD ts j noTie .follower) ≡ true
+  unfolding relation falling leading isArrow
+  by-fall Groups l j h e = absurd (omega arith)
+  by-fall Falls l j h e = or-right (grouped ts (getD ts j noTie .leader) (getD ts j noTie .follower)) _ (tied-at ts isFall j h e)
+  by-fall Arrows l j h e = or-right (grouped ts (getD ts j noTie .leader) (getD ts j noTie .follower)) _ (tied-at ts isArrow j h (or-right (isWait (getD ts j noTie .kind)) (isFall (getD ts j noTie .kind)) e))
+
+  -- a wait tie's step
+  by-wait : (along : Along) → lowKind along ≤ 1 → (j : ℕ) → j < length ts → isWait (getD ts j noTie .kind) ≡ true → relation along ts (getD ts j noTie .leader) (getD ts j noTie .follower) ≡ true
+  unfolding relation falling leading isArrow
+  by-wait Groups l j h e = absurd (omega arith)
+  by-wait Falls l j h e = absurd (omega arith)
+  by-wait Arrows l j h e = or-right (grouped ts (getD ts j noTie .leader) (getD ts j noTie .follower)) _ (tied-at ts isArrow j h (or-left (isWait (getD ts j noTie .kind)) (isFall (getD ts j noTie .kind)) e))
+
+  -- a tie that is gone along, and a group tie back
+  pub relation-on : (along : Along) (j : ℕ) → j < length ts → follows (lowKind along) (getD ts j noTie .kind) ≡ true → relation along ts (getD ts j noTie .leader) (getD ts j noTie .follower) ≡ true
+  unfolding grouped
+  relation-on along j h e = ⊎-elim (λ g. by-group along _ _ (or-left (tied ts isGroup (getD ts j noTie .leader) (getD ts j noTie .follower)) _ (tied-at ts isGroup j h g)))
+      (⊎-elim (λ m. by-fall along (m .0) j h (m .1)) (λ m. by-wait along (m .0) j h (m .1))) (kind-cases along (getD ts j noTie .kind) e)
+
+  -- a group tie back
+  pub relation-back : (along : Along) (j : ℕ) → j < length ts → isGroup (getD ts j noTie .kind) ≡ true → relation along ts (getD ts j noTie .follower) (getD ts j noTie .leader) ≡ true
+  unfolding grouped
+  relation-back along j h e = by-group along _ _ (or-right (tied ts isGroup (getD ts j noTie .follower) (getD ts j noTie .leader)) _ (tied-at ts isGroup j h e))
+
+  -- and no others
+  on-kind : {f g : ℕ → Bool} {a b : ℕ} → ((k : ℕ) → f k ≡ true → g k ≡ true) → Stands ts f a b → Stands ts g a b
+  on-kind w m = record { place = m .place; below = m .below; has = w _ (m .has); leads = m .leads; follow = m .follow }
+
+  -- a step of the relation, by the place of its tie
+  abbrev Step : Along → ℕ → ℕ → Type 0
+  Step along a b = Stands ts (follows (lowKind along)) a b ⊎ Stands ts isGroup b a
+
+  group-step : (along : Along) (a b : ℕ) → grouped ts a b ≡ true → Step along a b
+  unfolding grouped
+  group-step along a b e = ⊎-elim (λ q. inl (on-kind (group-follows along) (tied-place ts isGroup a b q))) (λ q. inr (tied-place ts isGroup b a q)) (or-cases (tied ts isGroup a b) (tied ts isGroup b a) e)
+
+  -- each step of the relation is one
+  pub relation-step : (along : Along) (a b : ℕ) → relation along ts a b ≡ true → Step along a b
+  unfolding relation falling leading
+  relation-step Groups a b e = group-step Groups a b e
+  relation-step Falls a b e = ⊎-elim (group-step Falls a b) (λ q. inl (on-kind fall-follows (tied-place ts isFall a b q))) (or-cases (grouped ts a b) (tied ts isFall a b) e)
+  relation-step Arrows a b e = ⊎-elim (group-step Arrows a b) (λ q. inl (on-kind arrow-follows (tied-place ts isArrow a b q))) (or-cases (grouped ts a b) (tied ts isArrow a b) e)
+
+  -- the least stable set that holds the seed is the closure, where the ends are below the bound
+  module _ (m : ℕ) (along : Along) (ends : (j : ℕ) → j < length ts → (getD ts j noTie .leader < m) × (getD ts j noTie .follower < m)) (seed r : Set)
+      (g : Growing (lowKind along) (λ j. getD ts j noTie) (length ts) seed r) (z : Stable (lowKind along) (λ j. getD ts j noTie) (length ts) r) where
+    onward : (a b : ℕ) → r a ≡ true → relation along ts a b ≡ true → r b ≡ true
+    onward a b e q = ⊎-elim
+        (λ (s : Stands ts (follows (lowKind along)) a b). rw (s .follow) at (z (s .place) (s .below) _ (pulled-follower (lowKind along) (getD ts (s .place) noTie) r (s .has) (rw (s .leads) e))))
+        (λ (s : Stands ts isGroup b a). rw (s .leads) at (z (s .place) (s .below) _ (pulled-leader (lowKind along) (getD ts (s .place) noTie) r (s .has) (rw (s .follow) e))))
+        (relation-step along a b q)
+
+    -- none of the ties adds to the closure
+    stable : Stable (lowKind along) (λ j. getD ts j noTie) (length ts) (closure m (relation along ts) seed)
+    stable j h = pulled-within (lowKind along) (getD ts j noTie) (closure m (relation along ts) seed) (closure m (relation along ts) seed) (λ k e. e)
+        (λ f e. closure-closed m (relation along ts) seed _ _ (ends j h .0) (ends j h .1) e (relation-on along j h f))
+        (λ f e. closure-closed m (relation along ts) seed _ _ (ends j h .1) (ends j h .0) e (relation-back along j h f))
+
+    -- so the two are the same set
+    pub stable-closure : (k : ℕ) → r k ≡ closure m (relation along ts) seed k
+    stable-closure k = both-ways (r k) (closure m (relation along ts) seed k)
+        (g .least (closure m (relation along ts) seed) stable (closure-holds m (relation along ts) seed) k)
+        (closure-to m (relation along ts) (λ d. r d ≡ true) onward seed (g .holds) k)
+
+-- OVER THE BYTES
+-- ties that are the same add the same
+stable-same : (low n : ℕ) (t v : ℕ → TieRecord) (u : Set) → ((j : ℕ) → j < n → t j ≡ v j) → Stable low t n u → Stable low v n u
+stable-same low n t v u e z j h k q = z j h k (rw (e j h) q)
+
+-- the least stable set is the closure along the ties that a section holds
+section-closure : (along : Along) (bs : List ℕ) (ts : List TieRecord) (n : ℕ) (seed r : Set) → ((i : ℕ) → getD bs i 0 < 256) → 4 * n ≤ length bs → length ts ≡ n → bs ≡ tieSection ts
+    → Growing (lowKind along) (tieAt bs) n seed r → Stable (lowKind along) (tieAt bs) n r → (k : ℕ) → r k ≡ closure 256 (relation along ts) seed k
+section-closure along bs ts n seed r bytes room len e g z = stable-closure ts 256 along (λ j h. section-ends bs ts n room e bytes j (omega arith)) seed r
+    (record { holds = g .holds; least = λ u w. g .least u (stable-same (lowKind along) n (λ j. getD ts j noTie) (tieAt bs) u (λ j h. sym (section-read bs ts n room e j h)) (rw len at w)) })
+    (rw len (stable-same (lowKind along) n (tieAt bs) (λ j. getD ts j noTie) r (section-read bs ts n room e) z))
+
+-- what passes over a section come to, the last of which added nothing
+pub closed-section : (along : Along) (low : ℕ) (bs : List ℕ) (ts : List TieRecord) (n : ℕ) (seed s r : Set) → low ≡ lowKind along → ((i : ℕ) → getD bs i 0 < 256) → 4 * n ≤ length bs → length ts ≡ n → bs ≡ tieSection ts
+    → Growing low (tieAt bs) n seed s → r ≡ passed low (tieAt bs) n s → ((k : ℕ) → r k ≡ s k) → (k : ℕ) → r k ≡ closure 256 (relation along ts) seed k
+closed-section along low bs ts n seed s r q bytes room len e g p h = section-closure along bs ts n seed r bytes room len e
+    (rw q at (growing-on low (tieAt bs) n seed s r p g)) (rw q at (growing-end low (tieAt bs) n s r p h))

@@ -1,0 +1,188 @@
+-- The binary digits of a number, lowest first, as `unpack` reads them: of 0 and of a power, of the operators on words, of the place of the lowest. Assumes nothing.
+use mathlib.Core.Path.{_≡_, refl, sym, ap, ap₂, _∙_}
+use mathlib.Core.Bool.{Bool, true, false, not, _&&_, _||_, or-false, true≢false, false≢true}
+use Prim.Native.Nat.{ℕ, zero, suc, _+_, _-_, _*_, _/_, _%_, _^_, _≤_, _<_, min, max}
+use native.Mathlib.Nat.{zero-add, suc-add, mul-one, div-div-eq-div-mul, div-one, pow-succ', mod-lt, zero-lt-suc, div-eq-of-lt}
+use native.Mathlib.Numerals.{add-one}
+use native.Mathlib.Omega.{arith}
+use lib.Dec.{eqb, eqb·zero-suc, eqb·suc-zero, eqb·suc-suc}
+use lib.Pow.{pow-mono, mod-pow-add, shr-shr}
+use lib.Bits.{bitAnd, bitOr, and-step, or-step, and-shr, or-shr, shifted-half, shifted-even}
+use lib.Count.{trailingZeros, under}
+use Rattle.layout.specs.Codec.{unpack}
+
+-- a remainder by 2 is 0 or 1
+pub data Digit : ℕ → Type 0 where
+  none : Digit zero
+  one : Digit (suc zero)
+
+-- the remainder by 2 is one
+pub digit : (w : ℕ) → Digit (w % 2)
+digit w = go (w % 2) (mod-lt w (zero-lt-suc 1))
+  where
+    go : (d : ℕ) → d < 2 → Digit d
+    go zero h = none
+    go (suc zero) h = one
+    go (suc (suc d)) h = absurd (omega arith)
+
+-- the lowest digit, and those above it
+pub unpack-first : (w : ℕ) → unpack w 0 ≡ eqb (w % 2) 1
+unfolding unpack
+unpack-first w = ap (λ (x : ℕ). eqb (x % 2) 1) (div-one w)
+
+-- a digit above the lowest is one of the half
+pub unpack-next : (w k : ℕ) → unpack w (suc k) ≡ unpack (w / 2) k
+unfolding unpack
+unpack-next w k = ap (λ (x : ℕ). eqb (x % 2) 1) (ap (λ (x : ℕ). w / x) (pow-succ' 2 k) ∙ sym (div-div-eq-div-mul w 2 (2 ^ k)))
+
+-- 0 has none
+pub unpack-zero : (k : ℕ) → unpack 0 k ≡ false
+unpack-zero zero = unpack-first 0
+unpack-zero (suc k) = unpack-next 0 k ∙ unpack-zero k
+
+-- a number of n digits has none from n on
+pub unpack-above : (w n k : ℕ) → w < 2 ^ n → n ≤ k → unpack w k ≡ false
+unfolding unpack
+unpack-above w n k h l =
+    let q : w < 2 ^ k = omega (arith, pow-mono l) in
+    ap (λ (x : ℕ). eqb (x % 2) 1) (div-eq-of-lt q)
+
+-- a power of 2 has one
+pub unpack-power : (j k : ℕ) → unpack (2 ^ j) k ≡ eqb k j
+unpack-power zero zero = unpack-first 1
+unpack-power zero (suc k) = unpack-next 1 k ∙ unpack-zero k ∙ sym (eqb·suc-zero k)
+unpack-power (suc j) zero =
+    let e : 2 ^ suc j % 2 ≡ 0 = omega arith in unpack-first (2 ^ suc j) ∙ ap (λ (x : ℕ). eqb x 1) e ∙ sym (eqb·zero-suc j)
+unpack-power (suc j) (suc k) =
+    let e : 2 ^ suc j / 2 ≡ 2 ^ j = omega arith in
+    unpack-next (2 ^ suc j) k ∙ ap (λ (x : ℕ). unpack x k) e ∙ unpack-power j k ∙ sym (eqb·suc-suc k j)
+
+-- `|` and `&`
+or-digit : {p q : ℕ} → Digit p → Digit q → eqb (max p q) 1 ≡ eqb p 1 || eqb q 1
+or-digit none none = refl
+or-digit none one = refl
+or-digit one none = refl
+or-digit one one = refl
+
+and-digit : {p q : ℕ} → Digit p → Digit q → eqb (min p q) 1 ≡ eqb p 1 && eqb q 1
+and-digit none none = refl
+and-digit none one = refl
+and-digit one none = refl
+and-digit one one = refl
+
+or-odd : (a b : ℕ) → bitOr a b % 2 ≡ max (a % 2) (b % 2)
+or-odd a b = omega (arith, or-step a b)
+
+and-odd : (a b : ℕ) → bitAnd a b % 2 ≡ min (a % 2) (b % 2)
+and-odd a b = omega (arith, and-step a b)
+
+-- a digit of `|`
+pub unpack-or : (a b k : ℕ) → unpack (bitOr a b) k ≡ unpack a k || unpack b k
+unfolding unpack
+unpack-or a b k =
+    ap (λ (x : ℕ). eqb (x % 2) 1) (or-shr a b k) ∙ ap (λ (x : ℕ). eqb x 1) (or-odd (a / 2 ^ k) (b / 2 ^ k)) ∙ or-digit (digit (a / 2 ^ k)) (digit (b / 2 ^ k))
+
+-- a digit of `&`
+pub unpack-and : (a b k : ℕ) → unpack (bitAnd a b) k ≡ unpack a k && unpack b k
+unfolding unpack
+unpack-and a b k =
+    ap (λ (x : ℕ). eqb (x % 2) 1) (and-shr a b k) ∙ ap (λ (x : ℕ). eqb x 1) (and-odd (a / 2 ^ k) (b / 2 ^ k)) ∙ and-digit (digit (a / 2 ^ k)) (digit (b / 2 ^ k))
+
+-- `!`, of a number of n digits
+not-digit : {p : ℕ} → Digit p → eqb (1 - p) 1 ≡ not (eqb p 1)
+not-digit none = refl
+not-digit one = refl
+
+-- a digit of `!`
+pub unpack-not : (n a k : ℕ) → a < 2 ^ n → k < n → unpack (2 ^ n - 1 - a) k ≡ not (unpack a k)
+unpack-not zero a k h l = absurd (omega arith)
+unpack-not (suc n) a zero h l =
+    let e : (2 ^ suc n - 1 - a) % 2 ≡ 1 - a % 2 = omega arith in
+    unpack-first (2 ^ suc n - 1 - a) ∙ ap (λ (x : ℕ). eqb x 1) e ∙ not-digit (digit a) ∙ ap not (sym (unpack-first a))
+unpack-not (suc n) a (suc k) h l =
+    let e : (2 ^ suc n - 1 - a) / 2 ≡ 2 ^ n - 1 - a / 2 = omega arith in
+    unpack-next (2 ^ suc n - 1 - a) k ∙ ap (λ (x : ℕ). unpack x k) e ∙ unpack-not n (a / 2) k (omega arith) (omega arith) ∙ ap not (sym (unpack-next a k))
+
+-- a number is its digits
+same-digit : {p q : ℕ} → Digit p → Digit q → eqb p 1 ≡ eqb q 1 → p ≡ q
+same-digit none none e = refl
+same-digit none one e = absurd (false≢true e)
+same-digit one none e = absurd (true≢false e)
+same-digit one one e = refl
+
+-- numbers with the same digits are equal
+pub unpack-ext : (n a b : ℕ) → a < 2 ^ n → b < 2 ^ n → ((k : ℕ) → k < n → unpack a k ≡ unpack b k) → a ≡ b
+unpack-ext zero a b ha hb h = omega arith
+unpack-ext (suc n) a b ha hb h =
+    let low : a % 2 ≡ b % 2 = same-digit (digit a) (digit b) (sym (unpack-first a) ∙ h 0 (omega arith) ∙ unpack-first b) in
+    let high : a / 2 ≡ b / 2 = unpack-ext n (a / 2) (b / 2) (omega arith) (omega arith) (λ k l. sym (unpack-next a k) ∙ h (suc k) (omega arith) ∙ unpack-next b k) in
+    omega arith
+
+-- `%` by a power, `<<` and `>>`
+cut : (n x : ℕ) → x % 2 ^ suc n ≡ (x / 2 % 2 ^ n) * 2 + x % 2
+cut n x = ap (λ (m : ℕ). x % 2 ^ m) (sym (add-one n)) ∙ mod-pow-add x n 1
+
+-- what is cut off plays no part below
+pub unpack-mod : (n x k : ℕ) → k < n → unpack (x % 2 ^ n) k ≡ unpack x k
+unpack-mod zero x k l = absurd (omega arith)
+unpack-mod (suc n) x zero l =
+    let e : x % 2 ^ suc n % 2 ≡ x % 2 = omega (arith, cut n x) in unpack-first (x % 2 ^ suc n) ∙ ap (λ (y : ℕ). eqb y 1) e ∙ sym (unpack-first x)
+unpack-mod (suc n) x (suc k) l =
+    let e : x % 2 ^ suc n / 2 ≡ x / 2 % 2 ^ n = omega (arith, cut n x) in
+    unpack-next (x % 2 ^ suc n) k ∙ ap (λ (y : ℕ). unpack y k) e ∙ unpack-mod n (x / 2) k (omega arith) ∙ sym (unpack-next x k)
+
+-- `<<` moves the digits up
+pub unpack-shl : (s w k : ℕ) → unpack (w * 2 ^ s) (s + k) ≡ unpack w k
+unpack-shl zero w k = ap₂ unpack (mul-one w) (zero-add k)
+unpack-shl (suc s) w k =
+    ap (unpack (w * 2 ^ suc s)) (suc-add s k) ∙ unpack-next (w * 2 ^ suc s) (s + k) ∙ ap (λ (x : ℕ). unpack x (s + k)) (shifted-half w s) ∙ unpack-shl s w k
+
+-- and leaves none below
+pub unpack-shl-low : (s w k : ℕ) → k < s → unpack (w * 2 ^ s) k ≡ false
+unpack-shl-low zero w k l = absurd (omega arith)
+unpack-shl-low (suc s) w zero l = unpack-first (w * 2 ^ suc s) ∙ ap (λ (x : ℕ). eqb x 1) (shifted-even w s)
+unpack-shl-low (suc s) w (suc k) l =
+    unpack-next (w * 2 ^ suc s) k ∙ ap (λ (x : ℕ). unpack x k) (shifted-half w s) ∙ unpack-shl-low s w k (omega arith)
+
+-- `>>` moves them down
+pub unpack-shr : (s w k : ℕ) → unpack (w / 2 ^ s) k ≡ unpack w (s + k)
+unfolding unpack
+unpack-shr s w k = ap (λ (x : ℕ). eqb (x % 2) 1) (shr-shr w s k)
+
+-- `(w << s) | b` of n digits, for a b of s digits
+pub unpack-push-low : (n s w b k : ℕ) → k < s → s ≤ n → unpack (bitOr ((w * 2 ^ s) % 2 ^ n) b) k ≡ unpack b k
+unpack-push-low n s w b k l h =
+    unpack-or ((w * 2 ^ s) % 2 ^ n) b k ∙ ap (λ (t : Bool). t || unpack b k) (unpack-mod n (w * 2 ^ s) k (omega arith) ∙ unpack-shl-low s w k l)
+
+-- above, the digits of w
+pub unpack-push-high : (n s w b k : ℕ) → b < 2 ^ s → s + k < n → unpack (bitOr ((w * 2 ^ s) % 2 ^ n) b) (s + k) ≡ unpack w k
+unpack-push-high n s w b k hb h =
+    unpack-or ((w * 2 ^ s) % 2 ^ n) b (s + k)
+    ∙ ap₂ _||_ (unpack-mod n (w * 2 ^ s) (s + k) h ∙ unpack-shl s w k) (unpack-above b s (s + k) hb (omega arith))
+    ∙ or-false (unpack w k)
+
+-- `trailing_zeros`: the lowest digit that is set, and none before it
+hit-step : (n w d : ℕ) → Digit d → w % 2 ≡ d → w < 2 ^ suc n → 0 < w
+    → (w / 2 < 2 ^ n → 0 < w / 2 → (trailingZeros n (w / 2) < n) × (unpack (w / 2) (trailingZeros n (w / 2)) ≡ true))
+    → (under d (trailingZeros n (w / 2)) < suc n) × (unpack w (under d (trailingZeros n (w / 2))) ≡ true)
+hit-step n w d none e h p ih =
+    let r = ih (omega arith) (omega arith) in (omega (arith, r .0), unpack-next w (trailingZeros n (w / 2)) ∙ r .1)
+hit-step n w d one e h p ih = (omega arith, unpack-first w ∙ ap (λ (x : ℕ). eqb x 1) e)
+
+-- the digit at the place found is set
+pub trailing-hit : (n w : ℕ) → w < 2 ^ n → 0 < w → (trailingZeros n w < n) × (unpack w (trailingZeros n w) ≡ true)
+unfolding trailingZeros
+trailing-hit zero w h p = absurd (omega arith)
+trailing-hit (suc n) w h p = hit-step n w (w % 2) (digit w) refl h p (trailing-hit n (w / 2))
+
+below-step : (n w d : ℕ) → Digit d → w % 2 ≡ d → ((j : ℕ) → j < trailingZeros n (w / 2) → unpack (w / 2) j ≡ false)
+    → (j : ℕ) → j < under d (trailingZeros n (w / 2)) → unpack w j ≡ false
+below-step n w d none e ih zero l = unpack-first w ∙ ap (λ (x : ℕ). eqb x 1) e
+below-step n w d none e ih (suc j) l = unpack-next w j ∙ ih j (omega arith)
+below-step n w d one e ih j l = absurd (omega arith)
+
+-- and none below it is
+pub trailing-below : (n w j : ℕ) → j < trailingZeros n w → unpack w j ≡ false
+unfolding trailingZeros
+trailing-below zero w j l = absurd (omega arith)
+trailing-below (suc n) w j l = below-step n w (w % 2) (digit w) refl (trailing-below n (w / 2)) j l

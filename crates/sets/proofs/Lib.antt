@@ -1,0 +1,17 @@
+-- What is proved of sets of changes. Other crates cite a file X here as Rattle.sets.proofs.X.
+-- the digits of a number
+pub mod Digits
+-- the numbers below a bound that pass a test
+pub mod BoundLaws
+-- four words as a set
+pub mod Words
+-- what callers want of the members
+pub mod MemberLaws
+-- the tests of whole words
+pub mod TestLaws
+-- a set as 32 bytes
+pub mod Bytes
+-- passes over ties
+pub mod PassLaws
+-- passes come to the closure of the rules
+pub mod CloseLaws

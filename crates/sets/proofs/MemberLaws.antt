@@ -1,0 +1,64 @@
+-- What callers want of sets of four words: nothing past 255, and words that are settled by the members. Assumes nothing.
+use mathlib.Core.Path.{_≡_, refl, sym, ap, _∙_}
+use mathlib.Core.Bool.{Bool, Bool·beq, true, false}
+use mathlib.Core.List.{List}
+use Prim.Native.Nat.{ℕ, _+_, _*_, _/_, _^_, _≤_, _<_}
+use native.Mathlib.Decide.{decLt}
+use native.Mathlib.Omega.{arith}
+use lib.ListN.{length, getD, List·getD-eq-default}
+use lib.Seq.{ext-getD}
+use Rattle.rules.specs.Base.{allBelow}
+use Rattle.rules.specs.Sets.{Set}
+use Rattle.rules.proofs.BaseLaws.{allBelow-intro, allBelow-at}
+use Rattle.sets.specs.Members.{members, agree}
+use Rattle.sets.specs.declared.ChangeSet.{ChangeSet}
+use Rattle.sets.proofs.Digits.{unpack-ext}
+use Rattle.sets.proofs.Words.{place, word-zero}
+
+-- no number from 256 on is a member
+pub members-above : (s : ChangeSet) → length (s .words) ≡ 4 → (k : ℕ) → 256 ≤ k → members s k ≡ false
+members-above s len k h = word-zero s k (List·getD-eq-default (s .words) 0 {n = k / 64} (omega arith))
+
+-- sets that agree below 256 agree everywhere
+pub members-all : (s t : ChangeSet) → length (s .words) ≡ 4 → length (t .words) ≡ 4 → ((k : ℕ) → k < 256 → members s k ≡ members t k) → (k : ℕ) → members s k ≡ members t k
+members-all s t ls lt h k = go (decLt k 256)
+  where
+    go : Dec (k < 256) → members s k ≡ members t k
+    go (yes l) = h k l
+    go (no n) = members-above s ls k (omega arith) ∙ sym (members-above t lt k (omega arith))
+
+-- words that are all 0 hold none
+pub words-none : (s : ChangeSet) → length (s .words) ≡ 4 → ((i : ℕ) → i < 4 → getD (s .words) i 0 ≡ 0) → (k : ℕ) → members s k ≡ false
+words-none s len z k = go (decLt k 256)
+  where
+    go : Dec (k < 256) → members s k ≡ false
+    go (yes h) = word-zero s k (z (k / 64) (omega arith))
+    go (no n) = members-above s len k (omega arith)
+
+-- sets with the same members have the same words
+pub members-ext : (s t : ChangeSet) → length (s .words) ≡ 4 → length (t .words) ≡ 4 → ((i : ℕ) → getD (s .words) i 0 < 2 ^ 64) → ((i : ℕ) → getD (t .words) i 0 < 2 ^ 64)
+    → ((k : ℕ) → k < 256 → members s k ≡ members t k) → s ≡ t
+members-ext s t ls lt fs ft h =
+    ap (λ (ws : List ℕ). record { words = ws }) (ext-getD 0 (s .words) (t .words) (ls ∙ sym lt) (λ i l.
+    unpack-ext 64 (getD (s .words) i 0) (getD (t .words) i 0) (fs i) (ft i) (λ j m. sym (place s i j m) ∙ h (64 * i + j) (omega arith) ∙ place t i j m)))
+
+-- tests that agree at a number, and at all below a bound
+beq-same : (a b : Bool) → Bool·beq a b ≡ true → a ≡ b
+beq-same true true e = refl
+beq-same true false e = sym e
+beq-same false true e = e
+beq-same false false e = refl
+
+beq-refl : (a : Bool) → Bool·beq a a ≡ true
+beq-refl true = refl
+beq-refl false = refl
+
+-- sets that agree below a bound have the same members there
+pub agree-at : (n : ℕ) (s t : Set) → allBelow n (agree s t) ≡ true → (k : ℕ) → k < n → s k ≡ t k
+unfolding agree
+agree-at n s t e k h = beq-same (s k) (t k) (allBelow-at n (agree s t) e k h)
+
+-- and the other way round
+pub agree-all : (n : ℕ) (s t : Set) → ((k : ℕ) → k < n → s k ≡ t k) → allBelow n (agree s t) ≡ true
+unfolding agree
+agree-all n s t h = allBelow-intro n (agree s t) (λ k l. rw (h k l) (beq-refl (t k)))

@@ -1,0 +1,43 @@
+-- The least set that holds a set and is closed under ties, and one pass over ties in bytes. Assumes nothing.
+use mathlib.Core.Bool.{Bool, _&&_, _||_}
+use mathlib.Core.List.{List}
+use Prim.Native.Nat.{ℕ, zero, suc, _+_, _*_}
+use lib.Dec.{leb, eqb}
+use lib.ListN.{getD}
+use Rattle.rules.specs.Sets.{Set, Rel}
+use Rattle.rules.specs.Window.{TieRecord}
+use Rattle.rules.specs.Ties.{isGroup, grouped, falling, leading}
+use Rattle.sets.specs.declared.Along.{Along}
+use Rattle.sets.specs.declared.Along.the-variants.{Groups, Falls, Arrows}
+
+-- the ties that a closure goes along: group ties either way; fall ties besides, from leader to follower; wait and fall ties besides
+unfoldable pub relation : Along → List TieRecord → Rel
+relation Groups ts = grouped ts
+relation Falls ts = falling ts
+relation Arrows ts = leading ts
+
+-- the kinds that are gone along from leader to follower are those from a lowest one to 3
+abbrev pub lowKind : Along → ℕ
+lowKind Groups = 3
+lowKind Falls = 2
+lowKind Arrows = 1
+
+-- a tie of the kind is gone along from leader to follower
+unfoldable pub follows : ℕ → ℕ → Bool
+follows low kind = leb low kind && leb kind 3
+
+-- a tie by its parts, and tie j of a section: kind, leader and follower in the first three of its four bytes
+abbrev pub tieOf : ℕ → ℕ → ℕ → TieRecord
+tieOf kind leader follower = record { kind = kind; leader = leader; follower = follower }
+
+unfoldable pub tieAt : List ℕ → ℕ → TieRecord
+tieAt bs j = tieOf (getD bs (j * 4) 0) (getD bs (j * 4 + 1) 0) (getD bs (j * 4 + 2) 0)
+
+-- what one tie adds: its follower where it is gone along and the leader is a member, and a group tie's leader where the follower is one
+unfoldable pub pulled : ℕ → TieRecord → Set → Set
+pulled low t s k = s k || eqb k t.follower && (follows low t.kind && s t.leader) || eqb k t.leader && (isGroup t.kind && s t.follower)
+
+-- a pass over the first ties: each sees what those before it added
+unfoldable pub passed : ℕ → (ℕ → TieRecord) → ℕ → Set → Set
+passed low t zero s = s
+passed low t (suc i) s = pulled low (t i) (passed low t i s)

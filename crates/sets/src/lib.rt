@@ -1,0 +1,276 @@
+// Sets of changes, in four 64-bit words by value.
+ghost use mathlib.Core.Path.{_≡_};
+ghost use mathlib.Core.Bool.{false, not, _||_, _&&_};
+ghost use mathlib.Core.List.{List};
+ghost use Prim.Native.Nat.{ℕ, _+_, _*_, _/_, _%_, _<_, _≤_};
+ghost use lib.Dec.{eqb};
+ghost use lib.ListN.{length, getD};
+ghost use Rattle.rules.specs.Base.{anyBelow, allBelow, lowestBelow, countBelow};
+ghost use Rattle.rules.specs.Sets.{closure};
+ghost use Rattle.rules.specs.Window.{TieRecord};
+ghost use Rattle.layout.specs.Codec.{unpack, tieSection};
+ghost use Rattle.sets.specs.Members.{members, agree, loaded, setByte, stored};
+ghost use Rattle.sets.specs.Closing.{relation, lowKind, tieOf, tieAt, pulled, passed};
+
+// A set of change numbers: bit c % 64 of word c / 64 says whether c is a member.
+pub struct ChangeSet {
+    pub words: [u64; 4],
+}
+
+// The ties that a closure goes along: group ties either way; besides, from leader to follower, fall ties, or wait and fall ties.
+pub enum Along {
+    Groups,
+    Falls,
+    Arrows,
+}
+
+impl ChangeSet {
+    // The set with no members.
+    pub fn empty() -> ChangeSet
+        ensures { λ r. ⌜ ((k : ℕ) → members r k ≡ false) ⌝ }
+    {
+        ChangeSet { words: [0; 4] }
+    }
+
+    // Whether c is a member.
+    pub fn has(self, c: u8) -> bool
+        ensures { λ r. ⌜ r ≡ members self c ⌝ }
+    {
+        let i = (c / 64) as usize;
+        let w = self.words;
+        (w[i] >> (c % 64)) % 2 == 1
+    }
+
+    // The set with c.
+    pub fn add(self, c: u8) -> ChangeSet
+        ensures { λ r. ⌜ ((k : ℕ) → members r k ≡ eqb k c || members self k) ⌝ }
+    {
+        let i = (c / 64) as usize;
+        let mut words = self.words;
+        words[i] = (1 << (c % 64)) | words[i];
+        ChangeSet { words }
+    }
+
+    // The set without c.
+    pub fn without(self, c: u8) -> ChangeSet
+        ensures { λ r. ⌜ ((k : ℕ) → members r k ≡ not (eqb k c) && members self k) ⌝ }
+    {
+        let i = (c / 64) as usize;
+        let mut words = self.words;
+        words[i] = !(1 << (c % 64)) & words[i];
+        ChangeSet { words }
+    }
+
+    // The members of either.
+    pub fn unite(self, other: ChangeSet) -> ChangeSet
+        ensures { λ r. ⌜ ((k : ℕ) → members r k ≡ members self k || members other k) ⌝ }
+    {
+        let a = self.words;
+        let b = other.words;
+        ChangeSet {
+            words: [a[0] | b[0], a[1] | b[1], a[2] | b[2], a[3] | b[3]],
+        }
+    }
+
+    // The members that are not the other's.
+    pub fn minus(self, other: ChangeSet) -> ChangeSet
+        ensures { λ r. ⌜ ((k : ℕ) → members r k ≡ members self k && not (members other k)) ⌝ }
+    {
+        let a = self.words;
+        let b = other.words;
+        ChangeSet {
+            words: [a[0] & !b[0], a[1] & !b[1], a[2] & !b[2], a[3] & !b[3]],
+        }
+    }
+
+    // The members of both.
+    pub fn common(self, other: ChangeSet) -> ChangeSet
+        ensures { λ r. ⌜ ((k : ℕ) → members r k ≡ members self k && members other k) ⌝ }
+    {
+        let a = self.words;
+        let b = other.words;
+        ChangeSet {
+            words: [a[0] & b[0], a[1] & b[1], a[2] & b[2], a[3] & b[3]],
+        }
+    }
+
+    // Whether there is no member.
+    pub fn is_empty(self) -> bool
+        ensures { λ r. ⌜ r ≡ not (anyBelow 256 (members self)) ⌝ }
+    {
+        let w = self.words;
+        (w[0] | w[1] | w[2] | w[3]) == 0
+    }
+
+    // Whether the members are the other's.
+    pub fn equal(self, other: ChangeSet) -> bool
+        ensures { λ r. ⌜ r ≡ allBelow 256 (agree (members self) (members other)) ⌝ }
+    {
+        let a = self.words;
+        let b = other.words;
+        ((a[0] ^ b[0]) | (a[1] ^ b[1]) | (a[2] ^ b[2]) | (a[3] ^ b[3])) == 0
+    }
+
+    // The lowest member; 256 where there is none.
+    pub fn lowest(self) -> u32
+        ensures { λ r. ⌜ r ≡ lowestBelow 256 (members self) ⌝ }
+    {
+        let w = self.words;
+        if w[0] != 0 {
+            return u64::trailing_zeros(w[0]);
+        }
+        if w[1] != 0 {
+            return 64 + u64::trailing_zeros(w[1]);
+        }
+        if w[2] != 0 {
+            return 128 + u64::trailing_zeros(w[2]);
+        }
+        if w[3] != 0 {
+            return 192 + u64::trailing_zeros(w[3]);
+        }
+        256
+    }
+
+    // How many members there are.
+    pub fn count(self) -> u32
+        ensures { λ r. ⌜ r ≡ countBelow 256 (members self) ⌝ }
+    {
+        let w = self.words;
+        u64::count_ones(w[0])
+            + u64::count_ones(w[1])
+            + u64::count_ones(w[2])
+            + u64::count_ones(w[3])
+    }
+
+    // The set whose 32 bytes stand at a place; no members where there are not 32.
+    pub fn load(bytes: &[u8], at: usize) -> ChangeSet
+        ensures { λ r. ⌜ ((k : ℕ) → members r k ≡ loaded (now (bytes .entry)) at k) ⌝ }
+    {
+        if bytes.len() < 32 {
+            return ChangeSet::empty();
+        }
+        if bytes.len() - 32 < at {
+            return ChangeSet::empty();
+        }
+        ChangeSet {
+            words: [
+                word_at(bytes, at),
+                word_at(bytes, at + 8),
+                word_at(bytes, at + 16),
+                word_at(bytes, at + 24),
+            ],
+        }
+    }
+
+    // Puts the set's 32 bytes at a place; nothing where there is no room.
+    pub fn store(self, bytes: &mut [u8], at: usize)
+        ensures { λ _. ⌜ now (bytes .exit) ≡ stored (members self) (now (bytes .entry)) at ⌝ }
+    {
+        if bytes.len() < 32 {
+            return;
+        }
+        if bytes.len() - 32 < at {
+            return;
+        }
+        let mut i: usize = 0;
+        while i < 32 {
+            bytes[at + i] = self.byte(i);
+            i += 1;
+        }
+    }
+
+    // The least set that holds this one and is closed along the first `count` ties of the section.
+    pub fn close(self, ties: &[u8], count: usize, along: Along) -> ChangeSet
+        requires { ⌜ 4 * count ≤ length (now ties) ⌝ }
+        ensures { λ r. ⌜ ((ts : List TieRecord) → length ts ≡ count → now (ties .entry) ≡ tieSection ts → (k : ℕ) → members r k ≡ closure 256 (relation along ts) (members self) k) ⌝ }
+    {
+        let low = low_kind(along);
+        let mut s = self;
+        loop {
+            let t = s.pass(ties, count, low);
+            if t.equal(s) {
+                return t;
+            }
+            s = t;
+        }
+    }
+
+    // The set after one pass over the ties.
+    fn pass(self, ties: &[u8], count: usize, low: u8) -> ChangeSet
+        requires { ⌜ 4 * count ≤ length (now ties) ⌝ }
+        ensures { λ r. ⌜ members r ≡ passed low (tieAt (now (ties .entry))) count (members self) ⌝ }
+    {
+        let mut s = self;
+        let mut j: usize = 0;
+        while j < count {
+            let at = j * 4;
+            s = s.pull(low, ties[at], ties[at + 1], ties[at + 2]);
+            j += 1;
+        }
+        s
+    }
+
+    // The set after one tie.
+    fn pull(self, low: u8, kind: u8, leader: u8, follower: u8) -> ChangeSet
+        ensures { λ r. ⌜ members r ≡ pulled low (tieOf kind leader follower) (members self) ⌝ }
+    {
+        if self.has(leader) {
+            if self.has(follower) {
+                return self;
+            }
+            if low <= kind {
+                if kind <= 3 {
+                    return self.add(follower);
+                }
+            }
+            return self;
+        }
+        if kind == 3 {
+            if self.has(follower) {
+                return self.add(leader);
+            }
+        }
+        self
+    }
+
+    // Byte i of the set's 32.
+    fn byte(self, i: usize) -> u8
+        requires { ⌜ i < 32 ⌝ }
+        ensures { λ r. ⌜ r ≡ setByte (members self) i ⌝ }
+    {
+        let w = self.words;
+        ((w[i / 8] >> (8 * (i % 8))) % 256) as u8
+    }
+}
+
+// The lowest kind of tie that is gone along from leader to follower.
+fn low_kind(along: Along) -> u8
+    ensures { λ r. ⌜ r ≡ lowKind along ⌝ }
+{
+    match along {
+        Along::Groups => 3,
+        Along::Falls => 2,
+        Along::Arrows => 1,
+    }
+}
+
+// A byte as a number of 64 bits.
+fn wide(x: u8) -> u64
+    ensures { λ r. ⌜ r ≡ x ⌝ }
+{
+    x as u64
+}
+
+// The eight bytes from a place on, lowest first, as a number.
+fn word_at(bytes: &[u8], at: usize) -> u64
+    requires { ⌜ at + 8 ≤ length (now bytes) ⌝ }
+    ensures { λ r. ⌜ ((k : ℕ) → k < 64 → unpack r k ≡ unpack (getD (now (bytes .entry)) (at + k / 8) 0) (k % 8)) ⌝ }
+{
+    let mut w: u64 = 0;
+    let mut i: usize = 8;
+    while i > 0 {
+        i -= 1;
+        w = (w << 8) | wide(bytes[at + i]);
+    }
+    w
+}
