@@ -1,0 +1,9 @@
+-- Laws of parts and of numbers in bytes. Other crates cite a file X here as Rattle.cells.proofs.X.
+-- a part read after a write; stores one by one are a patch; one element more
+pub mod PartLaws
+-- a number's bytes, and the number of bytes
+pub mod NumLaws
+-- the loops that write a run upwards
+pub mod RunLaws
+-- a range that is zero, by its elements
+pub mod ZeroLaws

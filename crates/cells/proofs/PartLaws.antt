@@ -1,0 +1,132 @@
+-- A part of a list, and a list with a part replaced. Assumes nothing.
+use mathlib.Core.Path.{_≡_, refl, sym, ap, _∙_}
+use mathlib.Core.List.{List, [], _∷_, _++_, append-assoc}
+use Prim.Native.Nat.{ℕ, zero, suc, _+_, _-_, _≤_, _<_}
+use native.Mathlib.Nat.{le-of-suc-le-suc, not-suc-le-zero, suc-add, zero-add, add-zero}
+use native.Mathlib.Omega.{arith}
+use native.Mathlib.Numerals.{add-one}
+use lib.ListN.{length, take, drop, getD, set, length-append, length-take, length-drop, take-append-drop, length-set}
+use lib.Seq.{sets, take-at, drop-at, take-append-le, drop-append-add, getD-take, getD-drop, take-take, drop-drop, length-take-le, drop-cons, set-at, take-suc}
+use Rattle.cells.specs.Part.{part, patch}
+
+-- LENGTHS: of a part
+pub length-part : (l : List ℕ) (at n : ℕ) → at + n ≤ length l → length (part l at n) ≡ n
+unfolding part
+length-part l at n h = length-take-le n (drop at l) (simp length-drop (omega arith))
+
+-- of a list with a part replaced
+pub length-patch : (l : List ℕ) (at : ℕ) (xs : List ℕ) → at + length xs ≤ length l → length (patch l at xs) ≡ length l
+unfolding patch
+length-patch l at xs h = simp (length-append, length-take, length-drop) (omega arith)
+
+-- READING AFTER A WRITE: there
+pub part-patch : (l : List ℕ) (at : ℕ) (xs : List ℕ) (n : ℕ) → length xs ≡ n → at ≤ length l → part (patch l at xs) at n ≡ xs
+unfolding part patch
+part-patch l at xs n e h =
+    ap (take n) (drop-at (take at l) (xs ++ drop (length xs) (drop at l)) at (length-take-le at l h)) ∙ take-at xs _ n e
+
+-- before it
+take-patch : (l : List ℕ) (at : ℕ) (xs : List ℕ) (b : ℕ) → b ≤ at → at ≤ length l → take b (patch l at xs) ≡ take b l
+unfolding patch
+take-patch l at xs b h k =
+    let hb : b ≤ length (take at l) = simp length-take (omega arith) in
+    take-append-le b (take at l) _ hb ∙ take-take b at l h
+
+-- from its end on
+pub drop-patch : (l : List ℕ) (at : ℕ) (xs : List ℕ) (b : ℕ) → at + length xs ≤ b → at ≤ length l → drop b (patch l at xs) ≡ drop b l
+unfolding patch
+drop-patch l at xs b h k =
+    let m : ℕ = length (take at l ++ xs) in
+    let em : m ≡ at + length xs = simp (length-append, length-take-le at l k) in
+    let eb : m + (b - m) ≡ b = omega arith in
+    ap (drop b) (sym (append-assoc (take at l) xs (drop (length xs) (drop at l))))
+    ∙ ap (λ (k : ℕ). drop k ((take at l ++ xs) ++ drop (length xs) (drop at l))) (sym eb)
+    ∙ drop-append-add (take at l ++ xs) (drop (length xs) (drop at l)) (b - m)
+    ∙ ap (drop (b - m)) (drop-drop (length xs) at l)
+    ∙ drop-drop (b - m) (at + length xs) l
+    ∙ ap (λ (k : ℕ). drop k l) (ap (λ (k : ℕ). k + (b - m)) (sym em) ∙ eb)
+
+-- up to its end
+pub take-patch-end : (l : List ℕ) (at : ℕ) (xs : List ℕ) (m : ℕ) → at + length xs ≡ m → at ≤ length l → take m (patch l at xs) ≡ take at l ++ xs
+unfolding patch
+take-patch-end l at xs m e h =
+    ap (take m) (sym (append-assoc (take at l) xs (drop (length xs) (drop at l))))
+    ∙ take-at (take at l ++ xs) (drop (length xs) (drop at l)) m (simp (length-append, length-take-le at l h) e)
+
+-- an element of a part
+pub getD-part : (l : List ℕ) (at n i : ℕ) → i < n → getD (part l at n) i 0 ≡ getD l (at + i) 0
+unfolding part
+getD-part l at n i h = getD-take n (drop at l) i 0 h ∙ getD-drop at l i 0
+
+-- an element that was written
+pub getD-patch : (l : List ℕ) (at : ℕ) (xs : List ℕ) (n i : ℕ) → length xs ≡ n → at ≤ length l → i < n → getD (patch l at xs) (at + i) 0 ≡ getD xs i 0
+getD-patch l at xs n i e h k = sym (getD-part (patch l at xs) at n i k) ∙ ap (λ (r : List ℕ). getD r i 0) (part-patch l at xs n e h)
+
+-- before it
+pub getD-patch-before : (l : List ℕ) (at : ℕ) (xs : List ℕ) (i : ℕ) → i < at → at ≤ length l → getD (patch l at xs) i 0 ≡ getD l i 0
+getD-patch-before l at xs i h k =
+    sym (getD-take at (patch l at xs) i 0 h) ∙ ap (λ (r : List ℕ). getD r i 0) (take-patch l at xs at (omega arith) k) ∙ getD-take at l i 0 h
+
+-- after it
+pub getD-patch-after : (l : List ℕ) (at : ℕ) (xs : List ℕ) (i : ℕ) → at + length xs ≤ i → at ≤ length l → getD (patch l at xs) i 0 ≡ getD l i 0
+getD-patch-after l at xs i h k =
+    ap (λ (j : ℕ). getD (patch l at xs) j 0) (sym (add-zero i)) ∙ sym (getD-drop i (patch l at xs) 0 0)
+    ∙ ap (λ (r : List ℕ). getD r 0 0) (drop-patch l at xs i h k) ∙ getD-drop i l 0 0 ∙ ap (λ (j : ℕ). getD l j 0) (add-zero i)
+
+-- a part from the whole's front
+take-drop : (n b : ℕ) (l : List ℕ) → take n (drop b l) ≡ drop b (take (b + n) l)
+take-drop n zero l = ap (λ (k : ℕ). take k l) (sym (zero-add n))
+take-drop zero (suc b) [] = ap (λ (k : ℕ). drop (suc b) (take k [])) (sym (suc-add b 0))
+take-drop (suc n) (suc b) [] = ap (λ (k : ℕ). drop (suc b) (take k [])) (sym (suc-add b (suc n)))
+take-drop n (suc b) (x ∷ l) = take-drop n b l ∙ ap (λ (k : ℕ). drop (suc b) (take k (x ∷ l))) (sym (suc-add b n))
+
+-- a part of a part
+pub part-part : (l : List ℕ) (a n b m : ℕ) → b + m ≤ n → part (part l a n) b m ≡ part l (a + b) m
+unfolding part
+part-part l a n b m h =
+    take-drop m b (take n (drop a l)) ∙ ap (drop b) (take-take (b + m) n (drop a l) h) ∙ sym (take-drop m b (drop a l)) ∙ ap (take m) (drop-drop b a l)
+
+-- STORES ONE BY ONE are a patch: none
+pub patch-nil : (l : List ℕ) (at : ℕ) → patch l at [] ≡ l
+unfolding patch
+patch-nil l at = take-append-drop at l
+
+-- one before the others
+pub patch-cons : (l : List ℕ) (at x : ℕ) (xs : List ℕ) → at < length l → patch (set l at x) (suc at) xs ≡ patch l at (x ∷ xs)
+unfolding patch
+patch-cons [] at x xs h = absurd (not-suc-le-zero h)
+patch-cons (y ∷ l) zero x xs h = refl
+patch-cons (y ∷ l) (suc at) x xs h = ap (λ (r : List ℕ). y ∷ r) (patch-cons l at x xs (le-of-suc-le-suc h))
+
+-- all
+pub sets-patch : (l : List ℕ) (at : ℕ) (xs : List ℕ) → at + length xs ≤ length l → sets l at xs ≡ patch l at xs
+sets-patch l at [] h = sym (patch-nil l at)
+sets-patch l at (x ∷ xs) h =
+    let h′ : at + suc (length xs) ≤ length l = h in
+    sets-patch (set l at x) (suc at) xs (simp length-set (omega (arith, suc-add at (length xs)))) ∙ patch-cons l at x xs (omega arith)
+
+-- a store right after what was written: the step of every loop that writes upwards
+pub patch-next : (l : List ℕ) (at : ℕ) (xs : List ℕ) (v m : ℕ) → at + length xs ≡ m → m < length l → set (patch l at xs) m v ≡ patch l at (xs ++ (v ∷ []))
+unfolding patch
+patch-next l at xs v m e h =
+    let n : ℕ = length xs in
+    let d : List ℕ = drop at l in
+    let hd : n < length d = simp length-drop (omega arith) in
+    let lp : length (take at l ++ xs) ≡ m = simp (length-append, length-take) (omega arith) in
+    let ln : length (xs ++ (v ∷ [])) ≡ suc n = length-append xs (v ∷ []) ∙ add-one n in
+    ap (λ (r : List ℕ). set r m v) (ap (λ (r : List ℕ). take at l ++ (xs ++ r)) (drop-cons d n 0 hd) ∙ sym (append-assoc (take at l) xs (getD d n 0 ∷ drop (suc n) d)))
+    ∙ set-at (take at l ++ xs) (getD d n 0) (drop (suc n) d) v m lp
+    ∙ append-assoc (take at l) xs (v ∷ drop (suc n) d)
+    ∙ ap (λ (r : List ℕ). take at l ++ r) (sym (append-assoc xs (v ∷ []) (drop (suc n) d)))
+    ∙ ap (λ (k : ℕ). take at l ++ ((xs ++ (v ∷ [])) ++ drop k d)) (sym ln)
+
+-- ONE ELEMENT MORE, at the end
+pub part-more : (l : List ℕ) (at n : ℕ) → at + n < length l → part l at (n + 1) ≡ part l at n ++ (getD l (at + n) 0 ∷ [])
+unfolding part
+part-more l at n h =
+    ap (λ (m : ℕ). take m (drop at l)) (add-one n) ∙ take-suc (drop at l) n 0 (simp length-drop (omega arith)) ∙ ap (λ (v : ℕ). take n (drop at l) ++ (v ∷ [])) (getD-drop at l n 0)
+
+-- at the front
+pub part-cons : (l : List ℕ) (at n : ℕ) → at < length l → part l at (suc n) ≡ getD l at 0 ∷ part l (suc at) n
+unfolding part
+part-cons l at n h = rw (drop-cons l at 0 h)

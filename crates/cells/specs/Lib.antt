@@ -1,0 +1,3 @@
+-- Parts of a list of bytes, and numbers in bytes.
+pub mod Part
+pub mod Num

@@ -1,0 +1,111 @@
+// Numbers and runs of bytes at an offset of a slice.
+ghost use mathlib.Core.Path.{_≡_};
+ghost use Prim.Native.Nat.{_+_, _-_, _*_, _≤_};
+ghost use lib.ListN.{length, replicate};
+ghost use Rattle.rules.specs.Base.{allBelow};
+ghost use Rattle.cells.specs.Part.{part, patch, zeroAt};
+ghost use Rattle.cells.specs.Num.{le, num};
+
+// The number of two bytes, the lowest first.
+fn join2(a: u8, b: u8) -> u16
+    ensures { λ r. ⌜ r ≡ a + 256 * b ⌝ }
+{
+    a as u16 + 256 * (b as u16)
+}
+
+// The number of four bytes, the lowest first.
+fn join4(a: u8, b: u8, c: u8, d: u8) -> u32
+    ensures { λ r. ⌜ r ≡ a + 256 * b + 65536 * c + 16777216 * d ⌝ }
+{
+    a as u32 + 256 * (b as u32) + 65536 * (c as u32) + 16777216 * (d as u32)
+}
+
+// The number in two bytes at an offset.
+pub fn read_u16(s: &[u8], at: usize) -> u16
+    requires { ⌜ at + 2 ≤ length (now s) ⌝ }
+    ensures { λ r. ⌜ r ≡ num (part (now (s .entry)) at 2) ⌝ }
+{
+    join2(s[at], s[at + 1])
+}
+
+// The number in four bytes at an offset.
+pub fn read_u32(s: &[u8], at: usize) -> u32
+    requires { ⌜ at + 4 ≤ length (now s) ⌝ }
+    ensures { λ r. ⌜ r ≡ num (part (now (s .entry)) at 4) ⌝ }
+{
+    join4(s[at], s[at + 1], s[at + 2], s[at + 3])
+}
+
+// A number stored in two bytes at an offset.
+pub fn write_u16(s: &mut [u8], at: usize, v: u16)
+    requires { ⌜ at + 2 ≤ length (now s) ⌝ }
+    ensures { λ _. ⌜ now (s .exit) ≡ patch (now (s .entry)) at (le 2 v) ⌝ }
+{
+    s[at] = (v % 256) as u8;
+    s[at + 1] = (v / 256 % 256) as u8;
+}
+
+// A number stored in four bytes at an offset.
+pub fn write_u32(s: &mut [u8], at: usize, v: u32)
+    requires { ⌜ at + 4 ≤ length (now s) ⌝ }
+    ensures { λ _. ⌜ now (s .exit) ≡ patch (now (s .entry)) at (le 4 v) ⌝ }
+{
+    s[at] = (v % 256) as u8;
+    s[at + 1] = (v / 256 % 256) as u8;
+    s[at + 2] = (v / 256 / 256 % 256) as u8;
+    s[at + 3] = (v / 256 / 256 / 256 % 256) as u8;
+}
+
+// Zeros from an index up to another.
+pub fn clear(s: &mut [u8], from: usize, to: usize)
+    requires { ⌜ from ≤ to ⌝ }
+    requires { ⌜ to ≤ length (now s) ⌝ }
+    ensures { λ _. ⌜ now (s .exit) ≡ patch (now (s .entry)) from (replicate (to - from) 0) ⌝ }
+{
+    let mut i = from;
+    while i < to {
+        s[i] = 0;
+        i += 1;
+    }
+}
+
+// All of src into dst, from an index on.
+pub fn copy_in(src: &[u8], dst: &mut [u8], at: usize)
+    requires { ⌜ at + length (now src) ≤ length (now dst) ⌝ }
+    ensures { λ _. ⌜ now (dst .exit) ≡ patch (now (dst .entry)) at (now (src .entry)) ⌝ }
+{
+    let n = src.len();
+    let mut i = 0;
+    while i < n {
+        dst[at + i] = src[i];
+        i += 1;
+    }
+}
+
+// n bytes to a lower index of the same slice; the two runs may overlap.
+pub fn move_run(s: &mut [u8], from: usize, to: usize, n: usize)
+    requires { ⌜ to ≤ from ⌝ }
+    requires { ⌜ from + n ≤ length (now s) ⌝ }
+    ensures { λ _. ⌜ now (s .exit) ≡ patch (now (s .entry)) to (part (now (s .entry)) from n) ⌝ }
+{
+    let mut i = 0;
+    while i < n {
+        s[to + i] = s[from + i];
+        i += 1;
+    }
+}
+
+// Whether every byte from an index up to another is 0. No early way out: the or of the bytes.
+pub fn all_zero(s: &[u8], from: usize, to: usize) -> bool
+    requires { ⌜ from ≤ to ⌝ }
+    requires { ⌜ to ≤ length (now s) ⌝ }
+    ensures { λ r. ⌜ r ≡ allBelow (to - from) (zeroAt (now (s .entry)) from) ⌝ }
+{
+    let mut acc: u8 = 0;
+    let mut i = from;
+    while i < to {
+        acc = acc | s[i];
+        i += 1;
+    }
+    acc == 0
+}

@@ -1,0 +1,35 @@
+-- `log::append` meets its contract. Assumes nothing.
+use mathlib.Core.Path.{_∙_}
+use native.Mathlib.Omega.{arith}
+use lib.ListN.{length-set}
+use Rattle.log.proofs.LogLaws.{record-append}
+use borrow.Author.Needs.{needs}
+use Rattle.log.proofs.append.Statement.{statement}
+use Rattle.log.proofs.append.Tie as tie
+
+slice-write-log-2 : tie.Need-slice-write-log-2
+slice-write-log-2 c = simp length-set (omega arith)
+
+write-u32-requires : tie.Need-write-u32-requires
+write-u32-requires c κs = simp length-set (omega arith)
+
+same-length : tie.Need-same-length
+same-length c = c .before .before .write-u32 .kept .0 ∙ simp length-set
+
+returns : tie.Need-returns
+returns c =
+    let s = c .before .before .before .before .before in let a = s .args in
+    λ l e q. c .before .before .write-u32 .ensures ∙ record-append (a .log .now) l (a .count) (record { owner = a .owner; entry = a .entry; before = a .before }) e q (s .pre .1)
+
+pub append-spec : {M : Type 1} → statement M
+append-spec =
+    tie.close
+    (tie.spec
+    (λ c. search needs)
+    (λ c. search needs)
+    (λ c. search needs)
+    slice-write-log-2
+    (λ c. search needs)
+    write-u32-requires
+    same-length
+    returns)

@@ -1,0 +1,2 @@
+-- What the calls do to the log's records.
+pub mod Records

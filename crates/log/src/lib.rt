@@ -1,0 +1,142 @@
+// The log in its section: records read, appended, dropped, handed over and undone.
+use cells::clear;
+use cells::move_run;
+use cells::read_u32;
+use cells::write_u32;
+use places::store_value;
+use sets::ChangeSet;
+ghost use mathlib.Core.Path.{_≡_};
+ghost use mathlib.Core.Bool.{cond};
+ghost use mathlib.Core.List.{List, [], _∷_, _++_};
+ghost use Prim.Native.Nat.{ℕ, _+_, _*_, _^_, _≤_, _<_};
+ghost use lib.ListN.{length, getD, set};
+ghost use Rattle.rules.specs.Window.{LogRecord};
+ghost use Rattle.rules.specs.Effects.{moveLog, undo as undone};
+ghost use Rattle.layout.specs.Codec.{noRecord, valuesSize, logSize, valueSection, logSection};
+ghost use Rattle.cells.specs.Part.{part, patch};
+ghost use Rattle.sets.specs.Members.{members};
+ghost use Rattle.log.specs.Records.{Dropped, onEntries, movedRecord};
+
+// The bytes of a record.
+const RECORD: usize = 6;
+
+// The owner of record i.
+pub fn owner_at(log: &[u8], i: usize) -> u8
+    requires { ⌜ length (now log) ≡ logSize ⌝ }
+    requires { ⌜ i < 2048 ⌝ }
+    ensures { λ r. ⌜ ((l : List LogRecord) → now (log .entry) ≡ logSection l → r ≡ getD l i noRecord .owner) ⌝ }
+{
+    log[i * RECORD]
+}
+
+// The entry of record i.
+pub fn entry_at(log: &[u8], i: usize) -> u8
+    requires { ⌜ length (now log) ≡ logSize ⌝ }
+    requires { ⌜ i < 2048 ⌝ }
+    ensures { λ r. ⌜ ((l : List LogRecord) → now (log .entry) ≡ logSection l → r ≡ getD l i noRecord .entry) ⌝ }
+{
+    log[i * RECORD + 1]
+}
+
+// The value before of record i.
+pub fn before_at(log: &[u8], i: usize) -> u32
+    requires { ⌜ length (now log) ≡ logSize ⌝ }
+    requires { ⌜ i < 2048 ⌝ }
+    ensures { λ r. ⌜ ((l : List LogRecord) → now (log .entry) ≡ logSection l → getD l i noRecord .before < 2 ^ 32 → r ≡ getD l i noRecord .before) ⌝ }
+{
+    read_u32(log, i * RECORD + 2)
+}
+
+// A record more, after the others.
+pub fn append(log: &mut [u8], count: usize, owner: u8, entry: u8, before: u32)
+    requires { ⌜ length (now log) ≡ logSize ⌝ }
+    requires { ⌜ count < 2048 ⌝ }
+    ensures { λ _. ⌜ ((l : List LogRecord) → length l ≡ count → now (log .entry) ≡ logSection l → now (log .exit) ≡ logSection (l ++ (record { owner = owner; entry = entry; before = before } ∷ []))) ⌝ }
+{
+    let at = count * RECORD;
+    log[at] = owner;
+    log[at + 1] = entry;
+    write_u32(log, at + 2, before);
+}
+
+// Record i goes to place `to`, unless its owner has ended. What comes back is the place of the next.
+fn keep_record(log: &mut [u8], i: usize, to: usize, ended: ChangeSet) -> usize
+    requires { ⌜ length (now log) ≡ logSize ⌝ }
+    requires { ⌜ i < 2048 ⌝ }
+    requires { ⌜ to ≤ i ⌝ }
+    ensures { λ r. ⌜ r ≡ cond (members ended (getD (now (log .entry)) (i * 6) 0)) to (to + 1) ⌝ }
+    ensures { λ _. ⌜ now (log .exit) ≡ cond (members ended (getD (now (log .entry)) (i * 6) 0)) (now (log .entry)) (patch (now (log .entry)) (to * 6) (part (now (log .entry)) (i * 6) 6)) ⌝ }
+{
+    if ended.has(log[i * RECORD]) {
+        return to;
+    }
+    move_run(log, i * RECORD, to * RECORD, RECORD);
+    to + 1
+}
+
+// The records of ended changes are dropped and the others close up in order. What comes back is how many are left.
+pub fn drop_owned(log: &mut [u8], count: usize, ended: ChangeSet) -> usize
+    requires { ⌜ length (now log) ≡ logSize ⌝ }
+    requires { ⌜ count ≤ 2048 ⌝ }
+    ensures { λ r. ⌜ ((l : List LogRecord) → length l ≡ count → now (log .entry) ≡ logSection l → Dropped (members ended) l r (now (log .exit))) ⌝ }
+{
+    let mut kept = 0;
+    let mut i = 0;
+    while i < count {
+        kept = keep_record(log, i, kept, ended);
+        i += 1;
+    }
+    clear(log, kept * RECORD, count * RECORD);
+    kept
+}
+
+// Record i goes over to another owner, where it is from's and on an entry that is named.
+fn hand_record(log: &mut [u8], i: usize, from: u8, to: u8, every: bool, entry: u8)
+    requires { ⌜ length (now log) ≡ logSize ⌝ }
+    requires { ⌜ i < 2048 ⌝ }
+    ensures { λ _. ⌜ ((l : List LogRecord) → i < length l → now (log .entry) ≡ logSection l → now (log .exit) ≡ logSection (set l i (movedRecord from to (onEntries every entry) (getD l i noRecord)))) ⌝ }
+{
+    let at = i * RECORD;
+    if (log[at] == from) & (every | (log[at + 1] == entry)) {
+        log[at] = to;
+    }
+}
+
+// The records of one owner go over to another: those on every entry, or those on one.
+pub fn hand_over(log: &mut [u8], count: usize, from: u8, to: u8, every: bool, entry: u8)
+    requires { ⌜ length (now log) ≡ logSize ⌝ }
+    requires { ⌜ count ≤ 2048 ⌝ }
+    ensures { λ _. ⌜ ((l : List LogRecord) → length l ≡ count → now (log .entry) ≡ logSection l → now (log .exit) ≡ logSection (moveLog from to (onEntries every entry) l)) ⌝ }
+{
+    let mut next = 0;
+    while next < count {
+        hand_record(log, next, from, to, every, entry);
+        next += 1;
+    }
+}
+
+// The value before of record i is stored, where the owner has ended.
+fn undo_record(values: &mut [u8], log: &[u8], i: usize, ended: ChangeSet)
+    requires { ⌜ length (now values) ≡ valuesSize ⌝ }
+    requires { ⌜ length (now log) ≡ logSize ⌝ }
+    requires { ⌜ i < 2048 ⌝ }
+    ensures { λ _. ⌜ ((v : ℕ → ℕ) (l : List LogRecord) → now (values .entry) ≡ valueSection v → now (log .entry) ≡ logSection l → getD l i noRecord .before < 2 ^ 32 → now (values .exit) ≡ valueSection (undone (members ended) (getD l i noRecord ∷ []) v)) ⌝ }
+{
+    if ended.has(owner_at(log, i)) {
+        store_value(values, entry_at(log, i), before_at(log, i));
+    }
+}
+
+// The records of ended changes are undone, newest first.
+pub fn undo(values: &mut [u8], log: &[u8], count: usize, ended: ChangeSet)
+    requires { ⌜ length (now values) ≡ valuesSize ⌝ }
+    requires { ⌜ length (now log) ≡ logSize ⌝ }
+    requires { ⌜ count ≤ 2048 ⌝ }
+    ensures { λ _. ⌜ ((v : ℕ → ℕ) (l : List LogRecord) → length l ≡ count → ((k : ℕ) → getD l k noRecord .before < 2 ^ 32) → now (values .entry) ≡ valueSection v → now (log .entry) ≡ logSection l → now (values .exit) ≡ valueSection (undone (members ended) l v)) ⌝ }
+{
+    let mut i = count;
+    while i > 0 {
+        i -= 1;
+        undo_record(values, log, i, ended);
+    }
+}

@@ -1,0 +1,2 @@
+-- Statuses of changes, set for a set.
+pub mod Statuses

@@ -1,0 +1,154 @@
+// The tables with a fixed place for each number: the header's figures, the entries' values, the changes' statuses and parents.
+use cells::read_u16;
+use cells::read_u32;
+use cells::write_u16;
+use cells::write_u32;
+use layout::Changes;
+use sets::ChangeSet;
+ghost use mathlib.Core.Path.{_≡_};
+ghost use mathlib.Core.List.{List};
+ghost use mathlib.Core.Bool.{not, cond, _&&_, _||_};
+ghost use Prim.Native.Nat.{ℕ, suc, _*_, _<_, _^_};
+ghost use lib.Dec.{ltb, eqb};
+ghost use lib.ListN.{length, getD, set};
+ghost use Rattle.rules.specs.Base.{put, outside};
+ghost use Rattle.rules.specs.Window.{isLive};
+ghost use Rattle.layout.specs.Codec.{headSize, valuesSize, changesSize, headSection, valueSection, changeSection};
+ghost use Rattle.sets.specs.Members.{members};
+ghost use Rattle.places.specs.Statuses.{withStatuses};
+
+// Figure k of the header.
+pub fn figure(head: &[u8], k: usize) -> usize
+    requires { ⌜ length (now head) ≡ headSize ⌝ }
+    requires { ⌜ k < 32 ⌝ }
+    ensures { λ r. ⌜ ((fs : List ℕ) → now (head .entry) ≡ headSection fs → getD fs k 0 < 65536 → r ≡ getD fs k 0) ⌝ }
+{
+    read_u16(head, k * 2) as usize
+}
+
+// Figure k of the header becomes v.
+pub fn store_figure(head: &mut [u8], k: usize, v: u16)
+    requires { ⌜ length (now head) ≡ headSize ⌝ }
+    requires { ⌜ k < 32 ⌝ }
+    ensures { λ _. ⌜ ((fs : List ℕ) → now (head .entry) ≡ headSection fs → k < length fs → now (head .exit) ≡ headSection (set fs k v)) ⌝ }
+{
+    write_u16(head, k * 2, v);
+}
+
+// The value of an entry.
+pub fn value(values: &[u8], e: u8) -> u32
+    requires { ⌜ length (now values) ≡ valuesSize ⌝ }
+    ensures { λ r. ⌜ ((v : ℕ → ℕ) → now (values .entry) ≡ valueSection v → v e < 2 ^ 32 → r ≡ v e) ⌝ }
+{
+    read_u32(values, (e as usize) * 4)
+}
+
+// The value of an entry becomes x.
+pub fn store_value(values: &mut [u8], e: u8, x: u32)
+    requires { ⌜ length (now values) ≡ valuesSize ⌝ }
+    ensures { λ _. ⌜ ((v : ℕ → ℕ) → now (values .entry) ≡ valueSection v → now (values .exit) ≡ valueSection (put v e x)) ⌝ }
+{
+    write_u32(values, (e as usize) * 4, x);
+}
+
+// The status of a change.
+pub fn status(changes: &[u8], c: u8) -> u8
+    requires { ⌜ length (now changes) ≡ changesSize ⌝ }
+    ensures { λ r. ⌜ ((st pa : ℕ → ℕ) → now (changes .entry) ≡ changeSection st pa → r ≡ st c) ⌝ }
+{
+    changes[(c as usize) * 4]
+}
+
+// The parent of a change.
+pub fn parent(changes: &[u8], c: u8) -> u8
+    requires { ⌜ length (now changes) ≡ changesSize ⌝ }
+    ensures { λ r. ⌜ ((st pa : ℕ → ℕ) → now (changes .entry) ≡ changeSection st pa → r ≡ pa c) ⌝ }
+{
+    changes[(c as usize) * 4 + 1]
+}
+
+// The status of a change becomes s.
+pub fn store_status(changes: &mut [u8], c: u8, s: u8)
+    requires { ⌜ length (now changes) ≡ changesSize ⌝ }
+    ensures { λ _. ⌜ ((st pa : ℕ → ℕ) → now (changes .entry) ≡ changeSection st pa → now (changes .exit) ≡ changeSection (put st c s) pa) ⌝ }
+{
+    changes[(c as usize) * 4] = s;
+}
+
+// The parent of a change becomes p.
+pub fn store_parent(changes: &mut [u8], c: u8, p: u8)
+    requires { ⌜ length (now changes) ≡ changesSize ⌝ }
+    ensures { λ _. ⌜ ((st pa : ℕ → ℕ) → now (changes .entry) ≡ changeSection st pa → now (changes .exit) ≡ changeSection st (put pa c p)) ⌝ }
+{
+    changes[(c as usize) * 4 + 1] = p;
+}
+
+// The status of a change becomes s where the change is a member.
+fn set_status(changes: &mut [u8], ended: ChangeSet, c: u8, s: u8)
+    requires { ⌜ length (now changes) ≡ changesSize ⌝ }
+    ensures { λ _. ⌜ ((st pa : ℕ → ℕ) → now (changes .entry) ≡ changeSection st pa → now (changes .exit) ≡ changeSection (put st c (cond (members ended c) s (st c))) pa) ⌝ }
+{
+    if ended.has(c) {
+        store_status(changes, c, s);
+    }
+}
+
+// The status of every member becomes s.
+pub fn set_statuses(changes: &mut [u8], ended: ChangeSet, s: u8)
+    requires { ⌜ length (now changes) ≡ changesSize ⌝ }
+    ensures { λ _. ⌜ ((st pa : ℕ → ℕ) → now (changes .entry) ≡ changeSection st pa → now (changes .exit) ≡ changeSection (withStatuses (members ended) s st) pa) ⌝ }
+{
+    let mut c: usize = 0;
+    while c <= Changes::MOST {
+        set_status(changes, ended, c as u8, s);
+        c += 1;
+    }
+}
+
+// The set with change c where its status lies from low to high.
+fn add_within(set: ChangeSet, changes: &[u8], c: u8, low: u8, high: u8) -> ChangeSet
+    requires { ⌜ length (now changes) ≡ changesSize ⌝ }
+    ensures { λ r. ⌜ ((k : ℕ) → members r k ≡ eqb k c && not (outside low high (getD (now (changes .entry)) (c * 4) 0)) || members set k) ⌝ }
+{
+    let status = changes[(c as usize) * 4];
+    if status < low {
+        return set;
+    }
+    if high < status {
+        return set;
+    }
+    set.add(c)
+}
+
+// The changes up to the highest given whose status lies from low to high.
+fn within(changes: &[u8], given: usize, low: u8, high: u8) -> ChangeSet
+    requires { ⌜ length (now changes) ≡ changesSize ⌝ }
+    requires { ⌜ given < 256 ⌝ }
+    ensures { λ r. ⌜ ((st pa : ℕ → ℕ) → now (changes .entry) ≡ changeSection st pa → (k : ℕ) → members r k ≡ ltb k (suc given) && not (outside low high (st k))) ⌝ }
+{
+    let mut set = ChangeSet::empty();
+    let mut next: usize = 0;
+    while next <= given {
+        set = add_within(set, changes, next as u8, low, high);
+        next += 1;
+    }
+    set
+}
+
+// The live changes.
+pub fn live_set(changes: &[u8], given: usize) -> ChangeSet
+    requires { ⌜ length (now changes) ≡ changesSize ⌝ }
+    requires { ⌜ given < 256 ⌝ }
+    ensures { λ r. ⌜ ((st pa : ℕ → ℕ) → now (changes .entry) ≡ changeSection st pa → (k : ℕ) → members r k ≡ ltb k (suc given) && isLive (st k)) ⌝ }
+{
+    within(changes, given, 1, 3)
+}
+
+// The changes that have a status.
+pub fn with_status(changes: &[u8], given: usize, s: u8) -> ChangeSet
+    requires { ⌜ length (now changes) ≡ changesSize ⌝ }
+    requires { ⌜ given < 256 ⌝ }
+    ensures { λ r. ⌜ ((st pa : ℕ → ℕ) → now (changes .entry) ≡ changeSection st pa → (k : ℕ) → members r k ≡ ltb k (suc given) && eqb (st k) s) ⌝ }
+{
+    within(changes, given, s, s)
+}
