@@ -4,6 +4,7 @@ pub mod Cases
 -- tables, and sections one after the other: a byte read, a section cut out, a section put in place; sections of records
 pub mod SectionLaws
 pub mod RecordLaws
+pub mod PartLaws
 -- decode (encode W) ≡ W of a sound W (SoundCodec.sound-again)
 pub mod CodecLaws
 pub mod SoundCodec
