@@ -1,0 +1,149 @@
+-- The walk over an entry's rows that finds the givers. Assumes nothing.
+use mathlib.Core.Path.{_≡_, refl, sym, ap, ap₂, _∙_}
+use mathlib.Core.Logic.{⊎-elim}
+use mathlib.Core.Bool.{Bool, true, false, _&&_, _||_, false≢true}
+use mathlib.Core.List.{List, [], _∷_, _++_}
+use Prim.Native.Nat.{ℕ, suc, _+_, _-_, _≤_, _<_}
+use native.Mathlib.Nat.{eq-or-lt-of-le}
+use native.Mathlib.Omega.{arith}
+use lib.Dec.{eqb}
+use lib.ListN.{length}
+use borrow.Author.Tests.{eq-eqb, ne-eqb}
+use Rattle.rules.specs.Base.{table, any, rising}
+use Rattle.rules.specs.Window.{PermitRecord, permitKey}
+use Rattle.rules.specs.Locks.{contains, permitted}
+use Rattle.rules.proofs.BaseLaws.{and-false, no-true, Same, same, other, same?}
+use Rattle.layout.specs.Codec.{permitSection}
+use Rattle.rows.specs.Rows.{Row, rowKey, rankOf, rank, rowAt, rows, Found}
+use Rattle.rows.proofs.OrderLaws.{Bytes, Small, small-at, ranks-rise}
+use Rattle.rows.proofs.RowLaws.{rows-split}
+use Rattle.rows.proofs.PlaceLaws.{any-where}
+use Rattle.rows.proofs.TableLaws.{table-any}
+use Rattle.permits.specs.PermitRows.{serves}
+use Rattle.permits.proofs.PermitLaws.{permitRow, permit-table}
+
+-- a row is a permit of the giver's, to the taker or to anybody, on the entry, that contains the mode
+unfoldable pub grants : ℕ → ℕ → ℕ → ℕ → Row → Bool
+grants giver taker entry mode r = eqb r.k2 giver && (eqb r.k3 taker || eqb r.k3 0) && eqb r.k1 entry && contains r.more mode
+
+-- on its entry, and on another
+grants-here : (g taker entry mode : ℕ) (r : Row) → r .k1 ≡ entry → grants g taker entry mode r ≡ eqb r.k2 g && serves taker mode r
+unfolding grants serves
+grants-here g taker entry mode r e = rw (eq-eqb (r .k1) entry e) (go (eqb r.k2 g) (eqb r.k3 taker || eqb r.k3 0) (contains r.more mode))
+  where
+    go : (a b c : Bool) → a && b && true && c ≡ a && (b && c)
+    go true true c = refl
+    go true false c = refl
+    go false b c = refl
+
+-- a row of another entry does not count
+grants-other : (g taker entry mode : ℕ) (r : Row) → (r .k1 ≡ entry → ⊥) → grants g taker entry mode r ≡ false
+unfolding grants
+grants-other g taker entry mode r h = rw (ne-eqb (r .k1) entry h, and-false (eqb r.k2 g && (eqb r.k3 taker || eqb r.k3 0)))
+
+-- tests over lists
+or-assoc : (a b c : Bool) → (a || b) || c ≡ a || (b || c)
+or-assoc true b c = refl
+or-assoc false b c = refl
+
+-- one of two lists passes
+any-append {ℓ} : {A : Type ℓ} (p : A → Bool) (l k : List A) → any p (l ++ k) ≡ any p l || any p k
+unfolding any
+any-append p [] k = refl
+any-append p (x ∷ l) k = ap (λ (b : Bool). p x || b) (any-append p l k) ∙ sym (or-assoc (p x) (any p l) (any p k))
+
+-- none of a table passes
+any-none {ℓ} : {A : Type ℓ} (p : A → Bool) (n i : ℕ) (f : ℕ → A) → ((j : ℕ) → i ≤ j → j < i + n → p (f j) ≡ false) → any p (table n i f) ≡ false
+any-none p n i f h = no-true (any p (table n i f)) (λ e. let w = any-where p n i f e in false≢true (sym (h (w .0) (w .1) (w .2)) ∙ w .3))
+
+-- a test that fails adds nothing
+or-no : (a b : Bool) → b ≡ false → a ≡ a || b
+or-no true b e = refl
+or-no false b e = sym e
+
+-- a giver noted, or not
+module _ (taker mode : ℕ) (r : Row) (d : Bool) (ed : d ≡ serves taker mode r) where
+  pub noted : d ≡ true → (k : ℕ) (m m′ : Bool) → m′ ≡ eqb k (r .k2) || m → m′ ≡ m || (eqb (r .k2) k && serves taker mode r)
+  noted t k m m′ e = rw (sym ed ∙ t) (e ∙ ap (λ (x : Bool). x || m) (swap (same? k (r .k2))) ∙ go (eqb (r .k2) k) m)
+    where
+      swap : {x : Bool} → Same k (r .k2) x → x ≡ eqb (r .k2) k
+      swap (same q) = sym (eq-eqb (r .k2) k (sym q))
+      swap (other n) = sym (ne-eqb (r .k2) k (λ q. n (sym q)))
+
+      go : (a m : Bool) → a || m ≡ m || (a && true)
+      go true true = refl
+      go true false = refl
+      go false true = refl
+      go false false = refl
+
+  -- a row that does not serve adds no giver
+  pub not-noted : d ≡ false → (k : ℕ) (m : Bool) → m ≡ m || (eqb (r .k2) k && serves taker mode r)
+  not-noted t k m = or-no m (eqb (r .k2) k && serves taker mode r) (rw (sym ed ∙ t, and-false (eqb (r .k2) k)))
+
+-- THE WALK over the first n rows of l
+-- the givers among the rows from place i on
+unfoldable pub ahead : List ℕ → ℕ → ℕ → ℕ → ℕ → ℕ → ℕ → Bool
+ahead l n taker entry mode i k = any (grants k taker entry mode) (table (n - i) i (rowAt l))
+
+-- none of which has a lower entry
+abbrev pub FromEntry : List ℕ → ℕ → ℕ → ℕ → Type 0
+FromEntry l n entry i = (j : ℕ) → i ≤ j → j < n → entry ≤ rowAt l j .k1
+
+module _ (l : List ℕ) (n : ℕ) (b : Bytes l) (taker entry mode : ℕ) where
+  -- the rows before the entry's place do not count
+  pub walk-from : (at : ℕ) → at ≤ n → Found l n (rankOf entry 0 0) at → (k : ℕ) → ahead l n taker entry mode at k ≡ any (grants k taker entry mode) (rows n l)
+  unfolding ahead
+  walk-from at h f k =
+      sym (ap (any (grants k taker entry mode)) (rows-split l n at h) ∙ any-append (grants k taker entry mode) (table at 0 (rowAt l)) (table (n - at) at (rowAt l))
+      ∙ ap (λ (x : Bool). x || any (grants k taker entry mode) (table (n - at) at (rowAt l))) (any-none (grants k taker entry mode) at 0 (rowAt l) (λ j g e. grants-other k taker entry mode (rowAt l j) (before j (omega arith)))))
+    where
+      before : (j : ℕ) → j < at → rowAt l j .k1 ≡ entry → ⊥
+      before j g e = let low : rank (rowAt l j) < rankOf entry 0 0 = f .lower j g in unfold rank in omega arith
+
+  -- from its place on no row has a lower entry
+  pub walk-entry : (at : ℕ) → Found l n (rankOf entry 0 0) at → FromEntry l n entry at
+  walk-entry at f j h g = let s : Small (rowAt l j) = small-at l b j in let high : rankOf entry 0 0 ≤ rank (rowAt l j) = f .higher j h g in unfold rank in omega arith
+
+  -- the next row is of the entry: its giver may be noted
+  pub walk-next : (i : ℕ) → i < n → rowAt l i .k1 ≡ entry → (k : ℕ) (m m′ all : Bool) → m || ahead l n taker entry mode i k ≡ all
+      → m′ ≡ m || (eqb (rowAt l i .k2) k && serves taker mode (rowAt l i)) → m′ || ahead l n taker entry mode (i + 1) k ≡ all
+  walk-next i h e k m m′ all inv em =
+      ap₂ (λ (x y : Bool). x || y) em refl ∙ or-assoc m (eqb (rowAt l i .k2) k && serves taker mode (rowAt l i)) (ahead l n taker entry mode (i + 1) k) ∙ ap (λ (x : Bool). m || x) (sym next) ∙ inv
+    where
+      next : ahead l n taker entry mode i k ≡ (eqb (rowAt l i .k2) k && serves taker mode (rowAt l i)) || ahead l n taker entry mode (i + 1) k
+      next = unfold ahead any table in
+          let d : n - i ≡ suc (n - (i + 1)) = omega arith in
+          let f : i + 1 ≡ suc i = omega arith in
+          rw (d, f) (ap (λ (x : Bool). x || any (grants k taker entry mode) (table (n - suc i) (suc i) (rowAt l))) (grants-here k taker entry mode (rowAt l i) e))
+
+  -- it is not: no later one is
+  pub walk-stop : rising rowKey (rows n l) ≡ true → (i : ℕ) → i < n → FromEntry l n entry i → (rowAt l i .k1 ≡ entry → ⊥) → (k : ℕ) (m all : Bool) → m || ahead l n taker entry mode i k ≡ all → m ≡ all
+  walk-stop r i h from e k m all inv = or-no m (ahead l n taker entry mode i k) none ∙ inv
+    where
+      above : entry < rowAt l i .k1
+      above = ⊎-elim (λ q. absurd (e (sym q))) (λ q. q) (eq-or-lt-of-le (from i (omega arith) h))
+
+      past : (j : ℕ) → i ≤ j → j < i + (n - i) → rowAt l j .k1 ≡ entry → ⊥
+      past j g f q = ⊎-elim (λ a. e (ap (λ (x : ℕ). rowAt l x .k1) a ∙ q)) later (eq-or-lt-of-le g)
+        where
+          later : i < j → ⊥
+          later a =
+              let s : Small (rowAt l i) = small-at l b i in
+              let t : Small (rowAt l j) = small-at l b j in
+              let up : rank (rowAt l i) < rank (rowAt l j) = ranks-rise l n b r i j a (omega arith) in
+              unfold rank in omega (arith, above)
+
+      none : ahead l n taker entry mode i k ≡ false
+      none = unfold ahead in any-none (grants k taker entry mode) (n - i) i (rowAt l) (λ j g f. grants-other k taker entry mode (rowAt l j) (past j g f))
+
+  -- there is none
+  pub walk-end : (i : ℕ) → i ≡ n → (k : ℕ) (m all : Bool) → m || ahead l n taker entry mode i k ≡ all → m ≡ all
+  unfolding ahead any table
+  walk-end i h k m all inv = let z : n - i ≡ 0 = omega arith in or-no m (ahead l n taker entry mode i k) (rw z) ∙ inv
+
+-- and the rows' givers are the permits'
+pub givers-permitted : (ps : List PermitRecord) (n : ℕ) (bytes : List ℕ) → length ps ≡ n → bytes ≡ permitSection ps → n ≤ 1024 → (k taker entry mode : ℕ) (x : Bool)
+    → x ≡ any (grants k taker entry mode) (rows n bytes) → x ≡ permitted ps k taker entry mode
+unfolding permitted grants permitRow
+givers-permitted ps n bytes len is few k taker entry mode x e =
+    e ∙ table-any permitRow permitKey permitSection 1024 permit-table ps n bytes len is few (grants k taker entry mode) (λ p. eqb p.giver k && (eqb p.taker taker || eqb p.taker 0) && eqb p.entry entry && contains p.ops mode) (λ p. refl)

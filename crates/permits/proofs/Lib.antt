@@ -1,0 +1,8 @@
+-- What is proved of the table of permits. Other crates cite a file X here as Rattle.permits.proofs.X.
+-- permits as rows; the permits left and the entries named are the rules'
+pub mod PermitLaws
+-- the hand-over: rows given one after the other, and what that makes of the permits
+pub mod GiveLaws
+pub mod HandLaws
+-- the walk over an entry's rows
+pub mod GiverLaws

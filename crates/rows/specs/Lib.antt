@@ -1,0 +1,2 @@
+-- Sorted rows of four bytes.
+pub mod Rows

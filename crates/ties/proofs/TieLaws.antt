@@ -1,0 +1,147 @@
+-- Ties as rows, and what the calls on rows come to in ties. Assumes nothing.
+use mathlib.Core.Path.{_≡_, refl, sym, ap, _∙_}
+use mathlib.Core.Logic.{_⊎_, inl, inr}
+use mathlib.Core.Bool.{Bool, true, false, not, cond, _&&_, _||_, false≢true}
+use mathlib.Core.List.{List, [], _∷_, _++_}
+use Prim.Native.Nat.{ℕ, _-_, _*_, _≤_, _<_, min, max, Ordering}
+use native.Mathlib.Omega.{arith}
+use lib.Dec.{ltb, eqb}
+use lib.ListN.{length, replicate}
+use borrow.Author.Tests.{ltb-true, ltb-false, eqb-true}
+use Rattle.rules.specs.Base.{Key, order, isLt, byOrder, all, any, exceeds, insert, rising}
+use Rattle.rules.specs.Sets.{Set, only}
+use Rattle.rules.specs.Window.{limits, TieRecord, Window, tieKey}
+use Rattle.rules.specs.Ties.{isGroup, makeTie, addTie, tied}
+use Rattle.rules.specs.Locks.{contains}
+use Rattle.rules.specs.Effects.{endAll}
+use Rattle.rules.proofs.BaseLaws.{and-left, and-right, or-cases}
+use Rattle.rules.proofs.ListLaws.{find}
+use Rattle.rules.proofs.SortLaws.{Before, by1, by2, by3, before-trans, before-of-lt, Ordered, below, equal, above, ordered}
+use Rattle.layout.specs.Codec.{tieBytes, tieSection}
+use Rattle.layout.proofs.RecordLaws.{ties-flat}
+use Rattle.rows.specs.Rows.{Row, row, rowKey, rowBytes, rows, hasKey, uniteRows, addRow, unlessOver, spared, Stored, Closed, Holds}
+use Rattle.rows.proofs.TableLaws.{TableOf, flat-rows, table-rising, table-closed, table-any, table-fits, table-added}
+use Rattle.ties.specs.Tables.{tieStands, tiesLeft}
+
+-- a tie's row
+unfoldable pub tieRow : TieRecord → Row
+tieRow t = row t.kind t.leader t.follower 0
+
+-- ties are a table of rows
+tie-table : TableOf tieRow tieKey tieSection 512
+unfolding tieRow tieKey tieBytes rowBytes rowKey
+tie-table = record {
+  flat = λ l h. ties-flat l h ∙ ap (λ (y : List ℕ). y ++ replicate ((512 - length l) * 4) 0) (flat-rows tieRow tieBytes (λ t. refl) l);
+  keyed = λ t. refl;
+}
+
+-- a tie that stands is not changed by a second
+tie-united : (t u : TieRecord) → tieRow u ≡ uniteRows (tieRow t) (tieRow u)
+unfolding tieRow uniteRows contains
+tie-united t u = refl
+
+-- the ties that an ended set leaves are the rules'
+pub ties-ended : (how : ℕ) (s : Set) (W : Window) → endAll how s W .ties ≡ tiesLeft s (W .ties)
+unfolding endAll tiesLeft
+ties-ended how s W = refl
+
+-- A TIE THAT STANDS is not entered again
+irrefl : {a : Key} → Before a a → ⊥
+irrefl (by1 p) = omega arith
+irrefl (by2 e p) = omega arith
+irrefl (by3 e f p) = omega arith
+
+-- a tie of the same kind and ends has its key
+same-key : (t u : TieRecord) → eqb u.kind t.kind && eqb u.leader t.leader && eqb u.follower t.follower ≡ true → tieKey t ≡ tieKey u
+unfolding tieKey
+same-key t u e =
+    let d : eqb u.kind t.kind && eqb u.leader t.leader ≡ true = and-left (eqb u.kind t.kind && eqb u.leader t.leader) (eqb u.follower t.follower) e in
+    let a : t .kind ≡ u .kind = sym (eqb-true u.kind t.kind (and-left (eqb u.kind t.kind) (eqb u.leader t.leader) d)) in
+    let b : t .leader ≡ u .leader = sym (eqb-true u.leader t.leader (and-right (eqb u.kind t.kind) (eqb u.leader t.leader) d)) in
+    let c : t .follower ≡ u .follower = sym (eqb-true u.follower t.follower (and-right (eqb u.kind t.kind && eqb u.leader t.leader) (eqb u.follower t.follower) e)) in
+    λ i. record { k1 = a i; k2 = b i; k3 = c i }
+
+-- one that stands leaves the ties as they are
+pub stands-same : (t : TieRecord) (ts : List TieRecord) → rising tieKey ts ≡ true → tieStands t ts ≡ true → addTie t ts ≡ ts
+unfolding tieStands tied only any addTie insert byOrder rising
+stands-same t [] r e = absurd (false≢true e)
+stands-same t (u ∷ ts) r e =
+    go (ordered (tieKey t) (tieKey u)) (stands-same t ts (and-right (all (λ y. isLt (order (tieKey u) (tieKey y))) ts) (rising tieKey ts) r)) (or-cases (eqb u.kind t.kind && eqb u.leader t.leader && eqb u.follower t.follower) (tieStands t ts) e)
+  where
+    later : tieStands t ts ≡ true → Before (tieKey u) (tieKey t)
+    later q =
+        let w = find (λ v. eqb v.kind t.kind && eqb v.leader t.leader && eqb v.follower t.follower) (λ y. isLt (order (tieKey u) (tieKey y))) ts q (and-left (all (λ y. isLt (order (tieKey u) (tieKey y))) ts) (rising tieKey ts) r) in
+        rw (same-key t (w .0) (w .1)) (before-of-lt (tieKey u) (tieKey (w .0)) (w .2))
+
+    go : {o : Ordering} → Ordered (tieKey t) (tieKey u) o → (tieStands t ts ≡ true → addTie t ts ≡ ts) → (eqb u.kind t.kind && eqb u.leader t.leader && eqb u.follower t.follower ≡ true) ⊎ (tieStands t ts ≡ true)
+        → byOrder o (t ∷ u ∷ ts) (u ∷ ts) (u ∷ insert tieKey (λ p q. q) t ts) ≡ u ∷ ts
+    go (below b) ih (inl q) = absurd (irrefl (rw (same-key t u q) at b))
+    go (below b) ih (inr q) = absurd (irrefl (before-trans b (later q)))
+    go (equal k) ih q = refl
+    go (above b) ih (inl q) = absurd (irrefl (rw (same-key t u q) at b))
+    go (above b) ih (inr q) = ap (λ (x : List TieRecord). u ∷ x) (ih q)
+
+-- THE ENDS AS STORED
+abbrev stored : Bool → ℕ → ℕ → ℕ → TieRecord
+stored b k l f = cond b (record { kind = 3; leader = min l f; follower = max l f }) (record { kind = k; leader = l; follower = f })
+
+module _ (k l f : ℕ) where
+  -- a group tie whose ends are not in order
+  pub ends-swapped : eqb k 3 && ltb f l ≡ true → (f ≡ makeTie k l f .leader) × (l ≡ makeTie k l f .follower)
+  unfolding makeTie isGroup
+  ends-swapped e =
+      let h : f < l = ltb-true f l (and-right (eqb k 3) (ltb f l) e) in
+      rw (and-left (eqb k 3) (ltb f l) e) (omega arith, omega arith)
+
+  -- any other tie
+  pub ends-kept : eqb k 3 && ltb f l ≡ false → (l ≡ makeTie k l f .leader) × (f ≡ makeTie k l f .follower)
+  unfolding makeTie isGroup
+  ends-kept e = go (eqb k 3) e
+    where
+      go : (b : Bool) → b && ltb f l ≡ false → (l ≡ stored b k l f .leader) × (f ≡ stored b k l f .follower)
+      go true q = let h : l ≤ f = ltb-false f l q in (omega arith, omega arith)
+      go false q = (refl, refl)
+
+  -- the kind is as it was named
+  kind-kept : k ≡ makeTie k l f .kind
+  unfolding makeTie isGroup
+  kind-kept = go (eqb k 3) (eqb-true k 3)
+    where
+      go : (b : Bool) → (b ≡ true → k ≡ 3) → k ≡ stored b k l f .kind
+      go true h = h refl
+      go false h = refl
+
+  -- the row of the tie as it is stored
+  pub tie-row : (a b : ℕ) → a ≡ makeTie k l f .leader → b ≡ makeTie k l f .follower → row k a b 0 ≡ tieRow (makeTie k l f)
+  unfolding tieRow
+  tie-row a b ea eb = λ i. record { k1 = kind-kept i; k2 = ea i; k3 = eb i; more = 0 }
+
+-- THE CALLS, on `ts` whose section is `bytes`
+module _ (ts : List TieRecord) (n : ℕ) (bytes : List ℕ) (len : length ts ≡ n) (is : bytes ≡ tieSection ts) (few : n ≤ 512) where
+  -- its rows are in order where the ties are
+  pub ties-rising : rising tieKey ts ≡ true → rising rowKey (rows n bytes) ≡ true
+  ties-rising = table-rising tieRow tieKey tieSection 512 tie-table ts n bytes len is few
+
+  -- the rows that are spared are the ties that are left
+  pub ties-left : (s : Set) (r : ℕ) (after : List ℕ) → Closed (spared s) n bytes r after → Holds tieSection (tiesLeft s ts) r after
+  unfolding tiesLeft spared tieRow
+  ties-left s r after c = table-closed tieRow tieKey tieSection 512 tie-table ts n bytes len is few (spared s) (λ t. not (s t.leader || s t.follower)) (λ t. refl) r after c
+
+  module _ (x : Row) (t : TieRecord) (e : x ≡ tieRow t) where
+    -- a tie fits where its row does
+    pub ties-fit : (b : Bool) → b ≡ not (exceeds (length (addRow x (rows n bytes))) 512) → b ≡ not (exceeds (length (addTie t ts)) (limits .ties))
+    unfolding addTie limits
+    ties-fit b h =
+        table-fits tieRow tieKey tieSection 512 tie-table ts n bytes len is few (λ p q. q) tie-united t b (rw e at h)
+
+    -- a tie is added where its row is
+    pub ties-added : (r : ℕ) (after : List ℕ) → Stored (unlessOver 512 (addRow x (rows n bytes)) (rows n bytes)) bytes r after → Holds tieSection (unlessOver (limits .ties) (addTie t ts) ts) r after
+    unfolding addTie limits
+    ties-added r after s = table-added tieRow tieKey tieSection 512 tie-table ts n bytes len is few (λ p q. q) tie-united t r after (rw e at s)
+
+    -- a tie stands where a row of its key does
+    pub ties-stand : (b : Bool) → b ≡ any (hasKey (x .k1) (x .k2) (x .k3)) (rows n bytes) → b ≡ tieStands t ts
+    unfolding tieStands tied only hasKey tieRow
+    ties-stand b h =
+        h ∙ ap (λ (y : Row). any (hasKey (y .k1) (y .k2) (y .k3)) (rows n bytes)) e
+        ∙ table-any tieRow tieKey tieSection 512 tie-table ts n bytes len is few (hasKey t.kind t.leader t.follower) (λ u. eqb u.kind t.kind && eqb u.leader t.leader && eqb u.follower t.follower) (λ u. refl)

@@ -1,0 +1,2 @@
+-- The table of ties.
+pub mod Tables
