@@ -1,0 +1,145 @@
+-- The changes: statuses in their range, lower parents, zeros elsewhere. Assumes nothing.
+use mathlib.Core.Path.{_≡_, refl, sym, _∙_, ap}
+use mathlib.Core.Logic.{_≢_, ⊎-elim}
+use mathlib.Core.Bool.{Bool, true, false, not, cond, _&&_, _||_, false≢true}
+use mathlib.Core.List.{List, [], _∷_}
+use Prim.Native.Nat.{ℕ, zero, suc, _+_, _-_, _*_, _/_, _%_, _≤_, _<_}
+use native.Mathlib.Nat.{add-zero}
+use native.Mathlib.Omega.{arith}
+use lib.Dec.{ltb, eqb}
+use lib.ListN.{getD, length}
+use lib.Seq.{ext-getD}
+use Rattle.rules.specs.Base.{allBelow, outside, table}
+use Rattle.rules.specs.Sound.{statusSound, parentSound}
+use Rattle.rules.proofs.BaseLaws.{and-both, and-four, eqb-eq, eqb-same, eqb-other, ltb-true, ltb-false, lt-of, or-right, allBelow-at, allBelow-intro, Same, same, other, same?, Below, under, over, below}
+use Rattle.layout.specs.Codec.{changeByte, changeSection}
+use Rattle.layout.proofs.SectionLaws.{length-table, getD-table0}
+use Rattle.cells.specs.Part.{zeroAt}
+use Rattle.cells.proofs.ZeroLaws.{zeros-at, zeros-all}
+use Rattle.sections.specs.Cells.{changeFits, nextFits}
+use Rattle.sections.specs.Sections.{ChangesSound}
+
+module _ (bs : List ℕ) (size : length bs ≡ 1024) (given : ℕ) (most : given < 256) where
+  -- byte k of change c's place; nothing past the last place
+  part : ℕ → ℕ → ℕ
+  part k c = cond (ltb c 256) (getD bs (c * 4 + k) 0) 0
+
+  part-at : (k c : ℕ) → c < 256 → part k c ≡ getD bs (c * 4 + k) 0
+  unfolding part
+  part-at k c h = rw (ltb-true c 256 h)
+
+  part-none : (k c : ℕ) → 256 ≤ c → part k c ≡ 0
+  unfolding part
+  part-none k c h = rw (ltb-false c 256 h)
+
+  -- the three tests
+  pub record Tests : Type 0 where
+    pub first : allBelow (4 - 0) (zeroAt bs 0) ≡ true
+    pub fits : allBelow given (nextFits bs) ≡ true
+    pub rest : allBelow (1024 - (given * 4 + 4)) (zeroAt bs (given * 4 + 4)) ≡ true
+
+  -- what they say of a place: that of no change is 0
+  data Place (c : ℕ) : Bool → Type 0 where
+    used : c ≢ 0 → c ≤ given → changeFits bs c ≡ true → Place c false
+    unused : ((k : ℕ) → k < 4 → part k c ≡ 0) → Place c true
+
+  place : Tests → (c : ℕ) → Place c (eqb c 0 || ltb given c)
+  unfolding nextFits
+  place t c = go (same? c 0) (below given c)
+    where
+      past : given < c → (k : ℕ) → k < 4 → {b : Bool} → Below c 256 b → part k c ≡ 0
+      past h k l (under m) = part-at k c m ∙ zeros-at bs (given * 4 + 4) 1024 (t .rest) (c * 4 + k) (omega arith) (omega arith)
+      past h k l (over m) = part-none k c m
+
+      fit : c ≢ 0 → c ≤ given → changeFits bs c ≡ true
+      fit n h = let e : c - 1 + 1 ≡ c = omega arith in rw e at (allBelow-at given (nextFits bs) (t .fits) (c - 1) (omega arith))
+
+      go : {p q : Bool} → Same c 0 p → Below given c q → Place c (p || q)
+      go (same e) q = unused (λ k l. part-at k c (omega arith) ∙ zeros-at bs 0 4 (t .first) (c * 4 + k) (omega arith) (omega arith))
+      go (other n) (under h) = unused (λ k l. past h k l (below c 256))
+      go (other n) (over h) = used n h (fit n h)
+
+  -- the bytes of a used place
+  fits-parts : (c : ℕ) → changeFits bs c ≡ true
+      → (not (outside 1 5 (getD bs (c * 4) 0)) ≡ true) × (ltb (getD bs (c * 4 + 1) 0) c ≡ true) × (eqb (getD bs (c * 4 + 2) 0) 0 ≡ true) × (eqb (getD bs (c * 4 + 3) 0) 0 ≡ true)
+  unfolding changeFits
+  fits-parts c h = and-four _ _ _ _ h
+
+  reserved : Tests → (c k : ℕ) → c < 256 → 2 ≤ k → k < 4 → getD bs (c * 4 + k) 0 ≡ 0
+  reserved t c k h l m = go (place t c) k l m
+    where
+      go : {b : Bool} → Place c b → (j : ℕ) → 2 ≤ j → j < 4 → getD bs (c * 4 + j) 0 ≡ 0
+      go (unused f) j p q = sym (part-at j c h) ∙ f j q
+      go (used n u f) zero p q = absurd (omega arith)
+      go (used n u f) (suc zero) p q = absurd (omega arith)
+      go (used n u f) (suc (suc zero)) p q = eqb-eq _ 0 (fits-parts c f .2)
+      go (used n u f) (suc (suc (suc zero))) p q = eqb-eq _ 0 (fits-parts c f .3)
+      go (used n u f) (suc (suc (suc (suc j)))) p q = absurd (omega arith)
+
+  changes-bytes : Tests → bs ≡ changeSection (part 0) (part 1)
+  unfolding changeSection changeByte
+  changes-bytes t = ext-getD 0 bs (table 1024 0 (changeByte (part 0) (part 1))) (size ∙ sym (length-table 1024 0 (changeByte (part 0) (part 1))))
+      (λ i h. let m : i < 1024 = rw size at h in sym (getD-table0 1024 (changeByte (part 0) (part 1)) i 0 m ∙ go i m (i % 4) refl))
+    where
+      at : (i k : ℕ) → i < 1024 → i % 4 ≡ k → getD bs (i / 4 * 4 + k) 0 ≡ getD bs i 0
+      at i k m e = let q : i / 4 * 4 + k ≡ i = omega arith in ap (λ x. getD bs x 0) q
+
+      go : (i : ℕ) → i < 1024 → (r : ℕ) → i % 4 ≡ r → getD (part 0 (i / 4) ∷ part 1 (i / 4) ∷ []) r 0 ≡ getD bs i 0
+      go i m zero e = part-at 0 (i / 4) (omega arith) ∙ at i 0 m e
+      go i m (suc zero) e = part-at 1 (i / 4) (omega arith) ∙ at i 1 m e
+      go i m (suc (suc zero)) e = sym (reserved t (i / 4) 2 (omega arith) (omega arith) (omega arith)) ∙ at i 2 m e
+      go i m (suc (suc (suc zero))) e = sym (reserved t (i / 4) 3 (omega arith) (omega arith) (omega arith)) ∙ at i 3 m e
+      go i m (suc (suc (suc (suc r)))) e = absurd (omega arith)
+
+  changes-of : Tests → ChangesSound bs given
+  unfolding statusSound parentSound
+  changes-of t = record { status = part 0; parent = part 1; bytes = changes-bytes t; statuses = λ c. status c (place t c); parents = λ c. parent c (place t c) }
+    where
+      first-at : (c : ℕ) → c ≤ given → part 0 c ≡ getD bs (c * 4) 0
+      first-at c h = part-at 0 c (omega arith) ∙ ap (λ x. getD bs x 0) (add-zero (c * 4))
+
+      status : (c : ℕ) {b : Bool} → Place c b → cond b (eqb (part 0 c) 0) (not (outside 1 5 (part 0 c))) ≡ true
+      status c (unused f) = rw (f 0 (omega arith))
+      status c (used n u f) = rw (first-at c u) (fits-parts c f .0)
+
+      parent : (c : ℕ) {b : Bool} → Place c b → cond b (eqb (part 1 c) 0) (ltb (part 1 c) c) ≡ true
+      parent c (unused f) = rw (f 1 (omega arith))
+      parent c (used n u f) = rw (part-at 1 c (omega arith)) (fits-parts c f .1)
+
+  module _ (s : ChangesSound bs given) where
+    byte-at : (i : ℕ) → i < 1024 → getD bs i 0 ≡ getD (s .status (i / 4) ∷ s .parent (i / 4) ∷ []) (i % 4) 0
+    unfolding changeSection changeByte
+    byte-at i h = ap (λ l. getD l i 0) (s .bytes) ∙ getD-table0 1024 (changeByte (s .status) (s .parent)) i 0 h
+
+    zero-of : (c : ℕ) → eqb c 0 || ltb given c ≡ true → (s .status c ≡ 0) × (s .parent c ≡ 0)
+    unfolding statusSound parentSound
+    zero-of c h = (eqb-eq (s .status c) 0 (rw h at (s .statuses c)), eqb-eq (s .parent c) 0 (rw h at (s .parents c)))
+
+    zero-byte : (i : ℕ) → i < 1024 → eqb (i / 4) 0 || ltb given (i / 4) ≡ true → getD bs i 0 ≡ 0
+    zero-byte i h e = byte-at i h ∙ go (i % 4)
+      where
+        go : (r : ℕ) → getD (s .status (i / 4) ∷ s .parent (i / 4) ∷ []) r 0 ≡ 0
+        go zero = zero-of (i / 4) e .0
+        go (suc zero) = zero-of (i / 4) e .1
+        go (suc (suc r)) = refl
+
+    fits-of : (c : ℕ) → c < given → nextFits bs c ≡ true
+    unfolding nextFits changeFits statusSound parentSound
+    fits-of c h =
+        let a : (c + 1) * 4 / 4 ≡ c + 1 = omega arith in let a′ : (c + 1) * 4 % 4 ≡ 0 = omega arith in
+        let b : ((c + 1) * 4 + 1) / 4 ≡ c + 1 = omega arith in let b′ : ((c + 1) * 4 + 1) % 4 ≡ 1 = omega arith in
+        let d′ : ((c + 1) * 4 + 2) % 4 ≡ 2 = omega arith in let e′ : ((c + 1) * 4 + 3) % 4 ≡ 3 = omega arith in
+        let n : eqb (c + 1) 0 || ltb given (c + 1) ≡ false = rw (eqb-other (c + 1) 0 (omega arith), ltb-false given (c + 1) (omega arith)) in
+        let x : not (outside 1 5 (s .status (c + 1))) ≡ true = rw n at (s .statuses (c + 1)) in
+        let y : ltb (s .parent (c + 1)) (c + 1) ≡ true = rw n at (s .parents (c + 1)) in
+        rw (byte-at ((c + 1) * 4) (omega arith), a, a′, x, byte-at ((c + 1) * 4 + 1) (omega arith), b, b′, y, byte-at ((c + 1) * 4 + 2) (omega arith), d′, byte-at ((c + 1) * 4 + 3) (omega arith), e′)
+
+    tests-of : Tests
+    tests-of = record {
+      first = zeros-all bs 0 4 (λ i h t. let q : i / 4 ≡ 0 = omega arith in zero-byte i (omega arith) (rw q));
+      fits = allBelow-intro given (nextFits bs) fits-of;
+      rest = zeros-all bs (given * 4 + 4) 1024 (λ i h t. zero-byte i t (or-right (eqb (i / 4) 0) _ (ltb-true given (i / 4) (omega arith))));
+    }
+
+  pub changes-sound : (Tests → ChangesSound bs given) × (ChangesSound bs given → Tests)
+  changes-sound = (changes-of, tests-of)

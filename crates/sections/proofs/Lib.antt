@@ -1,0 +1,10 @@
+-- The sections of sound windows: what the tests on bytes come to.
+pub mod ByteLaws
+pub mod PlaceLaws
+pub mod HeadLaws
+pub mod TurnLaws
+pub mod ChangeLaws
+pub mod RowLaws
+pub mod TableLaws
+pub mod LockLaws
+pub mod LogLaws

@@ -1,0 +1,185 @@
+-- The locks: readers and writers of each entry, live and apart, and zeros. Assumes nothing.
+use mathlib.Core.Path.{_≡_, refl, sym, _∙_, ap}
+use mathlib.Core.Logic.{⊎-elim}
+use mathlib.Core.Bool.{Bool, true, false, not, cond, _&&_, _||_, false≢true}
+use mathlib.Core.List.{List}
+use Prim.Native.Nat.{ℕ, zero, suc, _+_, _-_, _*_, _/_, _%_, _^_, _≤_, _<_}
+use native.Mathlib.Nat.{zero-div, pow-suc, mul-comm, div-div-eq-div-mul, div-lt-iff-lt-mul}
+use native.Mathlib.Omega.{arith}
+use lib.Dec.{leb, ltb, eqb}
+use lib.ListN.{getD, length}
+use lib.Seq.{ext-getD}
+use Rattle.rules.specs.Base.{allBelow, anyBelow, table}
+use Rattle.rules.specs.Sets.{Set}
+use Rattle.rules.specs.Sound.{heldSound}
+use Rattle.rules.proofs.BaseLaws.{and-both, and-left, and-right, or-cases, or-none, or-right, and-false, not-true, no-true, both-ways, eqb-eq, eqb-same, ltb-true, ltb-false, lt-of, allBelow-at, allBelow-intro, any-intro, any-elim, Same, same, other, same?, Below, under, over, below}
+use Rattle.layout.specs.Codec.{bit, pack, unpack, lockByte, lockSection}
+use Rattle.layout.proofs.SectionLaws.{length-table, getD-table0}
+use Rattle.cells.specs.Part.{zeroAt}
+use Rattle.cells.proofs.ZeroLaws.{zeros-at, zeros-all}
+use Rattle.locks.proofs.BitLaws.{lockBits, lock-bits, bits-read}
+use Rattle.sections.specs.Cells.{reads, writes, lockFits, rowFits}
+use Rattle.sections.specs.Sections.{LocksSound}
+use Rattle.sections.proofs.ByteLaws.{Bytes}
+
+-- eight bits of a byte are the byte
+two-pow : (i : ℕ) → 2 ^ suc i ≡ 2 * 2 ^ i
+two-pow i = pow-suc 2 i ∙ mul-comm (2 ^ i) 2
+
+lowest-bit : (x : ℕ) → bit (eqb (x / 1 % 2) 1) ≡ x % 2
+lowest-bit x = let e : x / 1 % 2 ≡ x % 2 = omega arith in rw e (go (x % 2) refl)
+  where
+    go : (r : ℕ) → x % 2 ≡ r → bit (eqb r 1) ≡ r
+    go zero e = refl
+    go (suc zero) e = refl
+    go (suc (suc r)) e = absurd (omega arith)
+
+pack-same : (n : ℕ) (p q : ℕ → Bool) → ((j : ℕ) → j < n → p j ≡ q j) → pack n p ≡ pack n q
+unfolding pack
+pack-same zero p q h = refl
+pack-same (suc n) p q h = rw (h 0 (omega arith), pack-same n (λ j. p (suc j)) (λ j. q (suc j)) (λ j l. h (suc j) (omega arith)))
+
+pub pack-unpack : (n x : ℕ) → x < 2 ^ n → pack n (unpack x) ≡ x
+unfolding pack unpack
+pack-unpack zero x h = omega arith
+pack-unpack (suc n) x h =
+    let two : 0 < 2 = omega arith in
+    let l : x / 2 < 2 ^ n = div-lt-iff-lt-mul two .1 (rw (pow-suc 2 n) at h) in
+    let e : pack n (λ j. unpack x (suc j)) ≡ pack n (unpack (x / 2)) = pack-same n (λ j. unpack x (suc j)) (unpack (x / 2)) (λ j k. rw (two-pow j, ← (div-div-eq-div-mul x 2 (2 ^ j)))) in
+    let i : pack n (unpack (x / 2)) ≡ x / 2 = pack-unpack n (x / 2) l in
+    rw (lowest-bit x) (omega (arith, e, i))
+
+pack-none : (n : ℕ) → pack n (λ j. false) ≡ 0
+unfolding pack
+pack-none zero = refl
+pack-none (suc n) = rw (pack-none n)
+
+-- a set with no member, as a test of all numbers
+pub none-as : (n : ℕ) (p q : ℕ → Bool) → ((k : ℕ) → k < n → q k ≡ not (p k)) → not (anyBelow n p) ≡ allBelow n q
+none-as n p q h = both-ways _ _
+    (λ e. allBelow-intro n q (λ k l. h k l ∙ ap not (no-true (p k) (λ x. false≢true (rw (any-intro n p k l x) at e)))))
+    (λ e. ap not (no-true (anyBelow n p) (λ a. let m = any-elim n p a in false≢true (rw (m .2) at (sym (h (m .0) (m .1)) ∙ allBelow-at n q e (m .0) (m .1))))))
+
+no-not : (x : Bool) → not (not x) ≡ true → x ≡ true
+no-not true p = refl
+no-not false p = p
+
+module _ (bs : List ℕ) (b : Bytes bs) (size : length bs ≡ 16384) (entries : ℕ) (lives : Set) (most : entries ≤ 256) where
+  -- both tests
+  pub record LockTests : Type 0 where
+    pub fine : allBelow entries (rowFits bs lives) ≡ true
+    pub rest : allBelow (16384 - entries * 64) (zeroAt bs (entries * 64)) ≡ true
+
+  heldAt : ℕ → ℕ → ℕ
+  heldAt e c = cond (ltb e 256 && ltb c 256) (cond (writes bs e c) 2 (bit (reads bs e c))) 0
+
+  -- the bits of an entry's change
+  data Bits (e c : ℕ) : Bool → Bool → Type 0 where
+    none : Bits e c false false
+    reader : e < entries → lives c ≡ true → Bits e c true false
+    writer : e < entries → lives c ≡ true → Bits e c false true
+
+  bits : LockTests → (e c : ℕ) → e < 256 → c < 256 → Bits e c (reads bs e c) (writes bs e c)
+  unfolding reads writes
+  bits t e c he hc = go (below e entries)
+    where
+      zero-bit : (j : ℕ) → unpack 0 j ≡ false
+      zero-bit j = unfold unpack in rw (zero-div (2 ^ j))
+
+      fits : (r w : Bool) → e < entries → not (r && w || (r || w) && not (lives c)) ≡ true → Bits e c r w
+      fits true true h q = absurd (false≢true q)
+      fits true false h q = reader h (no-not (lives c) q)
+      fits false true h q = writer h (no-not (lives c) q)
+      fits false false h q = none
+
+      go : {x : Bool} → Below e entries x → Bits e c (unpack (getD bs (e * 64 + c / 8) 0) (c % 8)) (unpack (getD bs (e * 64 + 32 + c / 8) 0) (c % 8))
+      go (under h) = fits _ _ h (unfold rowFits lockFits reads writes in allBelow-at 256 (lockFits bs lives e) (allBelow-at entries (rowFits bs lives) (t .fine) e h) c hc)
+      go (over h) = rw (zeros-at bs (entries * 64) 16384 (t .rest) (e * 64 + c / 8) (omega arith) (omega arith), zeros-at bs (entries * 64) 16384 (t .rest) (e * 64 + 32 + c / 8) (omega arith) (omega arith), zero-bit (c % 8)) none
+
+  -- a bit of the section is what the lock says
+  bit-of : LockTests → (e c m : ℕ) → e < 256 → c < 256 → m < 2 → eqb (heldAt e c) (suc m) ≡ unpack (getD bs (e * 64 + m * 32 + c / 8) 0) (c % 8)
+  unfolding heldAt reads writes
+  bit-of t e c m he hc hm = rw (ltb-true e 256 he, ltb-true c 256 hc) (go m hm (bits t e c he hc))
+    where
+      at : (x y : ℕ) → x ≡ y → unpack (getD bs x 0) (c % 8) ≡ unpack (getD bs y 0) (c % 8)
+      at x y q = ap (λ z. unpack (getD bs z 0) (c % 8)) q
+
+      read-bit : {r w : Bool} → Bits e c r w → eqb (cond w 2 (bit r)) 1 ≡ r
+      read-bit none = refl
+      read-bit (reader h l) = refl
+      read-bit (writer h l) = refl
+
+      write-bit : {r w : Bool} → Bits e c r w → eqb (cond w 2 (bit r)) 2 ≡ w
+      write-bit none = refl
+      write-bit (reader h l) = refl
+      write-bit (writer h l) = refl
+
+      go : (k : ℕ) → k < 2 → Bits e c (unpack (getD bs (e * 64 + c / 8) 0) (c % 8)) (unpack (getD bs (e * 64 + 32 + c / 8) 0) (c % 8))
+          → eqb (cond (unpack (getD bs (e * 64 + 32 + c / 8) 0) (c % 8)) 2 (bit (unpack (getD bs (e * 64 + c / 8) 0) (c % 8)))) (suc k) ≡ unpack (getD bs (e * 64 + k * 32 + c / 8) 0) (c % 8)
+      go zero h x = read-bit x ∙ at (e * 64 + c / 8) (e * 64 + 0 * 32 + c / 8) (omega arith)
+      go (suc zero) h x = write-bit x ∙ at (e * 64 + 32 + c / 8) (e * 64 + 1 * 32 + c / 8) (omega arith)
+      go (suc (suc k)) h x = absurd (omega arith)
+
+  locks-bytes : LockTests → bs ≡ lockSection heldAt
+  unfolding lockSection lockByte
+  locks-bytes t = ext-getD 0 bs (table 16384 0 (lockByte heldAt)) (size ∙ sym (length-table 16384 0 (lockByte heldAt)))
+      (λ i h. let m : i < 16384 = rw size at h in sym (getD-table0 16384 (lockByte heldAt) i 0 m ∙ go i m))
+    where
+      one : (i j : ℕ) → i < 16384 → j < 8 → eqb (heldAt (i / 64) (i % 32 * 8 + j)) (suc (i % 64 / 32)) ≡ unpack (getD bs i 0) j
+      one i j h l =
+          let q : i / 64 * 64 + i % 64 / 32 * 32 + (i % 32 * 8 + j) / 8 ≡ i = omega arith in
+          let r : (i % 32 * 8 + j) % 8 ≡ j = omega arith in
+          bit-of t (i / 64) (i % 32 * 8 + j) (i % 64 / 32) (omega arith) (omega arith) (omega arith) ∙ rw (q, r)
+
+      go : (i : ℕ) → i < 16384 → pack 8 (λ j. eqb (heldAt (i / 64) (i % 32 * 8 + j)) (suc (i % 64 / 32))) ≡ getD bs i 0
+      go i h = pack-same 8 _ (unpack (getD bs i 0)) (λ j l. one i j h l) ∙ pack-unpack 8 (getD bs i 0) (b i)
+
+  pub locks-of : LockTests → LocksSound bs entries lives
+  unfolding heldSound
+  locks-of t = record { held = heldAt; bytes = locks-bytes t; fine = λ e c. fine e c (below e 256) (below c 256) }
+    where
+      known : (e c : ℕ) {r w : Bool} → Bits e c r w → leb (cond w 2 (bit r)) 2 && (eqb (cond w 2 (bit r)) 0 || (ltb e entries && lives c)) ≡ true
+      known e c none = refl
+      known e c (reader h l) = rw (ltb-true e entries h, l)
+      known e c (writer h l) = rw (ltb-true e entries h, l)
+
+      fine : (e c : ℕ) {x y : Bool} → Below e 256 x → Below c 256 y → leb (heldAt e c) 2 && (eqb (heldAt e c) 0 || (ltb e entries && lives c)) ≡ true
+      fine e c (under h) (under l) = unfold heldAt in rw (ltb-true e 256 h, ltb-true c 256 l) (known e c (bits t e c h l))
+      fine e c (over h) l = unfold heldAt in rw (ltb-false e 256 h)
+      fine e c (under h) (over l) = unfold heldAt in rw (ltb-false c 256 l, and-false (ltb e 256))
+
+  module _ (s : LocksSound bs entries lives) where
+    bit-read : (e c m : ℕ) → e < 256 → c < 256 → m < 2 → unpack (getD bs (e * 64 + m * 32 + c / 8) 0) (c % 8) ≡ eqb (s .held e c) (suc m)
+    unfolding lockBits
+    bit-read e c m he hc hm = ap (λ l. unpack (getD l (e * 64 + m * 32 + c / 8) 0) (c % 8)) (s .bytes ∙ lock-bits (s .held)) ∙ bits-read (lockBits (s .held)) e m (e * 64 + m * 32) he hm refl c hc
+
+    held-live : (e c : ℕ) → (s .held e c ≡ 0 → ⊥) → (e < entries) × (lives c ≡ true)
+    unfolding heldSound
+    held-live e c n = ⊎-elim (λ q. absurd (n (eqb-eq (s .held e c) 0 q))) (λ q. (lt-of e entries (and-left (ltb e entries) (lives c) q), and-right (ltb e entries) (lives c) q))
+        (or-cases (eqb (s .held e c) 0) _ (and-right (leb (s .held e c) 2) _ (s .fine e c)))
+
+    row-of : (e : ℕ) → e < entries → rowFits bs lives e ≡ true
+    unfolding rowFits lockFits reads writes
+    row-of e he = allBelow-intro 256 _ (λ c hc. rw (first c hc, second c hc) (go c (s .held e c) refl (same? (s .held e c) 1) (same? (s .held e c) 2)))
+      where
+        first : (c : ℕ) → c < 256 → unpack (getD bs (e * 64 + c / 8) 0) (c % 8) ≡ eqb (s .held e c) 1
+        first c hc = let q : e * 64 + c / 8 ≡ e * 64 + 0 * 32 + c / 8 = omega arith in ap (λ x. unpack (getD bs x 0) (c % 8)) q ∙ bit-read e c 0 (omega arith) hc (omega arith)
+
+        second : (c : ℕ) → c < 256 → unpack (getD bs (e * 64 + 32 + c / 8) 0) (c % 8) ≡ eqb (s .held e c) 2
+        second c hc = let q : e * 64 + 32 + c / 8 ≡ e * 64 + 1 * 32 + c / 8 = omega arith in ap (λ x. unpack (getD bs x 0) (c % 8)) q ∙ bit-read e c 1 (omega arith) hc (omega arith)
+
+        go : (c h : ℕ) → s .held e c ≡ h → {x y : Bool} → Same h 1 x → Same h 2 y → not (x && y || (x || y) && not (lives c)) ≡ true
+        go c h q (same o) (same t) = absurd (omega arith)
+        go c h q (same o) (other t) = rw (held-live e c (λ z. omega (arith, q, z)) .1)
+        go c h q (other o) (same t) = rw (held-live e c (λ z. omega (arith, q, z)) .1)
+        go c h q (other o) (other t) = refl
+
+    rest-of : (i : ℕ) → entries * 64 ≤ i → i < 16384 → getD bs i 0 ≡ 0
+    unfolding lockSection lockByte
+    rest-of i h l = ap (λ x. getD x i 0) (s .bytes) ∙ getD-table0 16384 (lockByte (s .held)) i 0 l ∙ pack-same 8 _ (λ j. false) (λ j k. none-there (i / 64) (i % 32 * 8 + j) (suc (i % 64 / 32)) (omega arith) (omega arith)) ∙ pack-none 8
+      where
+        none-there : (e c m : ℕ) → entries ≤ e → 0 < m → eqb (s .held e c) m ≡ false
+        none-there e c m q p = no-true (eqb (s .held e c) m) (λ x. let y : s .held e c ≡ m = eqb-eq (s .held e c) m x in let z = held-live e c (λ w. omega (arith, y, w, p)) .0 in omega arith)
+
+    pub of-locks : LockTests
+    of-locks = record { fine = allBelow-intro entries (rowFits bs lives) row-of; rest = zeros-all bs (entries * 64) 16384 rest-of }

@@ -1,0 +1,66 @@
+-- Values, the line, the header and the changes: the sections with a fixed place for each number. Assumes nothing.
+use mathlib.Core.Path.{_≡_, refl, sym, _∙_, ap}
+use mathlib.Core.Logic.{_↔_, ⊎-elim}
+use mathlib.Core.Bool.{Bool, true, false, not, cond, _&&_, _||_, false≢true}
+use mathlib.Core.List.{List, [], _∷_}
+use Prim.Native.Nat.{ℕ, zero, suc, _+_, _-_, _*_, _/_, _%_, _^_, _≤_, _<_}
+use native.Mathlib.Omega.{arith}
+use lib.Dec.{ltb, eqb}
+use lib.ListN.{getD, length}
+use lib.Seq.{ext-getD}
+use Rattle.rules.specs.Base.{allBelow, table}
+use Rattle.rules.specs.Sound.{valueSound}
+use Rattle.rules.proofs.BaseLaws.{and-both, and-right, or-left, or-right, or-cases, lt-of, ltb-true, eqb-eq, eqb-same, Below, under, over, below}
+use Rattle.layout.specs.Codec.{byte, join4, valueByte, lineByte, valueSection, lineSection}
+use Rattle.layout.proofs.SectionLaws.{length-table, getD-table0}
+use Rattle.cells.specs.Part.{zeroAt}
+use Rattle.cells.proofs.ZeroLaws.{zeros-at, zeros-all}
+use Rattle.sections.specs.Sections.{ValuesSound}
+use Rattle.sections.proofs.ByteLaws.{Bytes, join4-below, byte-join4, join4-zero, byte-zero}
+
+-- VALUES
+module _ (bs : List ℕ) (b : Bytes bs) (size : length bs ≡ 1024) (entries : ℕ) (most : entries ≤ 256) where
+  valueAt : ℕ → ℕ
+  valueAt e = cond (ltb e 256) (join4 (λ k. getD bs (e * 4 + k) 0)) 0
+
+  values-bytes : bs ≡ valueSection valueAt
+  unfolding valueSection valueByte valueAt
+  values-bytes = ext-getD 0 bs (table 1024 0 (valueByte valueAt)) (size ∙ sym (length-table 1024 0 (valueByte valueAt)))
+      (λ i h. let m : i < 1024 = rw size at h in sym (getD-table0 1024 (valueByte valueAt) i 0 m ∙ go i m))
+    where
+      go : (i : ℕ) → i < 1024 → byte (i % 4) (cond (ltb (i / 4) 256) (join4 (λ k. getD bs (i / 4 * 4 + k) 0)) 0) ≡ getD bs i 0
+      go i m = let q : i / 4 * 4 + i % 4 ≡ i = omega arith in
+          rw (ltb-true (i / 4) 256 (omega arith)) (byte-join4 (λ k. getD bs (i / 4 * 4 + k) 0) (λ k. b (i / 4 * 4 + k)) (i % 4) (omega arith) ∙ ap (λ x. getD bs x 0) q)
+
+  values-fine : allBelow (1024 - entries * 4) (zeroAt bs (entries * 4)) ≡ true → (e : ℕ) → valueSound entries valueAt e ≡ true
+  unfolding valueSound valueAt
+  values-fine z e = go (below e 256) (below e entries)
+    where
+      rest : (x : ℕ) → entries ≤ x → x < 256 → join4 (λ k. getD bs (x * 4 + k) 0) ≡ 0
+      rest x h t = join4-zero (λ k. getD bs (x * 4 + k) 0) (λ k u. zeros-at bs (entries * 4) 1024 z (x * 4 + k) (omega arith) (omega arith))
+
+      go : {p q : Bool} → Below e 256 p → Below e entries q
+          → ltb (cond p (join4 (λ k. getD bs (e * 4 + k) 0)) 0) (2 ^ 32) && (q || eqb (cond p (join4 (λ k. getD bs (e * 4 + k) 0)) 0) 0) ≡ true
+      go (over h) (under t) = refl
+      go (over h) (over t) = refl
+      go (under h) (under t) = rw (ltb-true (join4 (λ k. getD bs (e * 4 + k) 0)) 4294967296 (join4-below (λ k. getD bs (e * 4 + k) 0) (λ k. b (e * 4 + k))))
+      go (under h) (over t) = rw (rest e t h)
+
+  values-zero : ValuesSound bs entries → allBelow (1024 - entries * 4) (zeroAt bs (entries * 4)) ≡ true
+  unfolding valueSection valueByte valueSound
+  values-zero s = zeros-all bs (entries * 4) 1024 (λ i h t. ap (λ l. getD l i 0) (s .bytes) ∙ getD-table0 1024 (valueByte (s .value)) i 0 t ∙ ap (byte (i % 4)) (none (i / 4) (omega arith)) ∙ byte-zero (i % 4))
+    where
+      none : (e : ℕ) → entries ≤ e → s .value e ≡ 0
+      none e h = ⊎-elim (λ q. let l = lt-of e entries q in absurd (omega arith)) (eqb-eq (s .value e) 0) (or-cases (ltb e entries) _ (and-right (ltb (s .value e) 4294967296) _ (s .fine e)))
+
+  pub values-sound : allBelow (1024 - entries * 4) (zeroAt bs (entries * 4)) ≡ true ↔ ValuesSound bs entries
+  values-sound = (λ z. record { value = valueAt; bytes = values-bytes; fine = values-fine z }, values-zero)
+
+-- THE LINE
+pub line-sound : (bs : List ℕ) → length bs ≡ 1024 → allBelow (1024 - 0) (zeroAt bs 0) ≡ true ↔ bs ≡ lineSection
+unfolding lineSection lineByte
+line-sound bs size = (
+  λ z. ext-getD 0 bs (table 1024 0 lineByte) (size ∙ sym (length-table 1024 0 lineByte))
+      (λ i h. let m : i < 1024 = rw size at h in zeros-at bs 0 1024 z i (omega arith) m ∙ sym (getD-table0 1024 lineByte i 0 m)),
+  λ e. zeros-all bs 0 1024 (λ i h t. ap (λ l. getD l i 0) e ∙ getD-table0 1024 lineByte i 0 t),
+)

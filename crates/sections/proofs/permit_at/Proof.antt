@@ -1,0 +1,25 @@
+-- `sections::permit_at` meets its contract. Assumes nothing.
+use Rattle.sections.specs.Cells.{permitAt, permitFits}
+use borrow.Author.Needs.{needs}
+use Rattle.sections.proofs.permit_at.Statement.{statement}
+use Rattle.sections.proofs.permit_at.Tie as tie
+
+returns : tie.Need-returns
+unfolding permitFits permitAt
+returns c = rw (c .before .permit .ensures, c .in-order .ensures)
+
+pub permit-at-spec : {M : Type 1} → statement M
+permit-at-spec =
+    tie.close
+    (tie.spec
+    (λ c. search needs)
+    (λ c. search needs)
+    (λ c. search needs)
+    (λ c. search needs)
+    (λ c. search needs)
+    (λ c. search needs)
+    (λ c. search needs)
+    (λ c. search needs)
+    (λ c κs. search needs)
+    (λ c κs. search needs)
+    returns)

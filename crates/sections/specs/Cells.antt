@@ -1,0 +1,67 @@
+-- What is asked of one place of a section, in its bytes. Assumes nothing.
+use mathlib.Core.Bool.{Bool, not, _&&_, _||_}
+use mathlib.Core.List.{List}
+use Prim.Native.Nat.{ℕ, _+_, _-_, _*_, _/_, _%_}
+use lib.Dec.{ltb, eqb}
+use lib.ListN.{getD}
+use Rattle.rules.specs.Base.{outside, allBelow}
+use Rattle.rules.specs.Sets.{Set}
+use Rattle.rules.specs.Window.{LogRecord, PermitRecord, TieRecord}
+use Rattle.rules.specs.Locks.{makePermit}
+use Rattle.rules.specs.Sound.{permitSound, tieSound}
+use Rattle.layout.specs.Codec.{join4, unpack}
+
+-- a change's place: a status from 1 to 5, a lower parent, and two bytes that are 0
+unfoldable pub changeFits : List ℕ → ℕ → Bool
+changeFits bs c = not (outside 1 5 (getD bs (c * 4) 0)) && ltb (getD bs (c * 4 + 1) 0) c && eqb (getD bs (c * 4 + 2) 0) 0 && eqb (getD bs (c * 4 + 3) 0) 0
+
+-- counted from 0, the place of change c + 1
+unfoldable pub nextFits : List ℕ → ℕ → Bool
+nextFits bs c = changeFits bs (c + 1)
+
+-- a change's bit among an entry's readers, and among its writers
+unfoldable pub reads : List ℕ → ℕ → ℕ → Bool
+reads bs e c = unpack (getD bs (e * 64 + c / 8) 0) (c % 8)
+
+unfoldable pub writes : List ℕ → ℕ → ℕ → Bool
+writes bs e c = unpack (getD bs (e * 64 + 32 + c / 8) 0) (c % 8)
+
+-- not both, and none of a change that is not live
+unfoldable pub lockFits : List ℕ → Set → ℕ → ℕ → Bool
+lockFits bs lives e c = not (reads bs e c && writes bs e c || (reads bs e c || writes bs e c) && not (lives c))
+
+-- so of all changes on an entry
+unfoldable pub rowFits : List ℕ → Set → ℕ → Bool
+rowFits bs lives e = allBelow 256 (lockFits bs lives e)
+
+-- rows of four bytes, the first three of which are the sort key: the key as one number
+unfoldable pub keyAt : List ℕ → ℕ → ℕ
+keyAt bs j = getD bs (j * 4) 0 * 65536 + getD bs (j * 4 + 1) 0 * 256 + getD bs (j * 4 + 2) 0
+
+-- a row is above the one before it
+unfoldable pub inOrder : List ℕ → ℕ → Bool
+inOrder bs j = eqb j 0 || ltb (keyAt bs (j - 1)) (keyAt bs j)
+
+-- the permit, the tie and the log record at a place
+unfoldable pub permitAt : List ℕ → ℕ → PermitRecord
+permitAt bs j = makePermit (getD bs (j * 4 + 1) 0) (getD bs (j * 4 + 2) 0) (getD bs (j * 4) 0) (getD bs (j * 4 + 3) 0)
+
+unfoldable pub tieOf : ℕ → ℕ → ℕ → TieRecord
+tieOf k l f = record { kind = k; leader = l; follower = f }
+
+unfoldable pub tieAt : List ℕ → ℕ → TieRecord
+tieAt bs j = tieOf (getD bs (j * 4) 0) (getD bs (j * 4 + 1) 0) (getD bs (j * 4 + 2) 0)
+
+unfoldable pub recordAt : List ℕ → ℕ → LogRecord
+recordAt bs j = record { owner = getD bs (j * 6) 0; entry = getD bs (j * 6 + 1) 0; before = join4 (λ k. getD bs (j * 6 + (k + 2)) 0) }
+
+unfoldable pub permitFits : List ℕ → ℕ → Set → ℕ → Bool
+permitFits bs entries lives j = permitSound entries lives (permitAt bs j) && inOrder bs j
+
+unfoldable pub tieFits : List ℕ → Set → ℕ → Bool
+tieFits bs lives j = tieSound lives (tieAt bs j) && eqb (getD bs (j * 4 + 3) 0) 0 && inOrder bs j
+
+-- the owner is live, the entry is one, and the owner's bit stands among the entry's writers
+unfoldable pub recordFits : List ℕ → List ℕ → ℕ → Set → ℕ → Bool
+recordFits bs locks entries lives j = lives (getD bs (j * 6) 0) && ltb (getD bs (j * 6 + 1) 0) entries
+    && writes locks (getD bs (j * 6 + 1) 0) (getD bs (j * 6) 0)

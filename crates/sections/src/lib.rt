@@ -1,0 +1,341 @@
+// Whether a section of lent bytes is that of a sound window: a function for each.
+use cells::all_zero;
+use cells::read_u16;
+use layout::Changes;
+use layout::Entries;
+use layout::Header;
+use layout::Line;
+use layout::Locks;
+use layout::Log;
+use layout::Permits;
+use layout::Ties;
+use sets::ChangeSet;
+ghost use mathlib.Core.Path.{_≡_};
+ghost use mathlib.Core.Bool.{true};
+ghost use mathlib.Core.Logic.{_↔_};
+ghost use Prim.Native.Nat.{ℕ, _+_, _*_, _≤_, _<_};
+ghost use lib.ListN.{length};
+ghost use Rattle.layout.specs.Codec.{headSize, valuesSize, changesSize, lineSize, locksSize, permitsSize, tiesSize, logSize, lineSection, lockSection};
+ghost use Rattle.rules.specs.Base.{allBelow};
+ghost use Rattle.rules.specs.Locks.{makePermit};
+ghost use Rattle.rules.specs.Sound.{permitSound, tieSound};
+ghost use Rattle.sets.specs.Members.{members};
+ghost use Rattle.sections.specs.Cells.{changeFits, nextFits, writes, rowFits, keyAt, inOrder, tieOf, permitFits, tieFits, recordFits};
+ghost use Rattle.sections.specs.Sections.{HeadSound, ValuesSound, ChangesSound, LocksSound, LogSound, PermitsSound, TiesSound};
+
+// Every figure is in its range, and the rest of the header is 0.
+pub fn header(head: &[u8]) -> bool
+    requires { ⌜ length (now head) ≡ headSize ⌝ }
+    ensures { λ r. ⌜ (r ≡ true ↔ HeadSound (now (head .entry))) ⌝ }
+{
+    let entries = read_u16(head, 0) as usize;
+    if entries < 1 {
+        return false;
+    }
+    if Entries::MOST < entries {
+        return false;
+    }
+    if Changes::MOST < read_u16(head, 2) as usize {
+        return false;
+    }
+    if Log::MOST < read_u16(head, 4) as usize {
+        return false;
+    }
+    if Permits::MOST < read_u16(head, 6) as usize {
+        return false;
+    }
+    if Ties::MOST < read_u16(head, 8) as usize {
+        return false;
+    }
+    all_zero(head, 10, Header::SIZE)
+}
+
+// The places of no entry are 0.
+pub fn values(values: &[u8], entries: usize) -> bool
+    requires { ⌜ length (now values) ≡ valuesSize ⌝ }
+    requires { ⌜ entries ≤ 256 ⌝ }
+    ensures { λ r. ⌜ (r ≡ true ↔ ValuesSound (now (values .entry)) entries) ⌝ }
+{
+    all_zero(values, entries * 4, Entries::SIZE)
+}
+
+// The reserved section is 0.
+pub fn line(line: &[u8]) -> bool
+    requires { ⌜ length (now line) ≡ lineSize ⌝ }
+    ensures { λ r. ⌜ (r ≡ true ↔ now (line .entry) ≡ lineSection) ⌝ }
+{
+    all_zero(line, 0, Line::SIZE)
+}
+
+// A byte as a wider number.
+fn wide(x: u8) -> usize
+    ensures { λ r. ⌜ r ≡ x ⌝ }
+{
+    x as usize
+}
+
+// A change's place: a status from 1 to 5, a lower parent, and two bytes that are 0.
+fn change(changes: &[u8], c: usize) -> bool
+    requires { ⌜ length (now changes) ≡ changesSize ⌝ }
+    requires { ⌜ c < 256 ⌝ }
+    ensures { λ r. ⌜ r ≡ changeFits (now (changes .entry)) c ⌝ }
+{
+    let at = c * 4;
+    let status = changes[at];
+    !((status < 1) | (5 < status))
+        & (wide(changes[at + 1]) < c)
+        & (changes[at + 2] == 0)
+        & (changes[at + 3] == 0)
+}
+
+// The places of the changes that there are.
+fn given_changes(changes: &[u8], given: usize) -> bool
+    requires { ⌜ length (now changes) ≡ changesSize ⌝ }
+    requires { ⌜ given < 256 ⌝ }
+    ensures { λ r. ⌜ r ≡ allBelow given (nextFits (now (changes .entry))) ⌝ }
+{
+    let mut c = 0;
+    while c < given {
+        if !change(changes, c + 1) {
+            return false;
+        }
+        c += 1;
+    }
+    true
+}
+
+// Statuses in their range, parents lower than their children, and the places of no change 0.
+pub fn changes(changes: &[u8], given: usize) -> bool
+    requires { ⌜ length (now changes) ≡ changesSize ⌝ }
+    requires { ⌜ given < 256 ⌝ }
+    ensures { λ r. ⌜ (r ≡ true ↔ ChangesSound (now (changes .entry)) given) ⌝ }
+{
+    if !all_zero(changes, 0, 4) {
+        return false;
+    }
+    if !given_changes(changes, given) {
+        return false;
+    }
+    all_zero(changes, given * 4 + 4, Changes::SIZE)
+}
+
+// Three bytes as one number: their order is the order of the numbers.
+fn key(a: u8, b: u8, c: u8) -> u32
+    ensures { λ r. ⌜ r ≡ a * 65536 + b * 256 + c ⌝ }
+{
+    (a as u32) * 65536 + (b as u32) * 256 + (c as u32)
+}
+
+// The sort key of row j.
+fn key_at(rows: &[u8], j: usize) -> u32
+    requires { ⌜ j * 4 + 4 ≤ length (now rows) ⌝ }
+    ensures { λ r. ⌜ r ≡ keyAt (now (rows .entry)) j ⌝ }
+{
+    let at = j * 4;
+    key(rows[at], rows[at + 1], rows[at + 2])
+}
+
+// Whether row j is above the one before it.
+fn in_order(rows: &[u8], j: usize) -> bool
+    requires { ⌜ j * 4 + 4 ≤ length (now rows) ⌝ }
+    ensures { λ r. ⌜ r ≡ inOrder (now (rows .entry)) j ⌝ }
+{
+    if j == 0 {
+        return true;
+    }
+    key_at(rows, j - 1) < key_at(rows, j)
+}
+
+// A permit: giver live, taker live or 0, an entry that there is, operations from 1 to 3, two different parties.
+fn permit(entry: u8, giver: u8, taker: u8, ops: u8, entries: usize, live: ChangeSet) -> bool
+    ensures { λ r. ⌜ r ≡ permitSound entries (members live) (makePermit giver taker entry ops) ⌝ }
+{
+    live.has(giver)
+        & ((taker == 0) | live.has(taker))
+        & (wide(entry) < entries)
+        & !((ops < 1) | (3 < ops))
+        & !(giver == taker)
+}
+
+// The permit at place j, in order.
+fn permit_at(permits: &[u8], j: usize, entries: usize, live: ChangeSet) -> bool
+    requires { ⌜ j * 4 + 4 ≤ length (now permits) ⌝ }
+    ensures { λ r. ⌜ r ≡ permitFits (now (permits .entry)) entries (members live) j ⌝ }
+{
+    let at = j * 4;
+    permit(
+        permits[at],
+        permits[at + 1],
+        permits[at + 2],
+        permits[at + 3],
+        entries,
+        live,
+    )
+        & in_order(permits, j)
+}
+
+// The permits that stand.
+fn standing_permits(permits: &[u8], count: usize, entries: usize, live: ChangeSet) -> bool
+    requires { ⌜ length (now permits) ≡ permitsSize ⌝ }
+    requires { ⌜ count ≤ 1024 ⌝ }
+    ensures { λ r. ⌜ r ≡ allBelow count (permitFits (now (permits .entry)) entries (members live)) ⌝ }
+{
+    let mut j = 0;
+    while j < count {
+        if !permit_at(permits, j, entries, live) {
+            return false;
+        }
+        j += 1;
+    }
+    true
+}
+
+// Givers and takers live, in order, and the unused places 0.
+pub fn permits(permits: &[u8], count: usize, entries: usize, live: ChangeSet) -> bool
+    requires { ⌜ length (now permits) ≡ permitsSize ⌝ }
+    requires { ⌜ count ≤ 1024 ⌝ }
+    ensures { λ r. ⌜ (r ≡ true ↔ PermitsSound (now (permits .entry)) count entries (members live)) ⌝ }
+{
+    if !standing_permits(permits, count, entries, live) {
+        return false;
+    }
+    all_zero(permits, count * 4, Permits::SIZE)
+}
+
+// A tie: kind from 1 to 3, both ends live and different, the lower one leading a group tie.
+fn tie(kind: u8, leader: u8, follower: u8, live: ChangeSet) -> bool
+    ensures { λ r. ⌜ r ≡ tieSound (members live) (tieOf kind leader follower) ⌝ }
+{
+    !((kind < 1) | (3 < kind))
+        & live.has(leader)
+        & live.has(follower)
+        & !(leader == follower)
+        & (!(kind == 3) | (leader < follower))
+}
+
+// The tie at place j, in order.
+fn tie_at(ties: &[u8], j: usize, live: ChangeSet) -> bool
+    requires { ⌜ j * 4 + 4 ≤ length (now ties) ⌝ }
+    ensures { λ r. ⌜ r ≡ tieFits (now (ties .entry)) (members live) j ⌝ }
+{
+    let at = j * 4;
+    tie(ties[at], ties[at + 1], ties[at + 2], live) & (ties[at + 3] == 0) & in_order(ties, j)
+}
+
+// The ties that stand.
+fn standing_ties(ties: &[u8], count: usize, live: ChangeSet) -> bool
+    requires { ⌜ length (now ties) ≡ tiesSize ⌝ }
+    requires { ⌜ count ≤ 512 ⌝ }
+    ensures { λ r. ⌜ r ≡ allBelow count (tieFits (now (ties .entry)) (members live)) ⌝ }
+{
+    let mut t = 0;
+    while t < count {
+        if !tie_at(ties, t, live) {
+            return false;
+        }
+        t += 1;
+    }
+    true
+}
+
+// Both ends live, in order, and the unused places 0.
+pub fn ties(ties: &[u8], count: usize, live: ChangeSet) -> bool
+    requires { ⌜ length (now ties) ≡ tiesSize ⌝ }
+    requires { ⌜ count ≤ 512 ⌝ }
+    ensures { λ r. ⌜ (r ≡ true ↔ TiesSound (now (ties .entry)) count (members live)) ⌝ }
+{
+    if !standing_ties(ties, count, live) {
+        return false;
+    }
+    all_zero(ties, count * 4, Ties::SIZE)
+}
+
+// An entry's locks: no change both reads and writes, and each is live.
+fn row(locks: &[u8], e: usize, live: ChangeSet) -> bool
+    requires { ⌜ length (now locks) ≡ locksSize ⌝ }
+    requires { ⌜ e < 256 ⌝ }
+    ensures { λ r. ⌜ r ≡ rowFits (now (locks .entry)) (members live) e ⌝ }
+{
+    let r = ChangeSet::load(locks, e * 64);
+    let w = ChangeSet::load(locks, e * 64 + 32);
+    r.common(w).unite(r.unite(w).minus(live)).is_empty()
+}
+
+// The locks on the entries that there are.
+fn rows(locks: &[u8], entries: usize, live: ChangeSet) -> bool
+    requires { ⌜ length (now locks) ≡ locksSize ⌝ }
+    requires { ⌜ entries ≤ 256 ⌝ }
+    ensures { λ r. ⌜ r ≡ allBelow entries (rowFits (now (locks .entry)) (members live)) ⌝ }
+{
+    let mut e = 0;
+    while e < entries {
+        if !row(locks, e, live) {
+            return false;
+        }
+        e += 1;
+    }
+    true
+}
+
+// Locks of live changes on entries that there are, and 0 on the others.
+pub fn locks(locks: &[u8], entries: usize, live: ChangeSet) -> bool
+    requires { ⌜ length (now locks) ≡ locksSize ⌝ }
+    requires { ⌜ entries ≤ 256 ⌝ }
+    ensures { λ r. ⌜ (r ≡ true ↔ LocksSound (now (locks .entry)) entries (members live)) ⌝ }
+{
+    if !rows(locks, entries, live) {
+        return false;
+    }
+    all_zero(locks, entries * 64, Locks::SIZE)
+}
+
+// Whether a change's bit stands among an entry's writers.
+fn is_writer(locks: &[u8], e: u8, c: u8) -> bool
+    requires { ⌜ length (now locks) ≡ locksSize ⌝ }
+    ensures { λ r. ⌜ r ≡ writes (now (locks .entry)) e c ⌝ }
+{
+    (locks[wide(e) * 64 + 32 + wide(c / 8)] >> (c % 8)) % 2 == 1
+}
+
+// The log record at place j: owner live, an entry that there is, and the owner among its writers.
+fn record_at(log: &[u8], j: usize, locks: &[u8], entries: usize, live: ChangeSet) -> bool
+    requires { ⌜ j * 6 + 6 ≤ length (now log) ⌝ }
+    requires { ⌜ length (now locks) ≡ locksSize ⌝ }
+    ensures { λ r. ⌜ r ≡ recordFits (now (log .entry)) (now (locks .entry)) entries (members live) j ⌝ }
+{
+    let at = j * 6;
+    let owner = log[at];
+    let entry = log[at + 1];
+    live.has(owner) & (wide(entry) < entries) & is_writer(locks, entry, owner)
+}
+
+// The log records that stand.
+fn standing_records(log: &[u8], count: usize, locks: &[u8], entries: usize, live: ChangeSet) -> bool
+    requires { ⌜ length (now log) ≡ logSize ⌝ }
+    requires { ⌜ count ≤ 2048 ⌝ }
+    requires { ⌜ length (now locks) ≡ locksSize ⌝ }
+    ensures { λ r. ⌜ r ≡ allBelow count (recordFits (now (log .entry)) (now (locks .entry)) entries (members live)) ⌝ }
+{
+    let mut i = 0;
+    while i < count {
+        if !record_at(log, i, locks, entries, live) {
+            return false;
+        }
+        i += 1;
+    }
+    true
+}
+
+// Owners live, each holding the write lock on its record's entry, and the unused places 0.
+pub fn log(log: &[u8], count: usize, locks: &[u8], entries: usize, live: ChangeSet) -> bool
+    requires { ⌜ length (now log) ≡ logSize ⌝ }
+    requires { ⌜ count ≤ 2048 ⌝ }
+    requires { ⌜ length (now locks) ≡ locksSize ⌝ }
+    requires { ⌜ entries ≤ 256 ⌝ }
+    ensures { λ r. ⌜ ((held : ℕ → ℕ → ℕ) → now (locks .entry) ≡ lockSection held → (r ≡ true ↔ LogSound (now (log .entry)) count entries (members live) held)) ⌝ }
+{
+    if !standing_records(log, count, locks, entries, live) {
+        return false;
+    }
+    all_zero(log, count * 6, Log::SIZE)
+}
