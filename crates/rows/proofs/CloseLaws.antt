@@ -5,12 +5,12 @@ use mathlib.Core.List.{List, [], _∷_, _++_, append-assoc, append-nil}
 use Prim.Native.Nat.{ℕ, _+_, _-_, _*_, _≤_}
 use native.Mathlib.Omega.{arith}
 use lib.ListN.{length, take, drop, getD, replicate, length-append, length-replicate}
-use lib.Seq.{take-at, drop-at, drop-drop, getD-drop, length-take-le}
+use lib.Seq.{drop-drop, getD-drop}
 use Rattle.rules.specs.Base.{table, keep}
 use Rattle.rules.proofs.ListLaws.{length-keep}
 use Rattle.layout.proofs.RecordLaws.{table-append}
 use Rattle.cells.specs.Part.{part, patch}
-use Rattle.cells.proofs.PartLaws.{length-part, length-patch}
+use Rattle.cells.proofs.PartLaws.{length-part, length-patch, take-patch-end, drop-patch}
 use Rattle.rows.specs.Rows.{Row, rowBytes, rowsBytes, rowAt, rows, Closed}
 use Rattle.rows.proofs.RowLaws.{length-rows, length-bytes, bytes-append, row-part, rows-bytes}
 
@@ -36,19 +36,6 @@ keep-more q (y ∷ l) x = go (q y) (q x) (keep-more q l x)
 bytes-more : (rs : List Row) (r : Row) → rowsBytes (rs ++ (r ∷ [])) ≡ rowsBytes rs ++ rowBytes r
 unfolding rowsBytes
 bytes-more rs r = bytes-append rs (r ∷ []) ∙ ap (λ (t : List ℕ). rowsBytes rs ++ t) (append-nil (rowBytes r))
-
--- what a patch leaves up to its end, and from there on
-take-patch-end : (l : List ℕ) (at : ℕ) (xs : List ℕ) (m : ℕ) → at + length xs ≡ m → at ≤ length l → take m (patch l at xs) ≡ take at l ++ xs
-unfolding patch
-take-patch-end l at xs m e h =
-    ap (take m) (sym (append-assoc (take at l) xs (drop (length xs) (drop at l)))) ∙ take-at (take at l ++ xs) (drop (length xs) (drop at l)) m (simp (length-append, length-take-le at l h) e)
-
--- from its end on nothing has changed
-drop-patch-end : (l : List ℕ) (at : ℕ) (xs : List ℕ) (m : ℕ) → at + length xs ≡ m → at ≤ length l → drop m (patch l at xs) ≡ drop m l
-unfolding patch
-drop-patch-end l at xs m e h =
-    ap (drop m) (sym (append-assoc (take at l) xs (drop (length xs) (drop at l)))) ∙ drop-at (take at l ++ xs) (drop (length xs) (drop at l)) m (simp (length-append, length-take-le at l h) e)
-    ∙ drop-drop (length xs) at l ∙ ap (λ (k : ℕ). drop k l) e
 
 -- what agrees from a place on agrees from a later one on
 drop-later : (l k : List ℕ) (a b : ℕ) → a ≤ b → drop a l ≡ drop a k → drop b l ≡ drop b k
@@ -123,7 +110,7 @@ module _ (q : Row → Bool) (l₀ : List ℕ) where
           long = length-patch l (4 * j) x (omega (arith, moved-few, m .long, len)) ∙ m .long;
           front = take-patch-end l (4 * j) x (4 * (j + 1)) (omega (arith, len)) within
               ∙ ap (λ (t : List ℕ). t ++ x) (m .front) ∙ ap (λ (t : List ℕ). rowsBytes (keep q (rows i l₀)) ++ t) is ∙ sym (ap rowsBytes more ∙ bytes-more (keep q (rows i l₀)) (rowAt l₀ i));
-          back = drop-later (patch l (4 * j) x) l (4 * j + 4) (4 * (i + 1)) (omega (arith, moved-few)) (drop-patch-end l (4 * j) x (4 * j + 4) (omega (arith, len)) within)
+          back = drop-patch l (4 * j) x (4 * (i + 1)) (omega (arith, moved-few, len)) within
               ∙ drop-later l l₀ (4 * i) (4 * (i + 1)) (omega arith) (m .back);
         }
         go false same = record {

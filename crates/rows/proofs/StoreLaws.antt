@@ -4,12 +4,12 @@ use mathlib.Core.List.{List, [], _∷_, _++_, append-assoc}
 use Prim.Native.Nat.{ℕ, suc, _+_, _-_, _*_, _≤_, _<_}
 use native.Mathlib.Nat.{sub-self}
 use native.Mathlib.Omega.{arith}
-use lib.ListN.{length, take, drop, getD, set, length-append, length-take, length-drop, List·getD-append}
-use lib.Seq.{take-at, drop-at, set-at, drop-drop, length-take-le, take-append-add, drop-append-add, set-append-left, take-set-lt, drop-set-lt, getD-take}
+use lib.ListN.{length, take, drop, getD, set, length-append, length-take, length-drop}
+use lib.Seq.{take-at, drop-at, set-at, drop-drop, length-take-le, take-append-add, drop-append-add, set-append-left, take-set-lt, drop-set-lt}
 use Rattle.rules.specs.Base.{table}
 use Rattle.layout.proofs.SectionLaws.{length-table}
 use Rattle.cells.specs.Part.{part, patch}
-use Rattle.cells.proofs.PartLaws.{patch-nil, patch-cons, part-cons}
+use Rattle.cells.proofs.PartLaws.{patch-nil, patch-cons, part-cons, getD-patch-before}
 use Rattle.rows.specs.Rows.{Row, row, rowBytes, rowsBytes, rowAt}
 use Rattle.rows.proofs.RowLaws.{length-bytes, bytes-append, pieces}
 
@@ -22,11 +22,6 @@ set-before l at xs v h = swap ∙ patch-cons l at v xs h
     swap = unfold patch in
         set-append-left (take (suc at) l) (xs ++ drop (length xs) (drop (suc at) l)) at v (simp length-take (omega arith))
         ∙ sym (ap₂ (λ (a b : List ℕ). a ++ (xs ++ drop (length xs) b)) (take-set-lt (suc at) l at v (omega arith)) (drop-set-lt (suc at) l at v (omega arith)))
-
--- a byte before it
-getD-before : (l : List ℕ) (at : ℕ) (xs : List ℕ) (i : ℕ) → i < at → at ≤ length l → getD (patch l at xs) i 0 ≡ getD l i 0
-unfolding patch
-getD-before l at xs i h k = List·getD-append (take at l) (xs ++ drop (length xs) (drop at l)) 0 i (simp length-take (omega arith)) ∙ getD-take at l i 0 h
 
 -- the bytes from i up to an index have been moved up by k
 unfoldable pub lifted : List ℕ → ℕ → ℕ → ℕ → List ℕ
@@ -43,7 +38,7 @@ unfolding lifted
 lift-next l k to i h room =
     let a : suc i + k ≡ suc (i + k) = omega arith in
     let m : to - i ≡ suc (to - suc i) = omega arith in
-    ap (set (patch l (suc i + k) (part l (suc i) (to - suc i))) (i + k)) (getD-before l (suc i + k) (part l (suc i) (to - suc i)) i (omega arith) (omega arith))
+    ap (set (patch l (suc i + k) (part l (suc i) (to - suc i))) (i + k)) (getD-patch-before l (suc i + k) (part l (suc i) (to - suc i)) i (omega arith) (omega arith))
     ∙ ap (λ (j : ℕ). set (patch l j (part l (suc i) (to - suc i))) (i + k) (getD l i 0)) a
     ∙ set-before l (i + k) (part l (suc i) (to - suc i)) (getD l i 0) (omega arith)
     ∙ ap (patch l (i + k)) (sym (ap (part l i) m ∙ part-cons l i (to - suc i) (omega arith)))

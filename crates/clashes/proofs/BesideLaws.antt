@@ -1,0 +1,135 @@
+-- Whom the permits of an entry let stand beside a writer: those to anybody and those that name the two. Assumes nothing.
+use mathlib.Core.Path.{_≡_, refl, sym, _∙_, ap, ap₂, fun-ext}
+use mathlib.Core.Bool.{Bool, true, false, not, _&&_, _||_, and-true, and-false, or-false, or-assoc, or-comm, or-true, and-or-distrib-right, false≢true}
+use Prim.Native.Nat.{ℕ, _<_}
+use lib.Dec.{eqb}
+use Rattle.rules.specs.Base.{anyBelow}
+use Rattle.rules.specs.Sets.{Set}
+use Rattle.rules.specs.Window.{PermitRecord}
+use Rattle.rules.specs.Locks.{contains, makePermit}
+use Rattle.rules.proofs.BaseLaws.{Same, same, other, same?, eqb-same, eqb-other, allBelow-intro, anyBelow-none, not-true}
+use Rattle.sets.proofs.BoundLaws.{all-ext}
+use Rattle.clashes.specs.Permits.{anyOf, involves}
+use Rattle.clashes.specs.Beside.{serves, permitsAnybody, names, beside, otherHolder, unserved, writerFits, writersFit, entryFits}
+use Rattle.clashes.proofs.TurnLaws.{any-or, any-and, none-all}
+use Rattle.clashes.proofs.PlaceLaws.{any-same}
+
+eqb-sym : (a b : ℕ) → eqb a b ≡ eqb b a
+eqb-sym a b = go (same? a b)
+  where
+    go : {x : Bool} → Same a b x → x ≡ eqb b a
+    go (same e) = sym (rw e (eqb-same b))
+    go (other n) = sym (eqb-other b a (λ q. n (sym q)))
+
+-- ADDED TO A SET
+-- one where a test passed
+pub add-passed : (c k : ℕ) (s s′ test : Bool) → test ≡ true → s′ ≡ eqb k c || s → s′ ≡ s || eqb c k && test
+add-passed c k s s′ test t e = e ∙ or-comm (eqb k c) s ∙ rw (t, and-true (eqb c k), eqb-sym k c)
+
+-- a set where a test passed
+pub unite-passed : (s m s′ test : Bool) → test ≡ true → s′ ≡ s || m → s′ ≡ s || m && test
+unite-passed s m s′ test t e = e ∙ rw (t, and-true m)
+
+-- nothing where it failed
+pub nothing-added : (s m test : Bool) → test ≡ false → s ≡ s || m && test
+nothing-added s m test t = rw (t, and-false m, or-false s)
+
+-- whom a permit g, t, o names beside the writer a
+pub named-added : (r x : Set) (a k g t e o : ℕ) (s sv : Bool) → sv ≡ serves o (r t) (x t)
+    → s || eqb t k && (eqb g a && sv) || eqb g k && (eqb t a && (eqb o 2 || eqb o 3)) ≡ s || names r x a k (makePermit g t e o)
+unfolding names makePermit contains
+named-added r x a k g t e o s sv h = rw h (go (same? t k))
+  where
+    rest : Bool
+    rest = eqb g k && (eqb t a && (eqb o 2 || eqb o 3))
+
+    go : {b : Bool} → Same t k b → s || b && (eqb g a && serves o (r t) (x t)) || rest ≡ s || (eqb g a && (b && serves o (r k) (x k)) || rest)
+    go (same q) = or-assoc s (eqb g a && serves o (r t) (x t)) rest ∙ ap (λ c. s || (eqb g a && serves o (r c) (x c) || rest)) q
+    go (other n) = rw (or-false s, and-false (eqb g a))
+
+-- a permit with which a change has nothing to do names no two of which it is one
+pub names-none : (r x : Set) (a b : ℕ) (p : PermitRecord) → involves a p ≡ false → names r x a b p ≡ false
+unfolding names involves
+names-none r x a b p e = go (eqb p.giver a) (eqb p.taker a) e
+  where
+    go : (g t : Bool) → g || t ≡ false → g && (eqb p.taker b && serves p.ops (r b) (x b)) || eqb p.giver b && (t && contains p.ops 2) ≡ false
+    go true t q = absurd (false≢true (sym q))
+    go false true q = absurd (false≢true (sym q))
+    go false false q = and-false (eqb p.giver b)
+
+-- TO ANYBODY, OR TO ONE OF THE TWO
+either-taker : (g z t c : Bool) → g && ((t || z) && c) ≡ g && (z && c) || g && (t && c)
+either-taker true z t c = rw (or-comm t z) (and-or-distrib-right z t c)
+either-taker false z t c = refl
+
+either-mode : (g z r x c d : Bool) → g && (z && (r && c || x && d)) ≡ r && (g && (z && c)) || x && (g && (z && d))
+either-mode true true r x c d = refl
+either-mode true false r x c d = rw (and-false r, and-false x)
+either-mode false z r x c d = rw (and-false r, and-false x)
+
+sorted : (v o q n m : Bool) → o || q || n || (v || m) ≡ v || o || q || (n || m)
+sorted true o q n m = or-true (o || q || n)
+sorted false o q n m = or-assoc (o || q) n m
+
+module _ (r x : Set) (a b : ℕ) where
+  -- one permit
+  split-permit : (p : PermitRecord) → beside r x a b p ≡ permitsAnybody 2 b p || r b && permitsAnybody 1 a p || x b && permitsAnybody 2 a p || names r x a b p
+  unfolding beside permitsAnybody names serves
+  split-permit p =
+      ap₂ _||_ (either-taker g z (eqb p.taker b) m ∙ ap (λ w. w || g && (eqb p.taker b && m)) (either-mode g z (r b) (x b) (contains p.ops 1) (contains p.ops 2)))
+      (either-taker (eqb p.giver b) z (eqb p.taker a) (contains p.ops 2))
+      ∙ sorted (eqb p.giver b && (z && contains p.ops 2)) (r b && (g && (z && contains p.ops 1))) (x b && (g && (z && contains p.ops 2))) (g && (eqb p.taker b && m)) (eqb p.giver b && (eqb p.taker a && contains p.ops 2))
+    where
+      g : Bool
+      g = eqb p.giver a
+
+      z : Bool
+      z = eqb p.taker 0
+
+      m : Bool
+      m = r b && contains p.ops 1 || x b && contains p.ops 2
+
+  -- so of all
+  pub split-any : (n : ℕ) (t : ℕ → PermitRecord)
+      → anyOf n t (beside r x a b) ≡ anyOf n t (permitsAnybody 2 b) || r b && anyOf n t (permitsAnybody 1 a) || x b && anyOf n t (permitsAnybody 2 a) || anyOf n t (names r x a b)
+  unfolding anyOf
+  split-any n t =
+      any-same n t t (beside r x a b) (λ p. permitsAnybody 2 b p || r b && permitsAnybody 1 a p || x b && permitsAnybody 2 a p || names r x a b p) (λ j h. split-permit (t j))
+      ∙ any-or n (λ j. permitsAnybody 2 b (t j) || r b && permitsAnybody 1 a (t j) || x b && permitsAnybody 2 a (t j)) (λ j. names r x a b (t j))
+      ∙ ap (λ u. u || anyBelow n (λ j. names r x a b (t j)))
+      (any-or n (λ j. permitsAnybody 2 b (t j) || r b && permitsAnybody 1 a (t j)) (λ j. x b && permitsAnybody 2 a (t j))
+      ∙ ap₂ _||_ (any-or n (λ j. permitsAnybody 2 b (t j)) (λ j. r b && permitsAnybody 1 a (t j)) ∙ ap (λ u. anyBelow n (λ j. permitsAnybody 2 b (t j)) || u) (any-and n (r b) (λ j. permitsAnybody 1 a (t j)))) (any-and n (x b) (λ j. permitsAnybody 2 a (t j))))
+
+-- THE HOLDERS OF AN ENTRY
+-- one writer: `left` are those whom no permit to anybody serves, `rest` those of them whom none that names them serves either
+module _ (n : ℕ) (t : ℕ → PermitRecord) (r x u v : Set) (a : ℕ) (left : Set) (known : (k : ℕ) → left k ≡ unserved r x u v a k) (none : Bool) where
+  pub none-left : none ≡ not (anyBelow 256 left) → none ≡ true → true ≡ writerFits n t r x u v a
+  unfolding writerFits
+  none-left e f = sym (allBelow-intro 256 (λ b. not (unserved r x u v a b && not (anyOf n t (names r x a b)))) (λ b h. rw (sym (known b) ∙ anyBelow-none 256 left (not-true (anyBelow 256 left) (sym e ∙ f)) b h)))
+
+  pub none-rest : (found rest : Set) → ((k : ℕ) → found k ≡ anyOf n t (names r x a k)) → ((k : ℕ) → rest k ≡ left k && not (found k)) → none ≡ not (anyBelow 256 rest) → none ≡ writerFits n t r x u v a
+  unfolding writerFits
+  none-rest found rest named minus e = e ∙ none-all 256 rest ∙ all-ext (λ b. not (rest b)) (λ b. not (unserved r x u v a b && not (anyOf n t (names r x a b)))) 256 (λ b h. rw (minus b, known b, named b))
+
+cell : (o w m : Bool) → not (o && not w && not m) ≡ not o || (w || m)
+cell true true m = refl
+cell true false true = refl
+cell true false false = refl
+cell false w m = refl
+
+-- the writers looked at with the permits to anybody set apart, and at once
+writers-entry : (n : ℕ) (t : ℕ → PermitRecord) (r x u v : Set) → ((k : ℕ) → u k ≡ anyOf n t (permitsAnybody 1 k)) → ((k : ℕ) → v k ≡ anyOf n t (permitsAnybody 2 k))
+    → writersFit n t r x u v ≡ entryFits n t r x
+unfolding writersFit entryFits writerFits unserved
+writers-entry n t r x u v hu hv = all-ext _ _ 256 (λ a ha. ap (λ w. not (x a) || w) (all-ext _ _ 256 (λ b hb.
+    cell (otherHolder r x a b) (v b || r b && u a || x b && v a) (anyOf n t (names r x a b)) ∙ rw (hu a, hv a, hv b) (ap (λ w. not (otherHolder r x a b) || w) (sym (split-any r x a b n t))))))
+
+-- permits that say the same
+entry-same : (n : ℕ) (t t′ : ℕ → PermitRecord) (r x : Set) → ((j : ℕ) → j < n → t j ≡ t′ j) → entryFits n t r x ≡ entryFits n t′ r x
+unfolding entryFits
+entry-same n t t′ r x h = all-ext _ _ 256 (λ a ha. ap (λ w. not (x a) || w) (all-ext _ _ 256 (λ b hb. ap (λ w. not (otherHolder r x a b) || w) (any-same n t t′ _ _ (λ j l. ap (beside r x a b) (h j l))))))
+
+-- what the code finds of an entry: r′ and x′ are its readers and writers in code, t its permits there
+pub entry-found : (n : ℕ) (t t′ : ℕ → PermitRecord) (r x r′ x′ u v : Set) (found : Bool) → ((j : ℕ) → j < n → t j ≡ t′ j) → ((k : ℕ) → r′ k ≡ r k) → ((k : ℕ) → x′ k ≡ x k)
+    → ((k : ℕ) → u k ≡ anyOf n t (permitsAnybody 1 k)) → ((k : ℕ) → v k ≡ anyOf n t (permitsAnybody 2 k)) → found ≡ writersFit n t r′ x′ u v → found ≡ entryFits n t′ r x
+entry-found n t t′ r x r′ x′ u v found ht hr hx hu hv e = e ∙ writers-entry n t r′ x′ u v hu hv ∙ ap₂ (entryFits n t) (fun-ext hr) (fun-ext hx) ∙ entry-same n t t′ r x ht

@@ -1,0 +1,236 @@
+-- What the code finds of an entry is what the rules say of its clashing pairs. Assumes nothing.
+use mathlib.Core.Path.{_≡_, refl, sym, _∙_, ap, ap₂, fun-ext}
+use mathlib.Core.Logic.{_≢_}
+use mathlib.Core.Bool.{Bool, true, false, not, _&&_, _||_, or-false, or-comm}
+use mathlib.Core.List.{List}
+use Prim.Native.Nat.{ℕ, zero, suc, _+_, _-_, _≤_, _<_}
+use native.Mathlib.Decide.{decLt}
+use native.Mathlib.Omega.{arith}
+use lib.Dec.{ltb, eqb}
+use lib.ListN.{length, getD}
+use Rattle.rules.specs.Base.{allBelow, anyBelow, any, rising}
+use Rattle.rules.specs.Window.{PermitRecord, Window, permitKey}
+use Rattle.rules.specs.Locks.{clash, contains, permitted, pairPermitted, clashesPermitted}
+use Rattle.rules.proofs.BaseLaws.{both-ways, and-both, and-left, and-right, any-intro, any-elim, allBelow-intro, allBelow-at, Same, same, other, same?, eqb-eq, eqb-same, eqb-other, ne-of, not-true, ltb-true, lt-of, le-of, gt-of}
+use Rattle.layout.specs.Codec.{noPermit, lockSection, permitSection}
+use Rattle.locks.specs.Held.{Modes, inMode, holding}
+use Rattle.locks.proofs.RowLaws.{row-holders}
+use Rattle.clashes.specs.Holds.{Holds}
+use Rattle.clashes.specs.Permits.{permitAt, permitFrom, anyOf, fromEntry, FirstOf}
+use Rattle.clashes.specs.Beside.{serves, beside, otherHolder, entryFits, contested}
+use Rattle.clashes.proofs.TurnLaws.{any-or}
+use Rattle.clashes.proofs.PlaceLaws.{any-same, permit-read, any-place, place-any, entries-rise}
+use Rattle.clashes.proofs.WriterLaws.{contested-none}
+
+-- THE PERMITS OF AN ENTRY
+-- a permit from g to t or to anybody that contains a mode
+unfoldable grants : ℕ → ℕ → ℕ → PermitRecord → Bool
+grants g t m p = eqb p.giver g && ((eqb p.taker t || eqb p.taker 0) && contains p.ops m)
+
+and-mid : (a b e c : Bool) → e && (a && (b && c)) ≡ a && b && e && c
+and-mid true true true c = refl
+and-mid true true false c = refl
+and-mid true false true c = refl
+and-mid true false false c = refl
+and-mid false b true c = refl
+and-mid false b false c = refl
+
+-- before a place stand those of lower entries: so up to the first of e, and up to the first past e
+module _ (bs : List ℕ) (count e next from to : ℕ) (lower : (j : ℕ) → j < next → permitAt bs j .entry < e)
+    (first : FirstOf (fromEntry e) bs count next from) (last : FirstOf (fromEntry (e + 1)) bs count from to) where
+  lower-first : (j : ℕ) → j < from → permitAt bs j .entry < e
+  unfolding fromEntry
+  lower-first j h = go (decLt j next)
+    where
+      go : Dec (j < next) → permitAt bs j .entry < e
+      go (yes l) = lower j l
+      go (no l) = gt-of e (permitAt bs j .entry) (first .skipped j (omega arith) h)
+
+  pub lower-last : (j : ℕ) → j < to → permitAt bs j .entry < e + 1
+  unfolding fromEntry
+  lower-last j h = go (decLt j from)
+    where
+      go : Dec (j < from) → permitAt bs j .entry < e + 1
+      go (yes l) = omega (arith, lower-first j l)
+      go (no l) = gt-of (e + 1) (permitAt bs j .entry) (last .skipped j (omega arith) h)
+
+  -- in order, those of e are the ones between
+  module _ (order : (i j : ℕ) → i ≤ j → j < count → permitAt bs i .entry ≤ permitAt bs j .entry) where
+    own : (j : ℕ) → from ≤ j → j < to → permitAt bs j .entry ≡ e
+    unfolding fromEntry
+    own j h l = omega (arith, lower-last j l, le-of e (permitAt bs from .entry) (first .found (omega (arith, last .to))), order from j h (omega (arith, last .to)))
+
+    owned : (j : ℕ) → j < count → permitAt bs j .entry ≡ e → (from ≤ j) × (j < to)
+    unfolding fromEntry
+    owned j h q = (go (decLt j from), at (decLt j to))
+      where
+        go : Dec (j < from) → from ≤ j
+        go (yes l) = absurd (omega (arith, lower-first j l))
+        go (no l) = omega arith
+
+        at : Dec (j < to) → j < to
+        at (yes l) = l
+        at (no l) = absurd (omega (arith, le-of (e + 1) (permitAt bs to .entry) (last .found (omega arith)), order to j (omega arith) h))
+
+-- a test of those of e, on the section's records
+module _ (ps : List PermitRecord) (bs : List ℕ) (section : bs ≡ permitSection ps) (most : length ps ≤ 1024) (order : rising permitKey ps ≡ true) (e next from to : ℕ)
+    (lower : (j : ℕ) → j < next → permitAt bs j .entry < e)
+    (first : FirstOf (fromEntry e) bs (length ps) next from) (last : FirstOf (fromEntry (e + 1)) bs (length ps) from to) where
+  record-at : (j : ℕ) → j < length ps → permitAt bs j ≡ getD ps j noPermit
+  record-at j h = rw section (permit-read ps j (omega arith))
+
+  rise : (i j : ℕ) → i ≤ j → j < length ps → permitAt bs i .entry ≤ permitAt bs j .entry
+  rise i j h l = rw (record-at i (omega arith), record-at j l) (entries-rise ps order i j h l)
+
+  own-any : (q : PermitRecord → Bool) → anyOf (to - from) (permitFrom bs from) q ≡ any (λ p. eqb p.entry e && q p) ps
+  unfolding anyOf permitFrom
+  own-any q = both-ways _ _
+      (λ f. let (j, h, g) = any-elim (to - from) _ f in here (from + j) (omega arith) (omega (arith, last .to)) g)
+      (λ f. let (j, h, g) = place-any (λ p. eqb p.entry e && q p) noPermit ps f in there j h (rw (← record-at j h) at g))
+    where
+      here : (j : ℕ) → from ≤ j → j < to → q (permitAt bs j) ≡ true → any (λ p. eqb p.entry e && q p) ps ≡ true
+      here j h l g = any-place (λ p. eqb p.entry e && q p) noPermit ps j (omega (arith, last .to)) (rw (← record-at j (omega (arith, last .to))) (and-both (eqb (permitAt bs j .entry) e) (q (permitAt bs j)) (rw (own bs (length ps) e next from to lower first last rise j h l) (eqb-same e)) g))
+
+      there : (j : ℕ) → j < length ps → eqb (permitAt bs j .entry) e && q (permitAt bs j) ≡ true → anyBelow (to - from) (λ j. q (permitAt bs (from + j))) ≡ true
+      there j h g =
+          let (l, m) = owned bs (length ps) e next from to lower first last rise j h (eqb-eq _ _ (and-left (eqb (permitAt bs j .entry) e) _ g)) in
+          let k : from + (j - from) ≡ j = omega arith in
+          any-intro (to - from) (λ j. q (permitAt bs (from + j))) (j - from) (omega arith) (rw k (and-right (eqb (permitAt bs j .entry) e) _ g))
+
+  -- they are the permits that the rules look at
+  own-permitted : (g t m : ℕ) → anyOf (to - from) (permitFrom bs from) (grants g t m) ≡ permitted ps g t e m
+  unfolding grants permitted
+  own-permitted g t m = own-any (grants g t m) ∙ ap (λ f. any f ps) (fun-ext (λ p. and-mid (eqb p.giver g) (eqb p.taker t || eqb p.taker 0) (eqb p.entry e) (contains p.ops m)))
+
+-- CLASHING PAIRS
+-- the rules, entry by entry
+unfoldable pub entryPermitted : Window → ℕ → Bool
+entryPermitted W e = allBelow (suc W.given) (λ a. allBelow (suc W.given) (λ b. pairPermitted W e a b))
+
+pub by-entries : (W : Window) → clashesPermitted W ≡ allBelow W.entries (entryPermitted W)
+unfolding clashesPermitted entryPermitted
+by-entries W = refl
+
+-- two modes that clash: one is write, and the other is held
+pair-cases : (m k : ℕ) → m ≤ 2 → k ≤ 2 → (u v : Bool) → (m ≡ 2 → 0 < k → u || v ≡ true) → (k ≡ 2 → 0 < m → u || v ≡ true) → not (clash m k) || u || v ≡ true
+unfolding clash
+pair-cases zero k hm hk u v f g = refl
+pair-cases (suc zero) zero hm hk u v f g = refl
+pair-cases (suc zero) (suc zero) hm hk u v f g = refl
+pair-cases (suc zero) (suc (suc zero)) hm hk u v f g = g refl (omega arith)
+pair-cases (suc (suc zero)) zero hm hk u v f g = refl
+pair-cases (suc (suc zero)) (suc zero) hm hk u v f g = f refl (omega arith)
+pair-cases (suc (suc zero)) (suc (suc zero)) hm hk u v f g = f refl (omega arith)
+pair-cases (suc (suc (suc m))) k hm hk u v f g = absurd (omega arith)
+pair-cases (suc zero) (suc (suc (suc k))) hm hk u v f g = absurd (omega arith)
+pair-cases (suc (suc zero)) (suc (suc (suc k))) hm hk u v f g = absurd (omega arith)
+
+clash-write : (k : ℕ) → 0 < k → clash 2 k ≡ true
+unfolding clash
+clash-write k h = rw (ltb-true 0 k h)
+
+-- operations contain a mode that is held
+serves-mode : (o m : ℕ) → 0 < m → m ≤ 2 → serves o (eqb m 1) (eqb m 2) ≡ contains o m
+unfolding serves
+serves-mode o zero h l = absurd (omega arith)
+serves-mode o (suc zero) h l = or-false (contains o 1)
+serves-mode o (suc (suc zero)) h l = refl
+serves-mode o (suc (suc (suc m))) h l = absurd (omega arith)
+
+clear : (x n u v : Bool) → x ≡ false → n ≡ false → x || n || u || v ≡ true → u || v ≡ true
+clear x n u v p q e = rw (p, q) at e
+
+unless : (o f : Bool) → o ≡ true → not o || f ≡ true → f ≡ true
+unless o f p e = rw p at e
+
+unless-not : (o f : Bool) → (o ≡ true → f ≡ true) → not o || f ≡ true
+unless-not true f h = h refl
+unless-not false f h = refl
+
+module _ (W : Window) (modes : Modes W.held) (given : W.given < 256) (none-above : (e c : ℕ) → W.given < c → W .held e c ≡ 0) (e : ℕ) where
+  abbrev row : ℕ → ℕ
+  row = W .held e
+
+  row-most : (c : ℕ) → row c ≤ 2
+  unfolding Modes
+  row-most c = modes e c
+
+  -- between a writer and another holder
+  abbrev Between : ℕ → ℕ → Bool
+  Between a b = permitted W.permits a b e (row b) || permitted W.permits b a e 2
+
+  mode-set : (m c : ℕ) → c < 256 → inMode m row c ≡ eqb (row c) m
+  unfolding inMode
+  mode-set m c h = rw (ltb-true c 256 h)
+
+  holder : (c : ℕ) → c < 256 → inMode 1 row c || inMode 2 row c ≡ ltb 0 (row c)
+  unfolding holding
+  holder c h = row-holders row row-most c ∙ rw (ltb-true c 256 h)
+
+  other-holder : (a b : ℕ) → b < 256 → b ≢ a → 0 < row b → otherHolder (inMode 1 row) (inMode 2 row) a b ≡ true
+  unfolding otherHolder
+  other-holder a b hb n h = rw (eqb-other b a n, holder b hb, ltb-true 0 (row b) h)
+
+  -- an entry whose writers have permits with all other holders
+  pairs-permitted : ((a b : ℕ) → a < 256 → b < 256 → inMode 2 row a ≡ true → otherHolder (inMode 1 row) (inMode 2 row) a b ≡ true → 0 < row b → Between a b ≡ true) → entryPermitted W e ≡ true
+  unfolding entryPermitted pairPermitted
+  pairs-permitted f = allBelow-intro (suc W.given) _ (λ a ha. allBelow-intro (suc W.given) _ (λ b hb. go a b (omega arith) (omega arith) (same? a b)))
+    where
+      found : (a b : ℕ) → a < 256 → b < 256 → a ≢ b → row a ≡ 2 → 0 < row b → Between a b ≡ true
+      found a b ha hb n m h = f a b ha hb (mode-set 2 a ha ∙ rw m) (other-holder a b hb (λ q. n (sym q)) h) h
+
+      go : (a b : ℕ) → a < 256 → b < 256 → {x : Bool} → Same a b x → x || not (clash (row a) (row b)) || permitted W.permits a b e (row b) || permitted W.permits b a e (row a) ≡ true
+      go a b ha hb (same q) = refl
+      go a b ha hb (other n) = pair-cases (row a) (row b) (row-most a) (row-most b) (permitted W.permits a b e (row b)) (permitted W.permits b a e (row a))
+          (λ m h. rw m (found a b ha hb n m h)) (λ m h. rw m (or-comm (permitted W.permits a b e 2) (permitted W.permits b a e (row a)) ∙ found b a hb ha (λ q. n (sym q)) m h))
+
+  -- nothing is asked where no writer has another holder beside it
+  quiet-permitted : contested (inMode 1 row) (inMode 2 row) ≡ false → entryPermitted W e ≡ true
+  quiet-permitted q = pairs-permitted (λ a b ha hb xa o h. absurd (contested-none (inMode 1 row) (inMode 2 row) q a b ha hb xa o))
+
+  -- with the permits of the entry at hand
+  module _ (n : ℕ) (t : ℕ → PermitRecord) (own : (g u m : ℕ) → anyOf n t (grants g u m) ≡ permitted W.permits g u e m) where
+    beside-between : (a b : ℕ) → b < 256 → 0 < row b → anyOf n t (beside (inMode 1 row) (inMode 2 row) a b) ≡ Between a b
+    unfolding anyOf beside grants
+    beside-between a b hb h =
+        any-same n t t (beside (inMode 1 row) (inMode 2 row) a b) (λ p. grants a b (row b) p || grants b a 2 p) (λ j l. rw (mode-set 1 b hb, mode-set 2 b hb, serves-mode (t j .ops) (row b) h (row-most b)))
+        ∙ any-or n (λ j. grants a b (row b) (t j)) (λ j. grants b a 2 (t j)) ∙ ap₂ _||_ (own a b (row b)) (own b a 2)
+
+    below-given : (c : ℕ) → 0 < row c → c < suc W.given
+    below-given c h = go (decLt W.given c)
+      where
+        go : Dec (W.given < c) → c < suc W.given
+        go (yes l) = absurd (omega (arith, none-above e c l))
+        go (no l) = omega arith
+
+    between : entryPermitted W e ≡ true → (a b : ℕ) → b ≢ a → row a ≡ 2 → 0 < row b → Between a b ≡ true
+    unfolding entryPermitted pairPermitted
+    between f a b n ra hb = rw ra at (clear (eqb a b) (not (clash (row a) (row b))) (permitted W.permits a b e (row b)) (permitted W.permits b a e (row a))
+        (eqb-other a b (λ q. n (sym q))) (rw (ra, clash-write (row b) hb))
+        (allBelow-at (suc W.given) _ (allBelow-at (suc W.given) _ f a (below-given a (omega arith))) b (below-given b hb)))
+
+    found-beside : entryPermitted W e ≡ true → (a b : ℕ) → a < 256 → b < 256 → inMode 2 row a ≡ true → otherHolder (inMode 1 row) (inMode 2 row) a b ≡ true
+        → anyOf n t (beside (inMode 1 row) (inMode 2 row) a b) ≡ true
+    unfolding otherHolder
+    found-beside f a b ha hb xa o =
+        let h : 0 < row b = lt-of 0 (row b) (sym (holder b hb) ∙ and-right (not (eqb b a)) _ o) in
+        beside-between a b hb h ∙ between f a b (ne-of b a (not-true (eqb b a) (and-left (not (eqb b a)) _ o))) (eqb-eq (row a) 2 (sym (mode-set 2 a ha) ∙ xa)) h
+
+    entry-permitted : entryFits n t (inMode 1 row) (inMode 2 row) ≡ entryPermitted W e
+    unfolding entryFits
+    entry-permitted = both-ways _ _
+        (λ f. pairs-permitted (λ a b ha hb xa o h. sym (beside-between a b hb h) ∙ unless _ _ o (allBelow-at 256 _ (unless _ _ xa (allBelow-at 256 _ f a ha)) b hb)))
+        (λ f. allBelow-intro 256 _ (λ a ha. unless-not (inMode 2 row a) _ (λ xa. allBelow-intro 256 _ (λ b hb. unless-not (otherHolder (inMode 1 row) (inMode 2 row) a b) _ (found-beside f a b ha hb xa)))))
+
+-- A TURN OF THE WALK OVER THE ENTRIES
+module _ (locks permits : List ℕ) (entries count : ℕ) (W : Window) (h : Holds locks permits entries count W) (e : ℕ) (r : Bool) where
+  -- an entry that is passed over
+  pub turn-quiet : ((held : ℕ → ℕ → ℕ) → locks ≡ lockSection held → r ≡ contested (inMode 1 (held e)) (inMode 2 (held e))) → r ≡ false → entryPermitted W e ≡ true
+  turn-quiet found q = quiet-permitted W (h .modes) (h .given) (h .none-above) e (sym (found (W .held) (h .lock-bytes)) ∙ q)
+
+  -- an entry that is looked at, with its permits
+  pub turn-found : (next from to : ℕ) → count ≤ 1024 → ((j : ℕ) → j < next → permitAt permits j .entry < e) → FirstOf (fromEntry e) permits count next from → FirstOf (fromEntry (e + 1)) permits count from to
+      → ((held : ℕ → ℕ → ℕ) → locks ≡ lockSection held → r ≡ entryFits (to - from) (permitFrom permits from) (inMode 1 (held e)) (inMode 2 (held e))) → r ≡ entryPermitted W e
+  turn-found next from to most lower first last found = found (W .held) (h .lock-bytes)
+      ∙ entry-permitted W (h .modes) (h .given) (h .none-above) e (to - from) (permitFrom permits from)
+      (own-permitted W.permits permits (h .permit-bytes) (rw (h .permit-count) most) (h .in-order) e next from to lower (rw (h .permit-count) first) (rw (h .permit-count) last))

@@ -1,0 +1,40 @@
+-- Permits in the bytes of a section, and places among them. Assumes nothing.
+use mathlib.Core.Path.{_≡_}
+use mathlib.Core.Bool.{Bool, true, false, _||_}
+use mathlib.Core.List.{List}
+use Prim.Native.Nat.{ℕ, _+_, _*_, _≤_, _<_}
+use lib.Dec.{leb, eqb}
+use lib.ListN.{getD}
+use Rattle.rules.specs.Base.{anyBelow}
+use Rattle.rules.specs.Window.{PermitRecord}
+use Rattle.rules.specs.Locks.{makePermit}
+
+-- the permit at a place: entry, giver, taker, operations in its four bytes
+unfoldable pub permitAt : List ℕ → ℕ → PermitRecord
+permitAt bs j = makePermit (getD bs (j * 4 + 1) 0) (getD bs (j * 4 + 2) 0) (getD bs (j * 4) 0) (getD bs (j * 4 + 3) 0)
+
+-- at a place counted from another
+unfoldable pub permitFrom : List ℕ → ℕ → ℕ → PermitRecord
+permitFrom bs from j = permitAt bs (from + j)
+
+-- one of the first n permits passes
+unfoldable pub anyOf : ℕ → (ℕ → PermitRecord) → (PermitRecord → Bool) → Bool
+anyOf n t p = anyBelow n (λ j. p (t j))
+
+-- the entry is not below a number
+unfoldable pub fromEntry : ℕ → PermitRecord → Bool
+fromEntry e p = leb e p.entry
+
+-- a change gives it or takes it
+unfoldable pub involves : ℕ → PermitRecord → Bool
+involves c p = eqb p.giver c || eqb p.taker c
+
+-- the first place from a start on whose permit passes; the count where there is none
+pub record FirstOf (p : PermitRecord → Bool) (bs : List ℕ) (count start at : ℕ) : Type 0 where
+  -- from the start on, and at most the count
+  pub from : start ≤ at
+  pub to : at ≤ count
+  -- none on the way passes
+  pub skipped : (j : ℕ) → start ≤ j → j < at → p (permitAt bs j) ≡ false
+  -- it passes itself
+  pub found : at < count → p (permitAt bs at) ≡ true

@@ -1,0 +1,265 @@
+// Whether each clashing pair of locks has a permit, in the lent sections of locks and of permits.
+// A clashing pair has a writer in it: each writer of an entry is held against the entry's other holders.
+use sets::ChangeSet;
+ghost use mathlib.Core.Path.{_≡_};
+ghost use mathlib.Core.Bool.{_&&_, _||_};
+ghost use Prim.Native.Nat.{ℕ, _+_, _-_, _*_, _≤_};
+ghost use lib.Dec.{eqb};
+ghost use lib.ListN.{length};
+ghost use Rattle.rules.specs.Window.{Window};
+ghost use Rattle.rules.specs.Locks.{clashesPermitted};
+ghost use Rattle.layout.specs.Codec.{locksSize, permitsSize, lockSection};
+ghost use Rattle.sets.specs.Members.{members};
+ghost use Rattle.locks.specs.Held.{inMode};
+ghost use Rattle.clashes.specs.Holds.{Holds};
+ghost use Rattle.clashes.specs.Permits.{permitAt, permitFrom, anyOf, FirstOf, fromEntry, involves};
+ghost use Rattle.clashes.specs.Beside.{serves, permitsAnybody, names, unserved, writerFits, writersFit, entryFits, contested};
+
+// The bytes of a permit.
+const PERMIT: usize = layout::Permits::SIZE / layout::Permits::MOST;
+
+// The set, with c where a test passed.
+fn add_if(s: ChangeSet, c: u8, test: bool) -> ChangeSet
+    ensures { λ r. ⌜ ((k : ℕ) → members r k ≡ members s k || eqb c k && test) ⌝ }
+{
+    if test {
+        return s.add(c);
+    }
+    s
+}
+
+// The set, with the members of another where a test passed.
+fn unite_if(s: ChangeSet, other: ChangeSet, test: bool) -> ChangeSet
+    ensures { λ r. ⌜ ((k : ℕ) → members r k ≡ members s k || members other k && test) ⌝ }
+{
+    if test {
+        return s.unite(other);
+    }
+    s
+}
+
+// Whether an entry has a writer and another holder.
+fn contested(locks: &[u8], entry: u8) -> bool
+    ensures { λ r. ⌜ ((held : ℕ → ℕ → ℕ) → now (locks .entry) ≡ lockSection held → r ≡ contested (inMode 1 (held entry)) (inMode 2 (held entry))) ⌝ }
+{
+    let writers = locks::writers(locks, entry);
+    let first = writers.lowest();
+    if first < 256 {
+        let holders = locks::readers(locks, entry).unite(writers);
+        !holders.without(first as u8).is_empty()
+    } else {
+        false
+    }
+}
+
+// The place of the first permit from `start` on whose entry is not below a number; the count where there is none.
+fn first_from(permits: &[u8], count: usize, start: usize, entry: usize) -> usize
+    requires { ⌜ 4 * count ≤ length (now permits) ⌝ }
+    requires { ⌜ start ≤ count ⌝ }
+    ensures { λ r. ⌜ FirstOf (fromEntry entry) (now (permits .entry)) count start r ⌝ }
+{
+    let mut j = start;
+    while j < count {
+        if entry <= permits[j * PERMIT] as usize {
+            return j;
+        }
+        j += 1;
+    }
+    j
+}
+
+// The place of the first permit from `start` on that a change gives or takes; the count where there is none.
+fn next_involving(permits: &[u8], count: usize, start: usize, change: u8) -> usize
+    requires { ⌜ 4 * count ≤ length (now permits) ⌝ }
+    requires { ⌜ start ≤ count ⌝ }
+    ensures { λ r. ⌜ FirstOf (involves change) (now (permits .entry)) count start r ⌝ }
+{
+    let mut j = start;
+    while j < count {
+        let at = j * PERMIT;
+        if (permits[at + 1] == change) | (permits[at + 2] == change) {
+            return j;
+        }
+        j += 1;
+    }
+    j
+}
+
+// The set, with the giver of a permit where it is to anybody and contains a mode.
+fn add_giver(s: ChangeSet, permits: &[u8], place: usize, mode: u8) -> ChangeSet
+    requires { ⌜ 4 * place + 4 ≤ length (now permits) ⌝ }
+    ensures { λ r. ⌜ ((k : ℕ) → members r k ≡ members s k || permitsAnybody mode k (permitAt (now (permits .entry)) place)) ⌝ }
+{
+    let at = place * PERMIT;
+    let operations = permits[at + 3];
+    let contains = (operations == mode) | (operations == 3);
+    add_if(s, permits[at + 1], (permits[at + 2] == 0) & contains)
+}
+
+// The givers of the permits to anybody that contain a mode.
+fn givers_to_anybody(permits: &[u8], count: usize, mode: u8) -> ChangeSet
+    requires { ⌜ 4 * count ≤ length (now permits) ⌝ }
+    ensures { λ r. ⌜ ((k : ℕ) → members r k ≡ anyOf count (permitAt (now (permits .entry))) (permitsAnybody mode k)) ⌝ }
+{
+    let mut s = ChangeSet::empty();
+    let mut j: usize = 0;
+    while j < count {
+        s = add_giver(s, permits, j, mode);
+        j += 1;
+    }
+    s
+}
+
+// Whether operations contain the mode in which a change holds the entry.
+fn serves(operations: u8, readers: ChangeSet, writers: ChangeSet, change: u8) -> bool
+    ensures { λ r. ⌜ r ≡ serves operations (members readers change) (members writers change) ⌝ }
+{
+    let both = operations == 3;
+    (readers.has(change) & ((operations == 1) | both))
+        | (writers.has(change) & ((operations == 2) | both))
+}
+
+// The set, with whom a permit lets stand beside a writer by naming the two: the taker, or the giver.
+fn add_named(
+    s: ChangeSet,
+    permits: &[u8],
+    place: usize,
+    readers: ChangeSet,
+    writers: ChangeSet,
+    writer: u8,
+) -> ChangeSet
+    requires { ⌜ 4 * place + 4 ≤ length (now permits) ⌝ }
+    ensures { λ r. ⌜ ((k : ℕ) → members r k ≡ members s k || names (members readers) (members writers) writer k (permitAt (now (permits .entry)) place)) ⌝ }
+{
+    let at = place * PERMIT;
+    let giver = permits[at + 1];
+    let taker = permits[at + 2];
+    let operations = permits[at + 3];
+    let out = (giver == writer) & serves(operations, readers, writers, taker);
+    let into = (taker == writer) & ((operations == 2) | (operations == 3));
+    add_if(add_if(s, taker, out), giver, into)
+}
+
+// Whom the permits let stand beside a writer by naming the two.
+fn named(
+    permits: &[u8],
+    count: usize,
+    readers: ChangeSet,
+    writers: ChangeSet,
+    writer: u8,
+) -> ChangeSet
+    requires { ⌜ 4 * count ≤ length (now permits) ⌝ }
+    ensures { λ r. ⌜ ((k : ℕ) → members r k ≡ anyOf count (permitAt (now (permits .entry))) (names (members readers) (members writers) writer k)) ⌝ }
+{
+    let mut s = ChangeSet::empty();
+    let mut j = next_involving(permits, count, 0, writer);
+    while j < count {
+        s = add_named(s, permits, j, readers, writers, writer);
+        j = next_involving(permits, count, j + 1, writer);
+    }
+    s
+}
+
+// The other holders whom no permit to anybody lets stand beside a writer. `reading` and `writing` are the givers of those that contain
+// read and of those that contain write.
+fn unserved(
+    readers: ChangeSet,
+    writers: ChangeSet,
+    reading: ChangeSet,
+    writing: ChangeSet,
+    writer: u8,
+) -> ChangeSet
+    ensures { λ r. ⌜ ((k : ℕ) → members r k ≡ unserved (members readers) (members writers) (members reading) (members writing) writer k) ⌝ }
+{
+    let with_readers = unite_if(writing, readers, reading.has(writer));
+    let served = unite_if(with_readers, writers, writing.has(writer));
+    readers.unite(writers).without(writer).minus(served)
+}
+
+// Whether every other holder has a permit from or to a writer.
+fn writer_permitted(
+    permits: &[u8],
+    count: usize,
+    readers: ChangeSet,
+    writers: ChangeSet,
+    reading: ChangeSet,
+    writing: ChangeSet,
+    writer: u8,
+) -> bool
+    requires { ⌜ 4 * count ≤ length (now permits) ⌝ }
+    ensures { λ r. ⌜ r ≡ writerFits count (permitAt (now (permits .entry))) (members readers) (members writers) (members reading) (members writing) writer ⌝ }
+{
+    let left = unserved(readers, writers, reading, writing, writer);
+    if left.is_empty() {
+        return true;
+    }
+    left.minus(named(permits, count, readers, writers, writer))
+        .is_empty()
+}
+
+// Whether that is so of every writer.
+fn writers_permitted(
+    permits: &[u8],
+    count: usize,
+    readers: ChangeSet,
+    writers: ChangeSet,
+    reading: ChangeSet,
+    writing: ChangeSet,
+) -> bool
+    requires { ⌜ 4 * count ≤ length (now permits) ⌝ }
+    ensures { λ r. ⌜ r ≡ writersFit count (permitAt (now (permits .entry))) (members readers) (members writers) (members reading) (members writing) ⌝ }
+{
+    let mut left = writers;
+    let mut writer = left.lowest();
+    while writer < 256 {
+        let c = writer as u8;
+        if !writer_permitted(permits, count, readers, writers, reading, writing, c) {
+            return false;
+        }
+        left = left.without(c);
+        writer = left.lowest();
+    }
+    true
+}
+
+// Whether each clashing pair of an entry has a permit among those from a place on, up to another.
+fn entry_permitted(locks: &[u8], entry: u8, permits: &[u8], from: usize, to: usize) -> bool
+    requires { ⌜ 4 * to ≤ length (now permits) ⌝ }
+    requires { ⌜ from ≤ to ⌝ }
+    ensures { λ r. ⌜ ((held : ℕ → ℕ → ℕ) → now (locks .entry) ≡ lockSection held → r ≡ entryFits (to - from) (permitFrom (now (permits .entry)) from) (inMode 1 (held entry)) (inMode 2 (held entry))) ⌝ }
+{
+    let readers = locks::readers(locks, entry);
+    let writers = locks::writers(locks, entry);
+    let start = from * PERMIT;
+    let end = to * PERMIT;
+    let own = &permits[start..end];
+    let count = to - from;
+    let reading = givers_to_anybody(own, count, 1);
+    let writing = givers_to_anybody(own, count, 2);
+    writers_permitted(own, count, readers, writers, reading, writing)
+}
+
+// Whether each clashing pair of locks has a permit from one of the two to the other, or to anybody, that contains the taker's held mode.
+pub fn all_permitted(locks: &[u8], entries: usize, permits: &[u8], count: usize) -> bool
+    requires { ⌜ length (now locks) ≡ locksSize ⌝ }
+    requires { ⌜ length (now permits) ≡ permitsSize ⌝ }
+    requires { ⌜ entries ≤ 256 ⌝ }
+    requires { ⌜ count ≤ 1024 ⌝ }
+    ensures { λ r. ⌜ ((W : Window) → Holds (now (locks .entry)) (now (permits .entry)) entries count W → r ≡ clashesPermitted W) ⌝ }
+{
+    let mut entry: usize = 0;
+    let mut next: usize = 0;
+    while entry < entries {
+        let e = entry as u8;
+        if contested(locks, e) {
+            let from = first_from(permits, count, next, entry);
+            let to = first_from(permits, count, from, entry + 1);
+            if !entry_permitted(locks, e, permits, from, to) {
+                return false;
+            }
+            next = to;
+        }
+        entry += 1;
+    }
+    true
+}
