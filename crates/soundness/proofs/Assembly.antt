@@ -1,0 +1,171 @@
+-- The sections of sound bytes together are the bytes of a sound window, and back. Assumes nothing.
+use mathlib.Core.Path.{_≡_, refl, sym, _∙_, ap}
+use mathlib.Core.Bool.{true, not, _&&_}
+use mathlib.Core.List.{List, [], _∷_, _++_}
+use Prim.Native.Nat.{ℕ, suc, _≤_}
+use native.Mathlib.Omega.{arith}
+use lib.Dec.{ltb}
+use lib.ListN.{length, take, drop}
+use Rattle.rules.specs.Base.{exceeds, all}
+use Rattle.rules.specs.Window.{TieRecord, limits, Window, live}
+use Rattle.rules.specs.Sound.{heldSound, tieSound}
+use Rattle.rules.specs.Locks.{clashesPermitted}
+use Rattle.rules.specs.Ties.{acyclic}
+use Rattle.rules.proofs.ListLaws.{all-weaken}
+use Rattle.rules.proofs.BaseLaws.{and-both, over-false, within-of, ltb-true, lt-of}
+use Rattle.rules.proofs.SoundParts.{Sound, tie-parts, live-below, held-most, held-no-change, fits-all, fit-locks}
+use Rattle.layout.specs.Codec.{headAt, headSize, valuesAt, valuesSize, changesAt, changesSize, lineAt, lineSize, locksAt, locksSize, permitsAt, permitsSize, tiesAt, tiesSize, logAt, logSize, windowSize, figures, headSection, encode, decode}
+use Rattle.layout.specs.Memory.{soundBytes}
+use Rattle.layout.proofs.MemoryLaws.{encode-sound, bytes-sound, bytes-again}
+use Rattle.layout.proofs.PartLaws.{head-part, values-part, changes-part, line-part, locks-part, permits-part, ties-part, log-part, eight-parts}
+use Rattle.locks.specs.Held.{Modes}
+use Rattle.cycles.specs.Graph.{endsBelow}
+use Rattle.sections.specs.Sections.{HeadSound, ChangesSound}
+use Rattle.soundness.specs.Parts.{lives, cut, FrontSound, BackSound, Listed}
+
+-- a figure within its largest
+within : (m n : ℕ) → m ≤ n → not (exceeds m n) ≡ true
+within m n h = ap not (over-false m n h)
+
+-- eight lists one after the other
+join8 : {a b c d e f g h a′ b′ c′ d′ e′ f′ g′ h′ : List ℕ} → a ≡ a′ → b ≡ b′ → c ≡ c′ → d ≡ d′ → e ≡ e′ → f ≡ f′ → g ≡ g′ → h ≡ h′
+    → a ++ (b ++ (c ++ (d ++ (e ++ (f ++ (g ++ h)))))) ≡ a′ ++ (b′ ++ (c′ ++ (d′ ++ (e′ ++ (f′ ++ (g′ ++ h′))))))
+join8 p q r s t u v w = λ i. p i ++ (q i ++ (r i ++ (s i ++ (t i ++ (u i ++ (v i ++ w i))))))
+
+-- FROM THE SECTIONS TO THE WINDOW
+module _ (bs : List ℕ) (size : length bs ≡ windowSize) (h : HeadSound (cut bs headAt headSize)) (c : ChangesSound (cut bs changesAt changesSize) (h .given))
+    (f : FrontSound bs (h .entries) (lives (h .given) (c .status)))
+    (k : BackSound bs (h .entries) (h .permits) (h .ties) (h .records) (lives (h .given) (c .status)) (f .locks .held)) where
+  -- the window that they are
+  unfoldable pub gathered : Window
+  gathered = record {
+    entries = h .entries;
+    value = f .values .value;
+    given = h .given;
+    status = c .status;
+    parent = c .parent;
+    held = f .locks .held;
+    log = k .log .log;
+    permits = k .permits .permits;
+    ties = k .ties .ties;
+  }
+
+  pub gathered-bytes : encode gathered ≡ bs
+  unfolding gathered encode figures
+  gathered-bytes = sym (eight-parts bs size ∙ join8
+      (h .bytes ∙ (λ i. headSection (h .entries ∷ h .given ∷ sym (k .log .size) i ∷ sym (k .permits .size) i ∷ sym (k .ties .size) i ∷ [])))
+      (f .values .bytes) (c .bytes) (f .line) (f .locks .bytes) (k .permits .bytes) (k .ties .bytes) (k .log .bytes))
+
+  pub gathered-sound : acyclic (suc (h .given)) (k .ties .ties) ≡ true → clashesPermitted gathered ≡ true → Sound limits gathered
+  unfolding gathered live lives limits
+  gathered-sound a p = record {
+    some = ltb-true 0 (h .entries) (omega (arith, h .some));
+    entries = within (h .entries) 256 (h .entries-most);
+    changes = within (h .given) 255 (h .given-most);
+    room-log = rw (k .log .size) (within (h .records) 2048 (h .records-most));
+    room-permits = rw (k .permits .size) (within (h .permits) 1024 (h .permits-most));
+    room-ties = rw (k .ties .size) (within (h .ties) 512 (h .ties-most));
+    values = f .values .fine;
+    statuses = c .statuses;
+    parents = c .parents;
+    helds = f .locks .fine;
+    records = k .log .fine;
+    permits = k .permits .fine;
+    ties = k .ties .fine;
+    permit-order = k .permits .order;
+    tie-order = k .ties .order;
+    no-circle = a;
+    locks = fits-all gathered (f .locks .fine) p;
+  }
+
+  pub gathered-all : acyclic (suc (h .given)) (k .ties .ties) ≡ true → clashesPermitted gathered ≡ true → soundBytes bs ≡ true
+  gathered-all a p = rw gathered-bytes at (encode-sound gathered (gathered-sound a p))
+
+  -- its locks, permits and ties, as the last two tests want them
+  below : (t : TieRecord) → tieSound (live gathered) t ≡ true → ltb t.leader (suc (h .given)) && ltb t.follower (suc (h .given)) ≡ true
+  unfolding gathered
+  below t q = let x = tie-parts (live gathered) t q in
+      and-both _ _ (ltb-true t.leader (suc (h .given)) (live-below gathered t.leader (x .1))) (ltb-true t.follower (suc (h .given)) (live-below gathered t.follower (x .2)))
+
+  helds : (e n : ℕ) → heldSound (gathered .entries) (live gathered) (gathered .held) e n ≡ true
+  unfolding gathered live lives
+  helds = f .locks .fine
+
+  fine-ties : all (tieSound (live gathered)) (gathered .ties) ≡ true
+  unfolding gathered live lives
+  fine-ties = k .ties .fine
+
+  pub gathered-listed : Listed bs (h .entries) (h .permits) (h .ties) gathered
+  unfolding gathered endsBelow Modes
+  gathered-listed = record {
+    held = record {
+      lock-bytes = f .locks .bytes;
+      permit-bytes = k .permits .bytes;
+      entry-count = refl;
+      permit-count = k .permits .size;
+      modes = held-most gathered helds;
+      given = omega (arith, h .given-most);
+      none-above = held-no-change gathered helds;
+      in-order = k .permits .order;
+    };
+    tie-bytes = k .ties .bytes;
+    tie-count = k .ties .size;
+    ends = all-weaken (tieSound (live gathered)) _ below (k .ties .ties) fine-ties;
+  }
+
+-- FROM THE WINDOW TO THE SECTIONS
+module _ (bs : List ℕ) (size : length bs ≡ windowSize) (s : soundBytes bs ≡ true) where
+  unfoldable pub W : Window
+  W = decode bs
+
+  pub z : Sound limits W
+  unfolding W
+  z = bytes-sound bs s
+
+  -- a part of the bytes is that part of the window's
+  pub at : (p n : ℕ) {x : List ℕ} → take n (drop p (encode W)) ≡ x → take n (drop p bs) ≡ x
+  unfolding W
+  at p n e = ap (λ l. take n (drop p l)) (sym (bytes-again bs s)) ∙ e
+
+  unfoldable pub head-known : HeadSound (cut bs headAt headSize)
+  unfolding figures limits
+  head-known = record {
+    entries = W .entries;
+    given = W .given;
+    records = length (W .log);
+    permits = length (W .permits);
+    ties = length (W .ties);
+    bytes = at headAt headSize (head-part W);
+    some = lt-of 0 (W .entries) (z .some);
+    entries-most = within-of (W .entries) 256 (z .entries);
+    given-most = within-of (W .given) 255 (z .changes);
+    records-most = within-of (length (W .log)) 2048 (z .room-log);
+    permits-most = within-of (length (W .permits)) 1024 (z .room-permits);
+    ties-most = within-of (length (W .ties)) 512 (z .room-ties);
+  }
+
+  unfoldable pub changes-known : ChangesSound (cut bs changesAt changesSize) (W .given)
+  changes-known = record { status = W .status; parent = W .parent; bytes = at changesAt changesSize (changes-part W); statuses = z .statuses; parents = z .parents }
+
+  unfoldable pub front-known : FrontSound bs (W .entries) (lives (W .given) (W .status))
+  unfolding live lives
+  front-known = record {
+    values = record { value = W .value; bytes = at valuesAt valuesSize (values-part W); fine = z .values };
+    line = at lineAt lineSize (line-part W);
+    locks = record { held = W .held; bytes = at locksAt locksSize (locks-part W); fine = z .helds };
+  }
+
+  pub back-known : BackSound bs (W .entries) (length (W .permits)) (length (W .ties)) (length (W .log)) (lives (W .given) (W .status)) (W .held)
+  unfolding live lives
+  back-known = record {
+    permits = record { permits = W .permits; size = refl; bytes = at permitsAt permitsSize (permits-part W); fine = z .permits; order = z .permit-order };
+    ties = record { ties = W .ties; size = refl; bytes = at tiesAt tiesSize (ties-part W); fine = z .ties; order = z .tie-order };
+    log = record { log = W .log; size = refl; bytes = at logAt logSize (log-part W); fine = z .records };
+  }
+
+  pub listed-known : Listed bs (W .entries) (length (W .permits)) (length (W .ties)) W
+  unfolding gathered head-known changes-known front-known back-known
+  listed-known = gathered-listed bs size head-known changes-known front-known back-known
+
+  pub relations-known : acyclic (suc (W .given)) (W .ties) && clashesPermitted W ≡ true
+  relations-known = and-both _ _ (z .no-circle) (fit-locks W (z .locks))

@@ -1,0 +1,87 @@
+-- What each test of the whole check says of sound bytes. Assumes nothing.
+use mathlib.Core.Path.{_≡_, sym, _∙_, ap, fun-ext}
+use mathlib.Core.Bool.{Bool, true, _&&_}
+use mathlib.Core.List.{List}
+use mathlib.Core.Logic.{_↔_}
+use Prim.Native.Nat.{ℕ, suc}
+use lib.Dec.{ltb}
+use lib.ListN.{length}
+use Rattle.rules.specs.Sets.{Set}
+use Rattle.rules.specs.Window.{Window, isLive}
+use Rattle.rules.specs.Locks.{clashesPermitted}
+use Rattle.rules.specs.Ties.{acyclic}
+use Rattle.rules.proofs.BaseLaws.{and-left, and-right}
+use Rattle.layout.specs.Codec.{headAt, headSize, changesAt, changesSize, locksAt, locksSize, windowSize, changeSection, lockSection}
+use Rattle.layout.specs.Memory.{soundBytes}
+use Rattle.sections.specs.Sections.{HeadSound, ChangesSound}
+use Rattle.soundness.specs.Parts.{lives, cut, FrontSound, BackSound, Listed}
+use Rattle.soundness.specs.Read.{AreFigures}
+use Rattle.soundness.specs.declared.Figures.{Figures}
+use Rattle.soundness.proofs.Assembly.{W, head-known, changes-known, front-known, back-known, gathered, gathered-all, gathered-listed, listed-known, relations-known}
+
+-- m is the set of the live changes that bytes of changes say
+abbrev pub Lives : List ℕ → ℕ → Set → Type 0
+Lives bs given m = (st pa : ℕ → ℕ) → cut bs changesAt changesSize ≡ changeSection st pa → (k : ℕ) → m k ≡ ltb k (suc given) && isLive (st k)
+
+-- r decides whether the permits, the ties and the log are sound beside the locks
+abbrev pub Decided : List ℕ → Figures → Set → Bool → Type 0
+Decided bs f m r = (held : ℕ → ℕ → ℕ) → cut bs locksAt locksSize ≡ lockSection held → (r ≡ true ↔ BackSound bs (f .entries) (f .permits) (f .ties) (f .records) m held)
+
+-- r is what the last two tests say
+abbrev pub Says : List ℕ → ℕ → ℕ → ℕ → Bool → Type 0
+Says bs entries permits ties r = (w : Window) → Listed bs entries permits ties w → r ≡ acyclic (suc (w .given)) (w .ties) && clashesPermitted w
+
+module _ (bs : List ℕ) (size : length bs ≡ windowSize) where
+  pub header-asked : soundBytes bs ≡ true → HeadSound (cut bs headAt headSize)
+  header-asked s = head-known bs size s
+
+  module _ (f : Figures) (read : (h : HeadSound (cut bs headAt headSize)) → AreFigures h f) (s : soundBytes bs ≡ true) where
+    figures-known : AreFigures (head-known bs size s) f
+    figures-known = read (head-known bs size s)
+
+    pub changes-asked : ChangesSound (cut bs changesAt changesSize) (f .given)
+    unfolding head-known
+    changes-asked = rw (figures-known .given) (changes-known bs size s)
+
+    module _ (m : Set) (live : Lives bs (f .given) m) where
+      members-known : m ≡ lives (W bs size s .given) (W bs size s .status)
+      unfolding lives head-known changes-known
+      members-known = fun-ext (λ k. live _ _ (changes-known bs size s .bytes) k ∙ ap (λ g. ltb k (suc g) && isLive (W bs size s .status k)) (figures-known .given))
+
+      pub front-asked : FrontSound bs (f .entries) m
+      unfolding head-known
+      front-asked = rw (figures-known .entries, members-known) (front-known bs size s)
+
+      pub back-asked : (r : Bool) → Decided bs f m r → r ≡ true
+      unfolding head-known front-known
+      back-asked r d = d (W bs size s .held) (front-known bs size s .locks .bytes) .1 (rw (figures-known .entries, figures-known .permits, figures-known .ties, figures-known .records, members-known) (back-known bs size s))
+
+    pub related-asked : (r : Bool) → Says bs (f .entries) (f .permits) (f .ties) r → r ≡ true
+    unfolding head-known
+    related-asked r d = d (W bs size s) (rw (figures-known .entries, figures-known .permits, figures-known .ties) (listed-known bs size s)) ∙ relations-known bs size s
+
+module _ (bs : List ℕ) (size : length bs ≡ windowSize) (h : HeadSound (cut bs headAt headSize)) where
+  -- all passed: the sections are sound, and the last two tests say so
+  sections-passed : (c : ChangesSound (cut bs changesAt changesSize) (h .given)) (t : FrontSound bs (h .entries) (lives (h .given) (c .status)))
+      → BackSound bs (h .entries) (h .permits) (h .ties) (h .records) (lives (h .given) (c .status)) (t .locks .held)
+      → (r : Bool) → Says bs (h .entries) (h .permits) (h .ties) r → r ≡ true → soundBytes bs ≡ true
+  unfolding gathered
+  sections-passed c t k r g y =
+      let both : acyclic (suc (h .given)) (k .ties .ties) && clashesPermitted (gathered bs size h c t k) ≡ true = sym (g (gathered bs size h c t k) (gathered-listed bs size h c t k)) ∙ y in
+      gathered-all bs size h c t k (and-left (acyclic (suc (h .given)) (k .ties .ties)) (clashesPermitted (gathered bs size h c t k)) both) (and-right (acyclic (suc (h .given)) (k .ties .ties)) (clashesPermitted (gathered bs size h c t k)) both)
+
+  -- the same, by the live changes found
+  tests-passed : (m : Set) → Lives bs (h .given) m → ChangesSound (cut bs changesAt changesSize) (h .given) → FrontSound bs (h .entries) m → (q : Bool)
+      → ((held : ℕ → ℕ → ℕ) → cut bs locksAt locksSize ≡ lockSection held → (q ≡ true ↔ BackSound bs (h .entries) (h .permits) (h .ties) (h .records) m held)) → q ≡ true
+      → (r : Bool) → Says bs (h .entries) (h .permits) (h .ties) r → r ≡ true → soundBytes bs ≡ true
+  unfolding lives
+  tests-passed m live c t q d e r g y =
+      let same : m ≡ lives (h .given) (c .status) = fun-ext (λ k. live _ _ (c .bytes) k) in
+      let t′ : FrontSound bs (h .entries) (lives (h .given) (c .status)) = rw same at t in
+      sections-passed c t′ (rw same at (d (t′ .locks .held) (t′ .locks .bytes) .0 e)) r g y
+
+  -- the same, by the figures read
+  pub passed : (f : Figures) → AreFigures h f → (m : Set) → Lives bs (f .given) m → ChangesSound (cut bs changesAt changesSize) (f .given) → FrontSound bs (f .entries) m
+      → (q : Bool) → Decided bs f m q → q ≡ true
+      → (r : Bool) → Says bs (f .entries) (f .permits) (f .ties) r → r ≡ true → soundBytes bs ≡ true
+  passed f a m live c t q d e r g y = tests-passed m (rw (a .given) at live) (rw (a .given) at c) (rw (a .entries) at t) q (rw (a .entries, a .permits, a .ties, a .records) at d) e r (rw (a .entries, a .permits, a .ties) at g) y

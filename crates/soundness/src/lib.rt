@@ -1,0 +1,141 @@
+// Whether lent bytes are a sound window.
+use layout::Changes;
+use layout::Entries;
+use layout::Header;
+use layout::Line;
+use layout::Locks;
+use layout::Log;
+use layout::Permits;
+use layout::Ties;
+use places::figure;
+use sets::ChangeSet;
+ghost use mathlib.Core.Path.{_≡_};
+ghost use mathlib.Core.Bool.{true, _&&_};
+ghost use mathlib.Core.Logic.{_↔_};
+ghost use Prim.Native.Nat.{ℕ, suc, _≤_};
+ghost use lib.ListN.{length};
+ghost use Rattle.layout.specs.Codec.{headAt, headSize, locksAt, locksSize, windowSize, lockSection};
+ghost use Rattle.sets.specs.Members.{members};
+ghost use Rattle.sections.specs.Sections.{HeadSound};
+ghost use Rattle.rules.specs.Window.{Window};
+ghost use Rattle.rules.specs.Locks.{clashesPermitted};
+ghost use Rattle.rules.specs.Ties.{acyclic};
+ghost use Rattle.layout.specs.Memory.{soundBytes, soundMemory};
+ghost use Rattle.soundness.specs.Parts.{cut, FrontSound, BackSound, Listed};
+ghost use Rattle.soundness.specs.Read.{AreFigures};
+
+// The figures of a header.
+pub struct Figures {
+    pub entries: usize,
+    pub given: usize,
+    pub records: usize,
+    pub permits: usize,
+    pub ties: usize,
+}
+
+// The figures of a window.
+pub fn read_figures(w: &[u8]) -> Figures
+    requires { ⌜ length (now w) ≡ windowSize ⌝ }
+    ensures { λ r. ⌜ ((h : HeadSound (cut (now (w .entry)) headAt headSize)) → AreFigures h r) ⌝ }
+{
+    let head = &w[Header::AT..Entries::AT];
+    Figures {
+        entries: figure(head, 0),
+        given: figure(head, 1),
+        records: figure(head, 2),
+        permits: figure(head, 3),
+        ties: figure(head, 4),
+    }
+}
+
+// The values, the line and the locks.
+fn front(w: &[u8], entries: usize, live: ChangeSet) -> bool
+    requires { ⌜ length (now w) ≡ windowSize ⌝ }
+    requires { ⌜ entries ≤ 256 ⌝ }
+    ensures { λ r. ⌜ (r ≡ true ↔ FrontSound (now (w .entry)) entries (members live)) ⌝ }
+{
+    if !sections::values(&w[Entries::AT..Changes::AT], entries) {
+        return false;
+    }
+    if !sections::line(&w[Line::AT..Locks::AT]) {
+        return false;
+    }
+    sections::locks(&w[Locks::AT..Permits::AT], entries, live)
+}
+
+// The permits, the ties and the log.
+fn back(
+    w: &[u8],
+    entries: usize,
+    permits: usize,
+    ties: usize,
+    records: usize,
+    live: ChangeSet,
+) -> bool
+    requires { ⌜ length (now w) ≡ windowSize ⌝ }
+    requires { ⌜ (entries ≤ 256) × (permits ≤ 1024) × (ties ≤ 512) × (records ≤ 2048) ⌝ }
+    ensures { λ r. ⌜ ((held : ℕ → ℕ → ℕ) → cut (now (w .entry)) locksAt locksSize ≡ lockSection held → (r ≡ true ↔ BackSound (now (w .entry)) entries permits ties records (members live) held)) ⌝ }
+{
+    if !sections::permits(&w[Permits::AT..Ties::AT], permits, entries, live) {
+        return false;
+    }
+    if !sections::ties(&w[Ties::AT..Log::AT], ties, live) {
+        return false;
+    }
+    sections::log(
+        &w[Log::AT..layout::Window::SIZE],
+        records,
+        &w[Locks::AT..Permits::AT],
+        entries,
+        live,
+    )
+}
+
+// Arrows do not close a circle, and each clashing pair of locks has a permit.
+fn related(w: &[u8], entries: usize, permits: usize, ties: usize) -> bool
+    requires { ⌜ length (now w) ≡ windowSize ⌝ }
+    requires { ⌜ (entries ≤ 256) × (permits ≤ 1024) × (ties ≤ 512) ⌝ }
+    ensures { λ r. ⌜ ((W : Window) → Listed (now (w .entry)) entries permits ties W → r ≡ acyclic (suc (W .given)) (W .ties) && clashesPermitted W) ⌝ }
+{
+    if !cycles::acyclic(&w[Ties::AT..Log::AT], ties) {
+        return false;
+    }
+    clashes::all_permitted(
+        &w[Locks::AT..Permits::AT],
+        entries,
+        &w[Permits::AT..Ties::AT],
+        permits,
+    )
+}
+
+// Whether a window's bytes are sound.
+pub fn sound(w: &[u8]) -> bool
+    requires { ⌜ length (now w) ≡ windowSize ⌝ }
+    ensures { λ r. ⌜ r ≡ soundBytes (now (w .entry)) ⌝ }
+{
+    if !sections::header(&w[Header::AT..Entries::AT]) {
+        return false;
+    }
+    let f = read_figures(w);
+    if !sections::changes(&w[Changes::AT..Line::AT], f.given) {
+        return false;
+    }
+    let live = places::live_set(&w[Changes::AT..Line::AT], f.given);
+    if !front(w, f.entries, live) {
+        return false;
+    }
+    if !back(w, f.entries, f.permits, f.ties, f.records, live) {
+        return false;
+    }
+    related(w, f.entries, f.permits, f.ties)
+}
+
+// Whether lent memory begins with a sound window.
+pub fn sound_memory(memory: &[u8]) -> bool
+    ensures { λ r. ⌜ r ≡ soundMemory (now (memory .entry)) ⌝ }
+{
+    if memory.len() < layout::Window::SIZE {
+        return false;
+    }
+    sound(&memory[0..layout::Window::SIZE])
+}
