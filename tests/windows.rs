@@ -1,0 +1,97 @@
+//! Sound windows for the tests and the benchmark.
+use crate::model::{Permit, Record, Tie, Window};
+
+fn permit(entry: u8, giver: u8, taker: u8, operations: u8) -> Permit {
+    Permit { entry, giver, taker, operations }
+}
+
+fn tie(kind: u8, leader: u8, follower: u8) -> Tie {
+    Tie { kind, leader, follower }
+}
+
+fn record(owner: u8, entry: u8, before: u32) -> Record {
+    Record { owner, entry, before }
+}
+
+/// Freshly opened.
+pub fn fresh(entries: usize) -> Window {
+    Window { entries, values: vec![0; entries], ..Window::default() }
+}
+
+/// Running changes 1, 2, ..., each with the one before as its parent.
+fn with_changes(entries: usize, given: u8) -> Window {
+    Window { changes: (0..given).map(|parent| (2, parent)).collect(), ..fresh(entries) }
+}
+
+/// 6 entries, 10 live changes and 2 ended ones, a few locks, permits, ties and log records.
+pub fn typical() -> Window {
+    let mut w = with_changes(6, 12);
+    w.changes[3].0 = 4;
+    w.changes[8].0 = 5;
+    w.changes[11].0 = 3;
+    w.changes[10].0 = 1;
+    w.values = vec![100, 0, 50, u32::MAX, 7, 1];
+    w.locks = vec![(0, 1, 2), (0, 2, 1), (1, 3, 2), (1, 12, 2), (2, 5, 1), (2, 6, 1), (3, 7, 2), (5, 10, 2), (5, 1, 1)];
+    w.permits = vec![permit(0, 1, 2, 1), permit(1, 3, 0, 2), permit(4, 8, 2, 3), permit(5, 10, 1, 3)];
+    w.ties = vec![tie(1, 1, 2), tie(1, 3, 5), tie(2, 2, 3), tie(2, 7, 1), tie(3, 3, 12), tie(3, 6, 7)];
+    w.log = vec![record(1, 0, 0), record(3, 1, 1), record(12, 1, 2), record(7, 3, 5), record(1, 0, 90), record(10, 5, 0)];
+    w
+}
+
+/// Locks that clash in every way that a permit allows.
+pub fn contested() -> Window {
+    let mut w = with_changes(2, 5);
+    w.locks = vec![(0, 1, 2), (0, 2, 2), (0, 3, 1), (1, 4, 2), (1, 5, 1), (1, 1, 1)];
+    w.permits = vec![permit(0, 1, 0, 3), permit(0, 3, 2, 2), permit(1, 1, 4, 2), permit(1, 4, 5, 1)];
+    w
+}
+
+/// Ties of every kind between four groups.
+pub fn tied() -> Window {
+    let mut w = with_changes(1, 8);
+    w.ties = vec![tie(1, 1, 3), tie(1, 2, 6), tie(1, 4, 5), tie(2, 3, 5), tie(2, 6, 7), tie(3, 1, 2), tie(3, 3, 4), tie(3, 5, 6), tie(3, 7, 8)];
+    w
+}
+
+/// Full tables, as ordinary use would fill them: one writer and a few readers of each entry.
+pub fn full() -> Window {
+    let mut w = with_changes(256, 255);
+    for e in 0..=255u8 {
+        let writer = e % 200 + 1;
+        w.locks.push((e, writer, 2));
+        for i in 1..=4u8 {
+            w.locks.push((e, writer + i, 1));
+            w.permits.push(permit(e, writer, writer + i, 1));
+        }
+    }
+    w.log = (0..2_048usize).map(|i| record((i / 8 % 200 + 1) as u8, (i / 8) as u8, i as u32)).collect();
+    w.ties = (1..=254u8).map(|c| tie(1, c, c + 1)).chain((1..=253u8).map(|c| tie(2, c, c + 2))).collect();
+    w
+}
+
+/// Every change reads every entry.
+pub fn all_locks() -> Window {
+    let mut w = with_changes(256, 255);
+    w.locks = (0..=255u8).flat_map(|e| (1..=255u8).map(move |c| (e, c, 1))).collect();
+    w
+}
+
+/// One entry with a reader, 254 writers and every permit there is.
+pub fn all_permits() -> Window {
+    let mut w = with_changes(1, 255);
+    w.locks = (2..=255u8).map(|c| (0, c, 2)).chain([(0, 1, 1)]).collect();
+    w.permits = (2..=255u8).flat_map(|c| [permit(0, c, 0, 2), permit(0, c, 1, 1)]).collect();
+    let more = (2..=255u8).flat_map(|g| (2..=255u8).filter(move |t| *t != g).map(move |t| permit(0, g, t, 3)));
+    let room = 1_024 - w.permits.len();
+    w.permits.extend(more.take(room));
+    w.permits.sort();
+    w
+}
+
+/// Ties against the order of the numbers, and group ties across.
+pub fn all_ties() -> Window {
+    let mut w = with_changes(1, 255);
+    w.ties = (2..=255u8).map(|c| tie(1, c, c - 1)).chain((2..=255u8).map(|c| tie(2, c, c - 1))).collect();
+    w.ties.sort();
+    w
+}
