@@ -1,4 +1,4 @@
--- Laws of parts and of numbers in bytes. Other crates cite a file X here as Rattle.cells.proofs.X.
+-- Laws of parts, of numbers in bytes and of records that close up. Other crates cite a file X here as Rattle.cells.proofs.X.
 -- a part read after a write; stores one by one are a patch; one element more
 pub mod PartLaws
 -- a number's bytes, and the number of bytes
@@ -7,3 +7,5 @@ pub mod NumLaws
 pub mod RunLaws
 -- a range that is zero, by its elements
 pub mod ZeroLaws
+-- records of any width closed up in place
+pub mod CloseLaws

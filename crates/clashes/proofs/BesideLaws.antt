@@ -7,32 +7,16 @@ use Rattle.rules.specs.Base.{anyBelow}
 use Rattle.rules.specs.Sets.{Set}
 use Rattle.rules.specs.Window.{PermitRecord}
 use Rattle.rules.specs.Locks.{contains, makePermit}
-use Rattle.rules.proofs.BaseLaws.{Same, same, other, same?, eqb-same, eqb-other, allBelow-intro, anyBelow-none, not-true}
-use Rattle.sets.proofs.BoundLaws.{all-ext}
+use Rattle.rules.proofs.BaseLaws.{Same, same, other, same?, allBelow-intro, anyBelow-none, not-true}
+use Rattle.sets.proofs.BoundLaws.{all-ext, any-or, any-and, none-as}
 use Rattle.clashes.specs.Permits.{anyOf, involves}
 use Rattle.clashes.specs.Beside.{serves, permitsAnybody, names, beside, otherHolder, unserved, writerFits, writersFit, entryFits}
-use Rattle.clashes.proofs.TurnLaws.{any-or, any-and, none-all}
 use Rattle.clashes.proofs.PlaceLaws.{any-same}
 
-eqb-sym : (a b : ℕ) → eqb a b ≡ eqb b a
-eqb-sym a b = go (same? a b)
-  where
-    go : {x : Bool} → Same a b x → x ≡ eqb b a
-    go (same e) = sym (rw e (eqb-same b))
-    go (other n) = sym (eqb-other b a (λ q. n (sym q)))
-
 -- ADDED TO A SET
--- one where a test passed
-pub add-passed : (c k : ℕ) (s s′ test : Bool) → test ≡ true → s′ ≡ eqb k c || s → s′ ≡ s || eqb c k && test
-add-passed c k s s′ test t e = e ∙ or-comm (eqb k c) s ∙ rw (t, and-true (eqb c k), eqb-sym k c)
-
 -- a set where a test passed
 pub unite-passed : (s m s′ test : Bool) → test ≡ true → s′ ≡ s || m → s′ ≡ s || m && test
 unite-passed s m s′ test t e = e ∙ rw (t, and-true m)
-
--- nothing where it failed
-pub nothing-added : (s m test : Bool) → test ≡ false → s ≡ s || m && test
-nothing-added s m test t = rw (t, and-false m, or-false s)
 
 -- whom a permit g, t, o names beside the writer a
 pub named-added : (r x : Set) (a k g t e o : ℕ) (s sv : Bool) → sv ≡ serves o (r t) (x t)
@@ -101,6 +85,12 @@ module _ (r x : Set) (a b : ℕ) where
       ∙ ap₂ _||_ (any-or n (λ j. permitsAnybody 2 b (t j)) (λ j. r b && permitsAnybody 1 a (t j)) ∙ ap (λ u. anyBelow n (λ j. permitsAnybody 2 b (t j)) || u) (any-and n (r b) (λ j. permitsAnybody 1 a (t j)))) (any-and n (x b) (λ j. permitsAnybody 2 a (t j))))
 
 -- THE HOLDERS OF AN ENTRY
+-- the others without those whom permits to anybody serve; g and h: the writer a gives one that contains read, one that contains write
+pub left-unserved : (r x u v : Set) (a k : ℕ) (g h reading served holders others left : Bool) → g ≡ u a → h ≡ v a → reading ≡ v k || r k && g → served ≡ reading || x k && h
+    → holders ≡ r k || x k → others ≡ not (eqb k a) && holders → left ≡ others && not served → left ≡ unserved r x u v a k
+unfolding unserved otherHolder
+left-unserved r x u v a k g h reading served holders others left eg eh er es ea eo el = el ∙ rw (eo, ea, es, er, eg, eh)
+
 -- one writer: `left` are those whom no permit to anybody serves, `rest` those of them whom none that names them serves either
 module _ (n : ℕ) (t : ℕ → PermitRecord) (r x u v : Set) (a : ℕ) (left : Set) (known : (k : ℕ) → left k ≡ unserved r x u v a k) (none : Bool) where
   pub none-left : none ≡ not (anyBelow 256 left) → none ≡ true → true ≡ writerFits n t r x u v a
@@ -109,7 +99,7 @@ module _ (n : ℕ) (t : ℕ → PermitRecord) (r x u v : Set) (a : ℕ) (left : 
 
   pub none-rest : (found rest : Set) → ((k : ℕ) → found k ≡ anyOf n t (names r x a k)) → ((k : ℕ) → rest k ≡ left k && not (found k)) → none ≡ not (anyBelow 256 rest) → none ≡ writerFits n t r x u v a
   unfolding writerFits
-  none-rest found rest named minus e = e ∙ none-all 256 rest ∙ all-ext (λ b. not (rest b)) (λ b. not (unserved r x u v a b && not (anyOf n t (names r x a b)))) 256 (λ b h. rw (minus b, known b, named b))
+  none-rest found rest named minus e = e ∙ none-as 256 rest (λ b. not (unserved r x u v a b && not (anyOf n t (names r x a b)))) (λ b h. rw (minus b, known b, named b))
 
 cell : (o w m : Bool) → not (o && not w && not m) ≡ not o || (w || m)
 cell true true m = refl

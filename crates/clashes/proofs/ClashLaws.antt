@@ -12,14 +12,17 @@ use Rattle.rules.specs.Base.{allBelow, anyBelow, any, rising}
 use Rattle.rules.specs.Window.{PermitRecord, Window, permitKey}
 use Rattle.rules.specs.Locks.{clash, contains, permitted, pairPermitted, clashesPermitted}
 use Rattle.rules.proofs.BaseLaws.{both-ways, and-both, and-left, and-right, any-intro, any-elim, allBelow-intro, allBelow-at, Same, same, other, same?, eqb-eq, eqb-same, eqb-other, ne-of, not-true, ltb-true, lt-of, le-of, gt-of}
+use Rattle.rules.proofs.ListLaws.{any-at, any-place}
 use Rattle.layout.specs.Codec.{noPermit, lockSection, permitSection}
+use Rattle.sets.proofs.BoundLaws.{any-or}
 use Rattle.locks.specs.Held.{Modes, inMode, holding}
 use Rattle.locks.proofs.RowLaws.{row-holders}
+use Rattle.locks.proofs.PermitLaws.{permit-read}
+use Rattle.locks.specs.Permits.{permitAt}
 use Rattle.clashes.specs.Holds.{Holds}
-use Rattle.clashes.specs.Permits.{permitAt, permitFrom, anyOf, fromEntry, FirstOf}
+use Rattle.clashes.specs.Permits.{permitFrom, anyOf, fromEntry, FirstOf}
 use Rattle.clashes.specs.Beside.{serves, beside, otherHolder, entryFits, contested}
-use Rattle.clashes.proofs.TurnLaws.{any-or}
-use Rattle.clashes.proofs.PlaceLaws.{any-same, permit-read, any-place, place-any, entries-rise}
+use Rattle.clashes.proofs.PlaceLaws.{any-same, entries-rise}
 use Rattle.clashes.proofs.WriterLaws.{contested-none}
 
 -- THE PERMITS OF AN ENTRY
@@ -86,10 +89,10 @@ module _ (ps : List PermitRecord) (bs : List ℕ) (section : bs ≡ permitSectio
   unfolding anyOf permitFrom
   own-any q = both-ways _ _
       (λ f. let (j, h, g) = any-elim (to - from) _ f in here (from + j) (omega arith) (omega (arith, last .to)) g)
-      (λ f. let (j, h, g) = place-any (λ p. eqb p.entry e && q p) noPermit ps f in there j h (rw (← record-at j h) at g))
+      (λ f. let (j, h, g) = any-place (λ p. eqb p.entry e && q p) noPermit ps f in there j h (rw (← record-at j h) at g))
     where
       here : (j : ℕ) → from ≤ j → j < to → q (permitAt bs j) ≡ true → any (λ p. eqb p.entry e && q p) ps ≡ true
-      here j h l g = any-place (λ p. eqb p.entry e && q p) noPermit ps j (omega (arith, last .to)) (rw (← record-at j (omega (arith, last .to))) (and-both (eqb (permitAt bs j .entry) e) (q (permitAt bs j)) (rw (own bs (length ps) e next from to lower first last rise j h l) (eqb-same e)) g))
+      here j h l g = any-at (λ p. eqb p.entry e && q p) noPermit ps j (omega (arith, last .to)) (rw (← record-at j (omega (arith, last .to))) (and-both (eqb (permitAt bs j .entry) e) (q (permitAt bs j)) (rw (own bs (length ps) e next from to lower first last rise j h l) (eqb-same e)) g))
 
       there : (j : ℕ) → j < length ps → eqb (permitAt bs j .entry) e && q (permitAt bs j) ≡ true → anyBelow (to - from) (λ j. q (permitAt bs (from + j))) ≡ true
       there j h g =

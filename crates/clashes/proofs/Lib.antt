@@ -1,6 +1,4 @@
 -- What is proved of clashing pairs and their permits. Other crates cite a file X here as Rattle.clashes.proofs.X.
--- loops over bounded tests
-pub mod TurnLaws
 -- permits by their places
 pub mod PlaceLaws
 -- one entry: permits beside a writer, and its writers one after the other

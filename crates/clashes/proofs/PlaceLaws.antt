@@ -1,24 +1,22 @@
--- Permits by their places: one of the first n passes, the first that passes, and the records of a section. Assumes nothing.
+-- Permits by their places: one of the first n passes, the first that passes, and the order of entries. Assumes nothing.
 use mathlib.Core.Path.{_≡_, refl, sym, _∙_, ap}
-use mathlib.Core.Logic.{⊎-elim}
 use mathlib.Core.Bool.{Bool, true, false, _||_, false≢true}
-use mathlib.Core.List.{List, [], _∷_}
-use Prim.Native.Nat.{ℕ, zero, suc, _+_, _-_, _*_, _≤_, _<_}
-use native.Mathlib.Nat.{add-zero, not-suc-le-zero, le-of-suc-le-suc}
+use mathlib.Core.List.{List}
+use Prim.Native.Nat.{ℕ, _+_, _-_, _*_, _≤_, _<_}
 use native.Mathlib.Numerals.{add-one}
 use native.Mathlib.Decide.{decLt}
 use native.Mathlib.Omega.{arith}
 use lib.ListN.{length, getD, take, drop}
 use lib.Seq.{getD-take, getD-drop}
-use Rattle.rules.specs.Base.{Key, anyBelow, any, all, rising, isLt, order}
+use Rattle.rules.specs.Base.{anyBelow, rising, order}
 use Rattle.rules.specs.Window.{PermitRecord, permitKey}
 use Rattle.rules.specs.Locks.{makePermit}
-use Rattle.rules.proofs.BaseLaws.{both-ways, and-left, and-right, or-cases, or-left, or-right, any-intro, any-elim, Same, same, other, same?}
-use Rattle.rules.proofs.SortLaws.{Before, by1, by2, by3, before-of-lt}
-use Rattle.layout.specs.Codec.{noPermit, permitBytes, permitByte, permitSection}
-use Rattle.layout.proofs.RecordLaws.{placeByte, place-at}
+use Rattle.rules.proofs.BaseLaws.{both-ways, any-intro, any-elim, Same, same, other, same?}
+use Rattle.rules.proofs.SortLaws.{Before, by1, by2, by3, rising-at}
+use Rattle.layout.specs.Codec.{noPermit}
 use Rattle.sets.proofs.BoundLaws.{any-ext}
-use Rattle.clashes.specs.Permits.{permitAt, permitFrom, anyOf, FirstOf}
+use Rattle.locks.specs.Permits.{permitAt}
+use Rattle.clashes.specs.Permits.{permitFrom, anyOf, FirstOf}
 
 -- ONE OF THE FIRST N
 module _ (t : ℕ → PermitRecord) (p : PermitRecord → Bool) where
@@ -79,43 +77,7 @@ part-permit bs from n j h =
     let byte : (k : ℕ) → k < 4 → getD (take n (drop (from * 4) bs)) (j * 4 + k) 0 ≡ getD bs ((from + j) * 4 + k) 0 = λ k l. part-byte bs (from * 4) n (j * 4 + k) ((from + j) * 4 + k) (omega arith) (omega arith) in
     λ i. makePermit (byte 1 (omega arith) i) (byte 2 (omega arith) i) (part-byte bs (from * 4) n (j * 4) ((from + j) * 4) (omega arith) (omega arith) i) (byte 3 (omega arith) i)
 
--- THE RECORDS OF A SECTION
--- the permit at a place is the record there
-pub permit-read : (ps : List PermitRecord) (j : ℕ) → j < 1024 → permitAt (permitSection ps) j ≡ getD ps j noPermit
-unfolding permitAt permitSection permitByte permitBytes placeByte makePermit
-permit-read ps j h =
-    let byte : (k : ℕ) → k < 4 → getD (permitSection ps) (j * 4 + k) 0 ≡ getD (permitBytes (getD ps j noPermit)) k 0 = λ k l. place-at 4 (omega arith) permitBytes noPermit 1024 ps j k h l in
-    λ i. makePermit (byte 1 (omega arith) i) (byte 2 (omega arith) i) ((ap (λ k. getD (permitSection ps) k 0) (sym (add-zero (j * 4))) ∙ byte 0 (omega arith)) i) (byte 3 (omega arith) i)
-
-module _ {A : Type 0} (p : A → Bool) (d : A) where
-  -- one of a list passes at a place
-  pub any-place : (l : List A) (j : ℕ) → j < length l → p (getD l j d) ≡ true → any p l ≡ true
-  unfolding any
-  any-place [] j h e = absurd (not-suc-le-zero h)
-  any-place (x ∷ l) zero h e = or-left (p x) (any p l) e
-  any-place (x ∷ l) (suc j) h e = or-right (p x) (any p l) (any-place l j (le-of-suc-le-suc h) e)
-
-  pub place-any : (l : List A) → any p l ≡ true → (j : ℕ) × (j < length l) × (p (getD l j d) ≡ true)
-  unfolding any
-  place-any [] e = absurd (false≢true e)
-  place-any (x ∷ l) e = ⊎-elim (λ q. (0, omega arith, q)) (λ q. let r = place-any l q in (suc (r .0), omega (arith, r .1), r .2)) (or-cases (p x) (any p l) e)
-
-  -- all of a list pass at a place
-  pub all-place : (l : List A) → all p l ≡ true → (j : ℕ) → j < length l → p (getD l j d) ≡ true
-  unfolding all
-  all-place [] e j h = absurd (not-suc-le-zero h)
-  all-place (x ∷ l) e zero h = and-left (p x) (all p l) e
-  all-place (x ∷ l) e (suc j) h = all-place l (and-right (p x) (all p l) e) j (le-of-suc-le-suc h)
-
--- keys that rise, by their places
-pub rising-place : {A : Type 0} (key : A → Key) (d : A) (l : List A) → rising key l ≡ true → (i j : ℕ) → i < j → j < length l → Before (key (getD l i d)) (key (getD l j d))
-unfolding rising
-rising-place key d [] e i j h m = absurd (not-suc-le-zero m)
-rising-place key d (x ∷ l) e i zero h m = absurd (not-suc-le-zero h)
-rising-place key d (x ∷ l) e zero (suc j) h m =
-    before-of-lt (key x) (key (getD l j d)) (all-place (λ y. isLt (order (key x) (key y))) d l (and-left (all (λ y. isLt (order (key x) (key y))) l) (rising key l) e) j (le-of-suc-le-suc m))
-rising-place key d (x ∷ l) e (suc i) (suc j) h m = rising-place key d l (and-right (all (λ y. isLt (order (key x) (key y))) l) (rising key l) e) i j (le-of-suc-le-suc h) (le-of-suc-le-suc m)
-
+-- IN ORDER
 -- the entries of permits in order do not fall
 pub entries-rise : (ps : List PermitRecord) → rising permitKey ps ≡ true → (i j : ℕ) → i ≤ j → j < length ps → getD ps i noPermit .entry ≤ getD ps j noPermit .entry
 unfolding permitKey
@@ -123,7 +85,7 @@ entries-rise ps e i j h m = go (decLt i j)
   where
     go : Dec (i < j) → getD ps i noPermit .entry ≤ getD ps j noPermit .entry
     go (no n) = let q : i ≡ j = omega arith in rw q (omega arith)
-    go (yes l) = at (rising-place permitKey noPermit ps e i j l m)
+    go (yes l) = at (rising-at permitKey noPermit ps e i j l m)
       where
         at : Before (permitKey (getD ps i noPermit)) (permitKey (getD ps j noPermit)) → getD ps i noPermit .entry ≤ getD ps j noPermit .entry
         at (by1 q) = omega arith

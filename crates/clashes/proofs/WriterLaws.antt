@@ -8,10 +8,10 @@ use native.Mathlib.Omega.{arith}
 use lib.Dec.{eqb}
 use Rattle.rules.specs.Base.{allBelow, anyBelow, lowestBelow}
 use Rattle.rules.specs.Sets.{Set}
-use Rattle.rules.proofs.BaseLaws.{Same, same, other, same?, eqb-other, or-true, and-both, and-left, and-right, both-ways, no-true, allBelow-intro, allBelow-at, any-intro, any-elim, anyBelow-none}
-use Rattle.sets.proofs.BoundLaws.{any-ext, lowest-is, lowest-most, lowest-hit, lowest-below}
+use Rattle.rules.proofs.BaseLaws.{Same, same, other, same?, eqb-other, or-true, and-both, and-left, and-right, both-ways, no-true, allBelow-intro, allBelow-at, any-intro, any-elim}
+use Rattle.sets.proofs.BoundLaws.{any-ext, lowest-most, lowest-found, lowest-below}
+use Rattle.sets.proofs.TurnLaws.{turn-failed, turns-done}
 use Rattle.clashes.specs.Beside.{otherHolder, contested}
-use Rattle.clashes.proofs.TurnLaws.{turn-failed, turns-done}
 
 -- a number is the lowest member of a set of changes, or 256
 pub record Lowest (s : Set) (a : ℕ) : Type 0 where
@@ -20,11 +20,7 @@ pub record Lowest (s : Set) (a : ℕ) : Type 0 where
   pub before : (k : ℕ) → k < a → s k ≡ false
 
 pub lowest-of : (s : Set) (a : ℕ) → a ≡ lowestBelow 256 s → Lowest s a
-lowest-of s a e = rw e (record { within = lowest-most s 256; hit = λ h. go h (anyBelow 256 s) refl; before = lowest-below s 256 })
-  where
-    go : lowestBelow 256 s < 256 → (b : Bool) → anyBelow 256 s ≡ b → s (lowestBelow 256 s) ≡ true
-    go h true q = lowest-hit s 256 q .1
-    go h false q = absurd (let z : lowestBelow 256 s ≡ 256 = lowest-is s 256 256 (omega arith) (λ l. absurd (omega arith)) (anyBelow-none 256 s q) in omega arith)
+lowest-of s a e = rw e (record { within = lowest-most s 256; hit = lowest-found s 256; before = lowest-below s 256 })
 
 -- a test of every writer
 cell-none : (x q : Bool) → x ≡ false → not x || q ≡ true
@@ -48,7 +44,9 @@ module _ (x : Set) (q : ℕ → Bool) where
   module _ (left : Set) (a : ℕ) (w : Walked x q left a) (ha : a < 256) where
     -- the writer at hand fails
     pub walk-failed : (r : Bool) → r ≡ q a → r ≡ false → false ≡ allBelow 256 (λ k. not (x k) || q k)
-    walk-failed r e f = turn-failed 256 (λ k. not (x k) || q k) a _ ha refl (rw (sym (w .later a (omega arith)) ∙ w .lowest .hit ha) (sym e ∙ f))
+    walk-failed r e f =
+        let fails : not (x a) || q a ≡ false = rw (sym (w .later a (omega arith)) ∙ w .lowest .hit ha) (sym e ∙ f) in
+        turn-failed 256 (λ k. not (x k) || q k) a _ ha refl (ap not fails)
 
     -- it passes, and the walk goes on without it
     module _ (left′ : Set) (a′ : ℕ) (without : (k : ℕ) → left′ k ≡ not (eqb k a) && left k) (next : Lowest left′ a′) where

@@ -1,19 +1,14 @@
--- Permits in the bytes of a section, and places among them. Assumes nothing.
+-- Places among the permits in the bytes of a section. Assumes nothing.
 use mathlib.Core.Path.{_≡_}
 use mathlib.Core.Bool.{Bool, true, false, _||_}
 use mathlib.Core.List.{List}
-use Prim.Native.Nat.{ℕ, _+_, _*_, _≤_, _<_}
+use Prim.Native.Nat.{ℕ, _+_, _≤_, _<_}
 use lib.Dec.{leb, eqb}
-use lib.ListN.{getD}
 use Rattle.rules.specs.Base.{anyBelow}
 use Rattle.rules.specs.Window.{PermitRecord}
-use Rattle.rules.specs.Locks.{makePermit}
+use Rattle.locks.specs.Permits.{permitAt}
 
--- the permit at a place: entry, giver, taker, operations in its four bytes
-unfoldable pub permitAt : List ℕ → ℕ → PermitRecord
-permitAt bs j = makePermit (getD bs (j * 4 + 1) 0) (getD bs (j * 4 + 2) 0) (getD bs (j * 4) 0) (getD bs (j * 4 + 3) 0)
-
--- at a place counted from another
+-- the permit at a place counted from another
 unfoldable pub permitFrom : List ℕ → ℕ → ℕ → PermitRecord
 permitFrom bs from j = permitAt bs (from + j)
 

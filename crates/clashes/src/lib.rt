@@ -12,7 +12,8 @@ ghost use Rattle.layout.specs.Codec.{locksSize, permitsSize, lockSection};
 ghost use Rattle.sets.specs.Members.{members};
 ghost use Rattle.locks.specs.Held.{inMode};
 ghost use Rattle.clashes.specs.Holds.{Holds};
-ghost use Rattle.clashes.specs.Permits.{permitAt, permitFrom, anyOf, FirstOf, fromEntry, involves};
+ghost use Rattle.locks.specs.Permits.{permitAt};
+ghost use Rattle.clashes.specs.Permits.{permitFrom, anyOf, FirstOf, fromEntry, involves};
 ghost use Rattle.clashes.specs.Beside.{serves, permitsAnybody, names, unserved, writerFits, writersFit, entryFits, contested};
 
 // The bytes of a permit.

@@ -8,8 +8,8 @@ use lib.Dec.{eqb}
 use lib.ListN.{getD}
 use Rattle.rules.specs.Base.{anyBelow, countBelow, lowestBelow}
 use Rattle.rules.specs.Sets.{Set, only}
-use Rattle.rules.proofs.BaseLaws.{and-left, and-right, any-intro, anyBelow-none, not-true, not-false, eqb-same, eqb-eq}
-use Rattle.sets.proofs.BoundLaws.{count-ext, count-more, lowest-is, lowest-hit, lowest-below}
+use Rattle.rules.proofs.BaseLaws.{and-left, and-right, any-intro, not-true, not-false, eqb-same, eqb-eq}
+use Rattle.sets.proofs.BoundLaws.{count-ext, count-more, lowest-found, lowest-below}
 use Rattle.cycles.specs.Graph.{Graph, edge, noCycle, everyone, comes, leads, sources}
 use Rattle.cycles.specs.Links.{Lists, Linked, Shows, Removable, Removed}
 use Rattle.cycles.proofs.CycleLaws.{Small, Clear, edge-at, edge-place, clear-none, clear-next, decided}
@@ -82,11 +82,7 @@ module _ (G : Graph) (m : ℕ) (incoming : List ℕ) (left blocked : Set) (p : E
   module _ (v : ℕ) (e : v ≡ lowestBelow 256 (sources left blocked)) (h : v < 256) where
     -- it is one
     found : sources left blocked v ≡ true
-    found = go (anyBelow 256 (sources left blocked)) refl
-      where
-        go : (b : Bool) → anyBelow 256 (sources left blocked) ≡ b → sources left blocked v ≡ true
-        go true q = rw e (lowest-hit (sources left blocked) 256 q .1)
-        go false q = absurd (omega (arith, lowest-is (sources left blocked) 256 256 (omega arith) (λ l. absurd (omega arith)) (anyBelow-none 256 (sources left blocked) q)))
+    found = rw e (lowest-found (sources left blocked) 256 (rw e at h))
 
     -- it is left
     is-left : left v ≡ true

@@ -1,6 +1,6 @@
 -- Arrows linked one by one in lists, and counted. Assumes nothing.
 use mathlib.Core.Path.{_≡_, refl, sym, ap, fun-ext, _∙_}
-use mathlib.Core.Bool.{Bool, true, false, cond, not, _&&_, _||_, false≢true}
+use mathlib.Core.Bool.{Bool, true, false, cond, not, _&&_, _||_, or-false, false≢true}
 use mathlib.Core.List.{List}
 use Prim.Native.Nat.{ℕ, suc, _+_, _≤_, _<_}
 use native.Mathlib.Nat.{not-suc-le-zero}
@@ -15,11 +15,6 @@ use Rattle.rules.proofs.BaseLaws.{or-true, count-le, Below, under, over, below,
 use Rattle.cycles.specs.Graph.{Graph, everyone, comes, leads, lastFrom}
 use Rattle.cycles.specs.Links.{Lists, Room, Blank, withArrow, withTie, Linked}
 use Rattle.cycles.proofs.CountLaws.{comes-none, comes-other, comes-one, last-none, last-other, last-one}
-
--- or with a test that fails
-or-false : (a : Bool) → a || false ≡ a
-or-false true = refl
-or-false false = refl
 
 -- empty lists hold no arrow
 pub linked-none : (G : Graph) (s : Lists) → s .heads ≡ replicate 256 0 → s .incoming ≡ replicate 256 0 → ((k : ℕ) → s .leaders k ≡ false) → ((k : ℕ) → s .blocked k ≡ false) → Linked G 0 s
@@ -99,15 +94,15 @@ pub with-arrow : (j from to : ℕ) (s r : Lists) → r .heads ≡ set (s .heads)
 unfolding withArrow
 with-arrow j from to s r f n w l h = λ i. record { heads = f i; next = n i; incoming = w i; leaders = fun-ext l i; blocked = fun-ext h i }
 
--- a tie that is an arrow
-pub tie-linked : (b a : Bool) (j from to : ℕ) (s r : Lists) → b ≡ a → b ≡ true → r ≡ withArrow j from to s → r ≡ withTie a j from to s
+-- a tie that is an arrow, by a test b
+pub tie-linked : (b a : Bool) (j from to : ℕ) (s r : Lists) → b ≡ true → b ≡ a → r ≡ withArrow j from to s → r ≡ withTie a j from to s
 unfolding withTie
-tie-linked b a j from to s r p q h = rw (sym p ∙ q) h
+tie-linked b a j from to s r q p h = rw (sym p ∙ q) h
 
 -- and one that is none
-pub tie-passed : (b a : Bool) (j from to : ℕ) (s : Lists) → b ≡ a → b ≡ false → s ≡ withTie a j from to s
+pub tie-passed : (b a : Bool) (j from to : ℕ) (s : Lists) → b ≡ false → b ≡ a → s ≡ withTie a j from to s
 unfolding withTie
-tie-passed b a j from to s p q = rw (sym p ∙ q)
+tie-passed b a j from to s q p = rw (sym p ∙ q)
 
 -- no count is above the number of places
 pub linked-few : (G : Graph) (m : ℕ) (s : Lists) → Linked G m s → length (s .incoming) ≡ 256 → (k : ℕ) → getD (s .incoming) k 0 ≤ m

@@ -1,6 +1,6 @@
 -- The arrows from a label removed one by one, the last first. Assumes nothing.
 use mathlib.Core.Path.{_≡_, refl, sym, ap, _∙_}
-use mathlib.Core.Bool.{Bool, true, false, not, _&&_}
+use mathlib.Core.Bool.{Bool, true, not, _&&_, and-true}
 use mathlib.Core.List.{List}
 use Prim.Native.Nat.{ℕ, suc, _+_, _-_, _≤_, _<_}
 use native.Mathlib.Nat.{add-zero}
@@ -13,11 +13,6 @@ use Rattle.rules.proofs.BaseLaws.{and-false, eqb-same, eqb-other, Same, same, o
 use Rattle.cycles.specs.Graph.{Graph, comes, lastFrom}
 use Rattle.cycles.specs.Links.{Shows, Removable, Removed}
 use Rattle.cycles.proofs.CountLaws.{comes-zero, comes-one, comes-other, comes-last, last-most, last-again, last-hit}
-
--- and with a test that holds
-and-true : (a : Bool) → a && true ≡ a
-and-true true = refl
-and-true false = refl
 
 -- ONE ARROW
 -- the last to k

@@ -2,17 +2,13 @@
 use mathlib.Core.Bool.{Bool, true, not, cond, _&&_, _||_}
 use mathlib.Core.List.{List, map}
 use Prim.Native.Nat.{ℕ, zero, suc}
-use lib.Dec.{eqb, ltb}
+use lib.Dec.{eqb}
 use lib.ListN.{getD}
-use Rattle.rules.specs.Base.{all, allBelow, anyBelow, countBelow, table}
+use Rattle.rules.specs.Base.{allBelow, anyBelow, countBelow, table}
 use Rattle.rules.specs.Sets.{Set, Rel, only, reach}
 use Rattle.rules.specs.Window.{TieRecord}
 use Rattle.rules.specs.Ties.{isGroup, isArrow}
 use Rattle.sets.specs.Closing.{tieAt}
-
--- both ends of each tie are below n
-unfoldable pub endsBelow : ℕ → List TieRecord → Bool
-endsBelow n ts = all (λ t. ltb t.leader n && ltb t.follower n) ts
 
 -- LABELS: one for each change, the same for two of one group
 -- each change's own number

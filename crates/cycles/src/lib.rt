@@ -12,8 +12,8 @@ ghost use Rattle.rules.specs.Window.{TieRecord};
 ghost use Rattle.rules.specs.Ties.{isArrow, acyclic};
 ghost use Rattle.layout.specs.Codec.{tieSection};
 ghost use Rattle.sets.specs.Members.{members};
-ghost use Rattle.sets.specs.Closing.{tieOf, tieAt};
-ghost use Rattle.cycles.specs.Graph.{endsBelow, ownLabels, instead, joined, labelled, arrowAt, graphOf, noCycle, sources};
+ghost use Rattle.sets.specs.Closing.{endsBelow, tieOf, tieAt};
+ghost use Rattle.cycles.specs.Graph.{ownLabels, instead, joined, labelled, arrowAt, graphOf, noCycle, sources};
 ghost use Rattle.cycles.specs.Links.{Room, Blank, listsOf, withArrow, withTie, Linked, Removable, Removed};
 
 // Whether no path of arrows returns to its group, of the first `count` ties of the section.

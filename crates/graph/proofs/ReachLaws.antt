@@ -1,37 +1,32 @@
 -- What is reached along the ties of a section, for any bound on their ends; and the leaders of ties to a set. Assumes nothing.
 use mathlib.Core.Path.{_≡_, refl, sym, ap, fun-ext, _∙_}
 use mathlib.Core.Bool.{Bool, true, false, _&&_, _||_, or-false, and-true}
-use mathlib.Core.List.{List, [], _∷_}
+use mathlib.Core.List.{List}
 use mathlib.Core.Logic.{_≢_}
-use Prim.Native.Nat.{ℕ, suc, _+_, _*_, _≤_, _<_}
+use Prim.Native.Nat.{ℕ, _+_, _*_, _≤_, _<_}
 use native.Mathlib.Numerals.{add-one}
 use native.Mathlib.Omega.{arith}
 use lib.Dec.{ltb, eqb}
 use lib.ListN.{length, getD}
-use Rattle.rules.specs.Base.{all, any, anyBelow}
+use Rattle.rules.specs.Base.{any, anyBelow}
 use Rattle.rules.specs.Sets.{Set, only, closure, reach}
 use Rattle.rules.specs.Window.{TieRecord}
 use Rattle.rules.specs.Ties.{isWait, isFall, isArrow}
-use Rattle.rules.proofs.BaseLaws.{and-both, both-ways, lt-of, ltb-true, any-intro, any-elim, or-comm, eqb-other, eqb-same, Same, same, other, same?}
+use Rattle.rules.proofs.BaseLaws.{and-both, both-ways, lt-of, ltb-true, any-intro, any-elim, or-comm, eqb-other, eqb-sym, Same, same, other, same?}
+use Rattle.rules.proofs.ListLaws.{all-places, any-at, any-place}
 use Rattle.rules.proofs.TieLaws.{grouped-ends, falling-ends, leading-ends}
 use Rattle.rules.proofs.PathLaws.{Bounded, closure-bound}
 use Rattle.layout.specs.Codec.{noTie, tieSection}
 use Rattle.sets.specs.declared.Along.{Along}
 use Rattle.sets.specs.declared.Along.the-variants.{Groups, Falls, Arrows}
-use Rattle.sets.specs.Closing.{relation, tieAt}
-use Rattle.sets.proofs.CloseLaws.{section-read, section-ends, any-place, any-at}
-use Rattle.graph.specs.Leaders.{endsBelow, leadsTo, leadersOf}
-
--- each of a list passes, by its place
-all-at {ℓ} : {A : Type ℓ} (p : A → Bool) (d : A) (l : List A) → ((j : ℕ) → j < length l → p (getD l j d) ≡ true) → all p l ≡ true
-unfolding all
-all-at p d [] h = refl
-all-at p d (x ∷ l) h = and-both (p x) (all p l) (h 0 (omega arith)) (all-at p d l (λ j m. h (suc j) (omega arith)))
+use Rattle.sets.specs.Closing.{relation, endsBelow, tieAt}
+use Rattle.sets.proofs.CloseLaws.{section-read, section-ends}
+use Rattle.graph.specs.Leaders.{leadsTo, leadersOf}
 
 -- the ends of ties in bytes are below 256
 section-below : (bs : List ℕ) (ts : List TieRecord) (m : ℕ) → ((i : ℕ) → getD bs i 0 < 256) → 4 * m ≤ length bs → length ts ≡ m → bs ≡ tieSection ts → endsBelow 256 ts ≡ true
 unfolding endsBelow
-section-below bs ts m bytes room len e = all-at (λ t. ltb t.leader 256 && ltb t.follower 256) noTie ts
+section-below bs ts m bytes room len e = all-places (λ t. ltb t.leader 256 && ltb t.follower 256) noTie ts
     (λ j h. let q = section-ends bs ts m room e bytes j (omega arith) in and-both (ltb (getD ts j noTie .leader) 256) _ (ltb-true _ 256 (q .0)) (ltb-true _ 256 (q .1)))
 
 -- a bound on the ends bounds the relation
@@ -54,13 +49,6 @@ reached-from along bs ts m n c s r o bytes room len e ends h k = h k ∙ rw o (a
     (relation-bounded along 256 ts (section-below bs ts m bytes room len e)) (relation-bounded along n ts ends) (only c)))
 
 -- LEADERS
-eqb-sym : (a b : ℕ) → eqb a b ≡ eqb b a
-eqb-sym a b = go (same? a b)
-  where
-    go : {x : Bool} → Same a b x → x ≡ eqb b a
-    go (same e) = sym (rw e (eqb-same b))
-    go (other u) = sym (eqb-other b a (λ e. u (sym e)))
-
 -- the first m ties of a section, tested one by one, are the list
 pub leaders-of : (bs : List ℕ) (ts : List TieRecord) (m : ℕ) (s : Set) (k : ℕ) → 4 * m ≤ length bs → length ts ≡ m → bs ≡ tieSection ts
     → anyBelow m (λ j. leadsTo s k (tieAt bs j)) ≡ leadersOf ts s k

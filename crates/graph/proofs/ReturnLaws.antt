@@ -13,11 +13,11 @@ use Rattle.rules.specs.Window.{TieRecord, tieKey}
 use Rattle.rules.specs.Ties.{isGroup, isArrow, makeTie, addTie, tied, grouped, leading, acyclic}
 use Rattle.rules.proofs.BaseLaws.{or-left, or-right, or-cases, or-map, or-none, and-both, and-left, and-right, eqb-eq, eqb-other, no-true, ltb-true, ge-of, Below, under, over, below, other}
 use Rattle.rules.proofs.SortLaws.{all-insert}
-use Rattle.rules.proofs.PathLaws.{Way, stay, on, way-join, way-map}
+use Rattle.rules.proofs.PathLaws.{Way, stay, on, way-join, way-map, by-arrow, NoReturn, acyclic-clear, clear-acyclic}
 use Rattle.rules.proofs.DemandEnds.{tie-old, tie-new}
-use Rattle.graph.specs.Leaders.{endsBelow}
+use Rattle.sets.specs.Closing.{endsBelow}
 use Rattle.graph.proofs.ReachLaws.{arrow-of}
-use Rattle.graph.proofs.WayLaws.{NoReturn, reached, unreached, acyclic-of, of-acyclic, Round, around, by-arrow, not-both, back-or-arrow}
+use Rattle.graph.proofs.WayLaws.{reached, unreached, Round, around, not-both, back-or-arrow}
 
 -- ONE TIE MORE
 any-inserted {ℓ} : {A : Type ℓ} (key : A → Key) (p : A → Bool) (x : A) (l : List A) → any p (insert key (λ t u. u) x l) ≡ true → (p x ≡ true) ⊎ (any p l ≡ true)
@@ -141,15 +141,18 @@ module _ (n : ℕ) (t : TieRecord) (ts : List TieRecord) (ends : endsBelow n ts 
   ends-added = all-insert tieKey (λ x y. y) (λ x y. refl) (λ u. ltb u.leader n && ltb u.follower n) t (and-both (ltb t.leader n) _ (ltb-true t.leader n hl) (ltb-true t.follower n hf)) (λ y e. e) ts ends
 
   clear : NoReturn ts
-  clear = of-acyclic n ts ends h
+  unfolding endsBelow
+  clear = acyclic-clear ts n ends h
 
   -- the longer list is acyclic
   is-acyclic : NoReturn (addTie t ts) → acyclic n (addTie t ts) ≡ true
-  is-acyclic = acyclic-of n (addTie t ts) ends-added
+  unfolding endsBelow
+  is-acyclic = clear-acyclic (addTie t ts) n ends-added
 
   -- the longer list is not
   no-acyclic : (NoReturn (addTie t ts) → ⊥) → acyclic n (addTie t ts) ≡ false
-  no-acyclic u = no-true (acyclic n (addTie t ts)) (λ e. u (of-acyclic n (addTie t ts) ends-added e))
+  unfolding endsBelow
+  no-acyclic u = no-true (acyclic n (addTie t ts)) (λ e. u (acyclic-clear (addTie t ts) n ends-added e))
 
   -- an arrow returns just where its follower leads to its leader
   pub arrow-test : isArrow t.kind ≡ true → reach n (leading ts) t.follower t.leader ≡ not (acyclic n (addTie t ts))

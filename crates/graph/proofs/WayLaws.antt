@@ -1,26 +1,20 @@
--- Paths along ties: no arrow returns, one step more, an arrow on the way. Assumes nothing.
-use mathlib.Core.Path.{_≡_, refl, sym, _∙_}
-use mathlib.Core.Bool.{Bool, true, false, not, _&&_, _||_, false≢true}
-use mathlib.Core.List.{List, List·Memᴰ}
+-- Paths along ties: what is reached, one step more, an arrow on the way. Assumes nothing.
+use mathlib.Core.Path.{_≡_, sym, _∙_}
+use mathlib.Core.Bool.{true, false, false≢true}
+use mathlib.Core.List.{List}
 use mathlib.Core.Logic.{_⊎_, inl, inr, ⊎-elim}
 use Prim.Native.Nat.{ℕ}
 use native.Mathlib.Omega.{arith}
 use lib.Dec.{eqb}
 use Rattle.rules.specs.Sets.{Rel, reach}
 use Rattle.rules.specs.Window.{TieRecord}
-use Rattle.rules.specs.Ties.{isWait, isFall, isGroup, isArrow, tied, grouped, leading, acyclic}
-use Rattle.rules.proofs.BaseLaws.{or-left, or-right, or-cases, and-left, and-right, eqb-eq, no-true}
-use Rattle.rules.proofs.ListLaws.{all-members, find}
-use Rattle.rules.proofs.TieLaws.{stands-tied}
+use Rattle.rules.specs.Ties.{isWait, isFall, isGroup, isArrow, tied, grouped, leading}
+use Rattle.rules.proofs.BaseLaws.{or-left, or-cases, eqb-eq}
 use Rattle.rules.proofs.PathLaws.{Way, stay, on, way-join, Bounded, reach-ways, leading-bounded}
 use Rattle.rules.proofs.SourceLaws.{grouped-both}
-use Rattle.graph.specs.Leaders.{endsBelow}
+use Rattle.sets.specs.Closing.{endsBelow}
 
--- ARROWS THAT DO NOT RETURN
--- no arrow's follower leads to its leader
-abbrev pub NoReturn : List TieRecord → Type 0
-NoReturn ts = (l f : ℕ) → tied ts isArrow l f ≡ true → Way (leading ts) f l → ⊥
-
+-- WHAT TIES REACH, where their ends are below n
 module _ (n : ℕ) (ts : List TieRecord) (ends : endsBelow n ts ≡ true) where
   bounded : Bounded n (leading ts)
   unfolding endsBelow
@@ -33,26 +27,6 @@ module _ (n : ℕ) (ts : List TieRecord) (ends : endsBelow n ts ≡ true) where
   -- what is not has none
   pub unreached : (a b : ℕ) → reach n (leading ts) a b ≡ false → Way (leading ts) a b → ⊥
   unreached a b e w = false≢true (sym e ∙ reach-ways n (leading ts) bounded a b .1 w)
-
-  -- where no arrow returns the ties are acyclic
-  pub acyclic-of : NoReturn ts → acyclic n ts ≡ true
-  unfolding acyclic
-  acyclic-of h = all-members _ ts (λ t i. go t i (isArrow t.kind) refl)
-    where
-      go : (t : TieRecord) → List·Memᴰ t ts → (b : Bool) → isArrow t.kind ≡ b → not b || not (reach n (leading ts) t.follower t.leader) ≡ true
-      go t i false e = refl
-      go t i true e = rw (no-true (reach n (leading ts) t.follower t.leader) (λ q. h t.leader t.follower (stands-tied isArrow i e) (reached t.follower t.leader q)))
-
-  -- where they are acyclic none does
-  pub of-acyclic : acyclic n ts ≡ true → NoReturn ts
-  unfolding acyclic tied
-  of-acyclic h l f e w = let m = find _ (λ t. not (isArrow t.kind) || not (reach n (leading ts) t.follower t.leader)) ts e h in go (m .0) (m .1) (m .2)
-    where
-      go : (t : TieRecord) → isArrow t.kind && eqb t.leader l && eqb t.follower f ≡ true → not (isArrow t.kind) || not (reach n (leading ts) t.follower t.leader) ≡ true → ⊥
-      go t x y =
-          let u = and-left (isArrow t.kind && eqb t.leader l) (eqb t.follower f) x in
-          let z = rw (and-left (isArrow t.kind) (eqb t.leader l) u, eqb-eq t.leader l (and-right (isArrow t.kind) (eqb t.leader l) u), eqb-eq t.follower f (and-right (isArrow t.kind && eqb t.leader l) (eqb t.follower f) x)) at y in
-          false≢true (rw (reach-ways n (leading ts) bounded f l .1 w) at z)
 
 -- ONE STEP MORE
 -- a path along s goes along r, or by a step that r has not: from an In to an Out
@@ -76,11 +50,6 @@ module _ (r s : Rel) (In Out : ℕ → Type 0) (ways : (a b : ℕ) → s a b ≡
       go (inr m) (inr q) = inr (record { enter = m .enter; leave = w; goes = m .goes; comes = q .1; to = m .to; fro = stay })
 
 -- ARROWS ON THE WAY
--- a step along an arrow
-pub by-arrow : (ts : List TieRecord) (a b : ℕ) → tied ts isArrow a b ≡ true → leading ts a b ≡ true
-unfolding leading
-by-arrow ts a b e = or-right (grouped ts a b) (tied ts isArrow a b) e
-
 -- a group tie is no arrow
 pub not-both : (k : ℕ) → isArrow k ≡ true → isGroup k ≡ true → ⊥
 unfolding isArrow isWait isFall isGroup

@@ -2,15 +2,11 @@
 use mathlib.Core.Bool.{Bool, _&&_}
 use mathlib.Core.List.{List}
 use Prim.Native.Nat.{ℕ}
-use lib.Dec.{ltb, eqb}
-use Rattle.rules.specs.Base.{all, any}
+use lib.Dec.{eqb}
+use Rattle.rules.specs.Base.{any}
 use Rattle.rules.specs.Sets.{Set}
 use Rattle.rules.specs.Window.{TieRecord}
 use Rattle.rules.specs.Ties.{isArrow}
-
--- both ends of each tie are below n
-unfoldable pub endsBelow : ℕ → List TieRecord → Bool
-endsBelow n ts = all (λ t. ltb t.leader n && ltb t.follower n) ts
 
 -- a wait or fall tie from k to a member of the set
 unfoldable pub leadsTo : Set → ℕ → TieRecord → Bool

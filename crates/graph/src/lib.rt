@@ -12,8 +12,8 @@ ghost use Rattle.rules.specs.Window.{TieRecord};
 ghost use Rattle.rules.specs.Ties.{grouped, falling, leading, makeTie, addTie, acyclic};
 ghost use Rattle.layout.specs.Codec.{tieSection};
 ghost use Rattle.sets.specs.Members.{members};
-ghost use Rattle.sets.specs.Closing.{relation, tieOf};
-ghost use Rattle.graph.specs.Leaders.{endsBelow, leadsTo, leadersOf};
+ghost use Rattle.sets.specs.Closing.{relation, endsBelow, tieOf};
+ghost use Rattle.graph.specs.Leaders.{leadsTo, leadersOf};
 
 // All that the ties lead to from a change.
 fn reached(ties: &[u8], count: usize, c: u8, along: Along) -> ChangeSet

@@ -2,8 +2,8 @@
 use mathlib.Core.Path.{_≡_, refl}
 use mathlib.Core.Bool.{Bool, true, false}
 use mathlib.Core.Logic.{⊎-elim}
-use mathlib.Core.List.{List, [], _∷_, _++_}
-use Prim.Native.Nat.{ℕ, zero, suc, _+_, _*_, _^_, _/_, _%_, _-_, _<_}
+use mathlib.Core.List.{List, [], _∷_}
+use Prim.Native.Nat.{ℕ, zero, suc, _+_, _*_, _^_, _/_, _%_, _-_}
 use native.Mathlib.Omega.{arith}
 use native.Mathlib.Nat.{mod-lt}
 use lib.Dec.{ltb, eqb}
@@ -13,15 +13,15 @@ use Rattle.rules.specs.Window.{limits, fresh, LogRecord, PermitRecord, TieRecor
 use Rattle.rules.specs.Calls.{Call, fits, Reply, Outcome}
 use Rattle.rules.specs.Refusals.{step}
 use Rattle.rules.specs.Sound.{statusSound, parentSound, recordSound, permitSound, tieSound}
-use Rattle.rules.proofs.BaseLaws.{and-both, and-left, and-right, or-cases, lt-of, ltb-true, eqb-eq, within-of, ge-of, not-true, or-false-right}
-use Rattle.rules.proofs.ListLaws.{all-weaken, all-getD}
+use Rattle.rules.proofs.BaseLaws.{and-right, or-cases, lt-of, ltb-true, eqb-eq, within-of, ge-of, not-true, or-false-right}
+use Rattle.rules.proofs.ListLaws.{all-weaken, all-join, all-getD, all-table}
 use Rattle.rules.proofs.RuleLaws.{is-open}
 use Rattle.rules.proofs.SoundStep.{step-sound, opened-sound}
 use Rattle.rules.proofs.SoundParts.{Sound, live-below, record-parts, permit-parts, tie-parts, inside-of, status-range}
-use Rattle.layout.specs.Codec.{lineByte, headSize, valuesSize, changesSize, lineSize, locksSize, permitsSize, tiesSize, logSize, byte, pack, noRecord, noPermit, noTie, headByte, valueByte, changeByte, lockByte, recordBytes, logByte, permitBytes, permitByte, tieBytes, tieByte, figures, encode}
+use Rattle.layout.specs.Codec.{lineByte, headSize, valuesSize, changesSize, lineSize, locksSize, permitsSize, tiesSize, logSize, byte, noRecord, noPermit, noTie, headByte, valueByte, changeByte, lockByte, recordBytes, logByte, permitBytes, permitByte, tieBytes, tieByte, figures, encode}
 use Rattle.layout.specs.Codec.{windowSize}
 use Rattle.layout.specs.Memory.{windowOf, handBack, layInto, perform}
-use Rattle.layout.proofs.CodecLaws.{bit-most}
+use Rattle.layout.proofs.CodecLaws.{pack-most}
 use Rattle.layout.proofs.MemoryLaws.{Performed, refused, ruled, opened, performed, Anewed, begun, kept, anewed, memory-sound}
 use Rattle.layout.proofs.SectionLaws.{Section, section, sections, layOut, encode-sections}
 
@@ -32,16 +32,6 @@ byte-small : (k v : ℕ) → small (byte k v) ≡ true
 unfolding byte
 byte-small k v = ltb-true (v / 256 ^ k % 256) 256 (mod-lt (v / 256 ^ k) (omega arith))
 
-all-table : (p : ℕ → Bool) (f : ℕ → ℕ) → ((i : ℕ) → p (f i) ≡ true) → (k i : ℕ) → all p (table k i f) ≡ true
-unfolding all table
-all-table p f h zero i = refl
-all-table p f h (suc k) i = and-both (p (f i)) (all p (table k (suc i) f)) (h i) (all-table p f h k (suc i))
-
-all-join : (p : ℕ → Bool) (l m : List ℕ) → all p l ≡ true → all p m ≡ true → all p (l ++ m) ≡ true
-unfolding all
-all-join p [] m d e = e
-all-join p (x ∷ l) m d e = and-both (p x) (all p (l ++ m)) (and-left (p x) (all p l) d) (all-join p l m (and-right (p x) (all p l) d) e)
-
 all-none : (p : ℕ → Bool) → all p (layOut []) ≡ true
 unfolding all layOut
 all-none p = refl
@@ -49,12 +39,7 @@ all-none p = refl
 -- sections whose bytes all pass
 all-section : (p : ℕ → Bool) (n : ℕ) (f : ℕ → ℕ) (l : List Section) → ((i : ℕ) → p (f i) ≡ true) → all p (layOut l) ≡ true → all p (layOut (section n f ∷ l)) ≡ true
 unfolding layOut section
-all-section p n f l h e = all-join p (table n 0 f) (layOut l) (all-table p f h n 0) e
-
-pack-most : (n : ℕ) (p : ℕ → Bool) → pack n p < 2 ^ n
-unfolding pack
-pack-most zero p = omega arith
-pack-most (suc n) p = omega (arith, bit-most (p 0), pack-most n (λ j. p (suc j)))
+all-section p n f l h e = all-join p (table n 0 f) (layOut l) (all-table p f n 0 (λ i _ _. h i)) e
 
 -- a byte of a place of a table, used or not
 place-small {ℓ} : {A : Type ℓ} (bytes : A → List ℕ) (l : List A) (none : A) (p : A → Bool) → ((x : A) → p x ≡ true → all small (bytes x) ≡ true) → all p l ≡ true

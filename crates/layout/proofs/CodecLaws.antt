@@ -16,35 +16,35 @@ use Rattle.layout.proofs.SectionLaws.{section, sections, encode-section
 module _ (W : Window) where
   pub length-encode : length (encode W) ≡ windowSize
   unfolding sections section
-  length-encode = rw (encode-sections W) (length-layOut (sections W))
+  length-encode = rw (encode-sections W) (length-layOut (sections (figures W) W))
 
   pub head-at : (i : ℕ) → i < headSize → inside headAt (encode W) i ≡ headByte (figures W) i
   unfolding inside sections section
-  head-at i h = rw (encode-sections W) (layOut-at (sections W) 0 i h)
+  head-at i h = rw (encode-sections W) (layOut-at (sections (figures W) W) 0 i h)
 
   pub values-at : (i : ℕ) → i < valuesSize → inside valuesAt (encode W) i ≡ valueByte (W .value) i
   unfolding inside sections section
-  values-at i h = rw (encode-sections W) (layOut-at (sections W) 1 i h)
+  values-at i h = rw (encode-sections W) (layOut-at (sections (figures W) W) 1 i h)
 
   pub changes-at : (i : ℕ) → i < changesSize → inside changesAt (encode W) i ≡ changeByte (W .status) (W .parent) i
   unfolding inside sections section
-  changes-at i h = rw (encode-sections W) (layOut-at (sections W) 2 i h)
+  changes-at i h = rw (encode-sections W) (layOut-at (sections (figures W) W) 2 i h)
 
   pub locks-at : (i : ℕ) → i < locksSize → inside locksAt (encode W) i ≡ lockByte (W .held) i
   unfolding inside sections section
-  locks-at i h = rw (encode-sections W) (layOut-at (sections W) 4 i h)
+  locks-at i h = rw (encode-sections W) (layOut-at (sections (figures W) W) 4 i h)
 
   pub permits-at : (i : ℕ) → i < permitsSize → inside permitsAt (encode W) i ≡ permitByte (W .permits) i
   unfolding inside sections section
-  permits-at i h = rw (encode-sections W) (layOut-at (sections W) 5 i h)
+  permits-at i h = rw (encode-sections W) (layOut-at (sections (figures W) W) 5 i h)
 
   pub ties-at : (i : ℕ) → i < tiesSize → inside tiesAt (encode W) i ≡ tieByte (W .ties) i
   unfolding inside sections section
-  ties-at i h = rw (encode-sections W) (layOut-at (sections W) 6 i h)
+  ties-at i h = rw (encode-sections W) (layOut-at (sections (figures W) W) 6 i h)
 
   pub log-at : (i : ℕ) → i < logSize → inside logAt (encode W) i ≡ logByte (W .log) i
   unfolding inside sections section
-  log-at i h = rw (encode-sections W) (layOut-at (sections W) 7 i h)
+  log-at i h = rw (encode-sections W) (layOut-at (sections (figures W) W) 7 i h)
 
 -- numbers of two and of four bytes
 pub join2-byte : (v : ℕ) → v < 65536 → join2 (byte 0 v) (byte 1 v) ≡ v
@@ -68,10 +68,10 @@ pub join4-same : (f g : ℕ → ℕ) → ((k : ℕ) → k < 4 → f k ≡ g k) �
 unfolding join4
 join4-same f g h = rw (h 0 (omega arith), h 1 (omega arith), h 2 (omega arith), h 3 (omega arith))
 
-pub slot4 : (e k : ℕ) → k < 4 → (e * 4 + k) / 4 ≡ e
+slot4 : (e k : ℕ) → k < 4 → (e * 4 + k) / 4 ≡ e
 slot4 e k h = omega arith
 
-pub rest4 : (e k : ℕ) → k < 4 → (e * 4 + k) % 4 ≡ k
+rest4 : (e k : ℕ) → k < 4 → (e * 4 + k) % 4 ≡ k
 rest4 e k h = omega arith
 
 mul4-div : (c : ℕ) → c * 4 / 4 ≡ c
@@ -84,6 +84,17 @@ mul4-mod c = omega arith
 pub bit-most : (b : Bool) → bit b < 2
 bit-most true = omega arith
 bit-most false = omega arith
+
+pub pack-most : (n : ℕ) (p : ℕ → Bool) → pack n p < 2 ^ n
+unfolding pack
+pack-most zero p = omega arith
+pack-most (suc n) p = omega (arith, bit-most (p 0), pack-most n (λ j. p (suc j)))
+
+-- the same tests, the same number
+pub pack-same : (n : ℕ) (p q : ℕ → Bool) → ((j : ℕ) → j < n → p j ≡ q j) → pack n p ≡ pack n q
+unfolding pack
+pack-same zero p q h = refl
+pack-same (suc n) p q h = rw (h 0 (omega arith), pack-same n (λ j. p (suc j)) (λ j. q (suc j)) (λ j l. h (suc j) (omega arith)))
 
 eqb-bit : (x : ℕ) (b : Bool) → x ≡ bit b → eqb x 1 ≡ b
 eqb-bit x true e = rw e

@@ -5,6 +5,8 @@ pub mod Cases
 pub mod SectionLaws
 pub mod RecordLaws
 pub mod PartLaws
+pub mod PutLaws
+pub mod LentLaws
 -- decode (encode W) ≡ W of a sound W (SoundCodec.sound-again)
 pub mod CodecLaws
 pub mod SoundCodec

@@ -1,7 +1,7 @@
 -- The calls on lent memory: what each does to sound memory, to other memory, and to what lies past the window. Assumes nothing.
 use mathlib.Core.Path.{_≡_, refl, sym, _∙_, ap}
 use mathlib.Core.Logic.{_≢_, _↔_}
-use mathlib.Core.Bool.{Bool, true, false, not, cond, _&&_, _||_, false≢true}
+use mathlib.Core.Bool.{Bool, true, false, not, cond, false≢true}
 use mathlib.Core.List.{List, [], _∷_, _++_}
 use Prim.Native.Nat.{ℕ}
 use native.Mathlib.Omega.{arith}
@@ -17,7 +17,7 @@ use Rattle.rules.proofs.BaseLaws.{and-false, and-left, and-right, and-both, eqb
 use Rattle.rules.proofs.RuleLaws.{quiet, open-answer, open-number}
 use Rattle.rules.proofs.SoundParts.{Sound, sound-parts, parts-sound}
 use Rattle.rules.proofs.SoundStep.{step-sound, opened-sound, opened-fresh}
-use Rattle.layout.specs.Codec.{windowSize, decode, encode}
+use Rattle.layout.specs.Codec.{windowSize, figures, lay, decode, encode}
 use Rattle.layout.specs.Memory.{sameBytes, soundBytes, long, soundMemory, windowOf, layInto, handBack, anew, memoryRefused, perform}
 use Rattle.layout.proofs.CodecLaws.{length-encode}
 use Rattle.layout.proofs.SoundCodec.{sound-again, decode-blank}
@@ -39,13 +39,18 @@ pub encode-sound : (W : Window) → Sound limits W → soundBytes (encode W) ≡
 unfolding soundBytes
 encode-sound W k = rw (sound-again W k, sameBytes-refl (encode W)) (parts-sound limits W k)
 
+pub bytes-again : (bs : List ℕ) → soundBytes bs ≡ true → encode (decode bs) ≡ bs
+unfolding soundBytes
+bytes-again bs h = sameBytes-eq (encode (decode bs)) bs (and-left (sameBytes (encode (decode bs)) bs) (sound limits (decode bs)) h)
+
 pub bytes-sound : (bs : List ℕ) → soundBytes bs ≡ true → Sound limits (decode bs)
 unfolding soundBytes
 bytes-sound bs h = sound-parts limits (decode bs) (and-right (sameBytes (encode (decode bs)) bs) (sound limits (decode bs)) h) (decode-blank bs)
 
-pub bytes-again : (bs : List ℕ) → soundBytes bs ≡ true → encode (decode bs) ≡ bs
-unfolding soundBytes
-bytes-again bs h = sameBytes-eq (encode (decode bs)) bs (and-left (sameBytes (encode (decode bs)) bs) (sound limits (decode bs)) h)
+-- a part of sound bytes is that part of their window's
+pub part-of : (bs : List ℕ) → soundBytes bs ≡ true → (at n : ℕ) {x : List ℕ} → take n (drop at (lay (figures (decode bs)) (decode bs))) ≡ x → take n (drop at bs) ≡ x
+unfolding encode
+part-of bs h at n e = ap (λ l. take n (drop at l)) (sym (bytes-again bs h)) ∙ e
 
 pub sound-encodings : (bs : List ℕ) → soundBytes bs ≡ true ↔ ((W : Window) × Sound limits W × (encode W ≡ bs))
 sound-encodings bs = (λ h. (decode bs, bytes-sound bs h, bytes-again bs h), λ m. rw (m .2) at (encode-sound (m .0) (m .1)))
@@ -79,22 +84,42 @@ laid W k tail = let t : take windowSize (encode W ++ tail) ≡ encode W = take-a
 
 module _ (mem : List ℕ) where
   -- WHAT A CALL COMES TO
+  -- answer 1, with the memory as it was: too short, or for every call but open no sound window
+  pub perform-short : (c : Call) → long mem ≡ false → perform mem c ≡ handBack mem 1
+  unfolding perform memoryRefused
+  perform-short c h = rw h
+
+  pub perform-unsound : (c : Call) → soundMemory mem ≡ false → isOpen c ≡ false → perform mem c ≡ handBack mem 1
+  perform-unsound c h o = go (long mem) refl
+    where
+      go : (b : Bool) → long mem ≡ b → perform mem c ≡ handBack mem 1
+      go true l = unfold perform memoryRefused in rw (l, h, o)
+      go false l = perform-short c l
+
+  -- an open where there is no sound window begins anew
+  perform-anew : (c : Call) → long mem ≡ true → soundMemory mem ≡ false → isOpen c ≡ true → perform mem c ≡ anew mem (step limits (fresh 0) c)
+  unfolding perform memoryRefused
+  perform-anew c l h o = rw (l, h, o)
+
+  -- on a sound window a call is the rules' step, whatever it answers
+  pub perform-sound : (c : Call) → soundMemory mem ≡ true → perform mem c ≡ layInto mem (step limits (windowOf mem) c)
+  unfolding perform memoryRefused
+  perform-sound c h = rw (sound-long mem h, h, and-false (not (isOpen c)))
+
+  -- so of any call and any memory
   pub data Performed (c : Call) : Reply (List ℕ) → Type 0 where
     refused : Performed c (handBack mem 1)
     ruled : soundMemory mem ≡ true → Performed c (layInto mem (step limits (windowOf mem) c))
     opened : long mem ≡ true → isOpen c ≡ true → Performed c (anew mem (step limits (fresh 0) c))
 
   pub performed : (c : Call) → Performed c (perform mem c)
-  unfolding perform memoryRefused
-  performed c = go (long mem) refl (isOpen c) refl (soundMemory mem) refl
+  performed c = go (long mem) refl (soundMemory mem) refl (isOpen c) refl
     where
-      go : (l : Bool) → long mem ≡ l → (o : Bool) → isOpen c ≡ o → (s : Bool) → soundMemory mem ≡ s
-          → Performed c (cond (not l || (not o && not s)) (handBack mem 1) (cond s (layInto mem (step limits (windowOf mem) c)) (anew mem (step limits (fresh 0) c))))
-      go false p o e s q = refused
-      go true p true e true q = ruled q
-      go true p true e false q = opened p e
-      go true p false e true q = ruled q
-      go true p false e false q = refused
+      go : (l : Bool) → long mem ≡ l → (s : Bool) → soundMemory mem ≡ s → (o : Bool) → isOpen c ≡ o → Performed c (perform mem c)
+      go false l s h o e = rw (perform-short c l) refused
+      go true l true h o e = rw (perform-sound c h) (ruled h)
+      go true l false h true e = rw (perform-anew c l h e) (opened l e)
+      go true l false h false e = rw (perform-unsound c h e) refused
 
   -- an open on memory with no sound window: laid in where it is done, else the memory as it was
   pub data Anewed (o : Outcome) : Reply (List ℕ) → Type 0 where
@@ -108,24 +133,6 @@ module _ (mem : List ℕ) where
       go : {b : Bool} → Same (o .answer) 0 b → Anewed o (cond b (layInto mem o) (handBack mem (o .answer)))
       go (same e) = begun e
       go (other n) = kept n
-
-  -- answer 1, with the memory as it was: too short, or for every call but open no sound window
-  pub perform-short : (c : Call) → long mem ≡ false → perform mem c ≡ handBack mem 1
-  unfolding perform memoryRefused
-  perform-short c h = rw h
-
-  pub perform-unsound : (c : Call) → soundMemory mem ≡ false → isOpen c ≡ false → perform mem c ≡ handBack mem 1
-  unfolding perform memoryRefused
-  perform-unsound c h o = rw (h, o) (go (long mem))
-    where
-      go : (b : Bool) → cond (not b || true) (handBack mem 1) (anew mem (step limits (fresh 0) c)) ≡ handBack mem 1
-      go true = refl
-      go false = refl
-
-  -- on a sound window a call is the rules' step, whatever it answers
-  pub perform-sound : (c : Call) → soundMemory mem ≡ true → perform mem c ≡ layInto mem (step limits (windowOf mem) c)
-  unfolding perform memoryRefused
-  perform-sound c h = rw (sound-long mem h, h, and-false (not (isOpen c)))
 
   pub perform-answer : (c : Call) → soundMemory mem ≡ true → perform mem c .answer ≡ step limits (windowOf mem) c .answer
   unfolding layInto

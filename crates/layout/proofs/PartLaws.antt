@@ -6,41 +6,41 @@ use native.Mathlib.Omega.{arith}
 use lib.ListN.{length, take, drop, take-append-drop, length-drop}
 use lib.Seq.{drop-drop, take-all}
 use Rattle.rules.specs.Window.{Window}
-use Rattle.layout.specs.Codec.{headAt, headSize, valuesAt, valuesSize, changesAt, changesSize, lineAt, lineSize, locksAt, locksSize, permitsAt, permitsSize, tiesAt, tiesSize, logAt, logSize, windowSize, figures, headSection, valueSection, changeSection, lineSection, lockSection, permitSection, tieSection, logSection, encode}
-use Rattle.layout.proofs.SectionLaws.{section, sections, encode-sections, layOut-part}
+use Rattle.layout.specs.Codec.{headAt, headSize, valuesAt, valuesSize, changesAt, changesSize, lineAt, lineSize, locksAt, locksSize, permitsAt, permitsSize, tiesAt, tiesSize, logAt, logSize, windowSize, headSection, valueSection, changeSection, lineSection, lockSection, permitSection, tieSection, logSection, lay}
+use Rattle.layout.proofs.SectionLaws.{section, sections, lay-sections, layOut-part}
 
-module _ (W : Window) where
-  pub head-part : take headSize (drop headAt (encode W)) ≡ headSection (figures W)
+module _ (fs : List ℕ) (W : Window) where
+  pub head-part : take headSize (drop headAt (lay fs W)) ≡ headSection fs
   unfolding headSection sections section
-  head-part = rw (encode-sections W) (layOut-part (sections W) 0 (omega arith))
+  head-part = rw (lay-sections fs W) (layOut-part (sections fs W) 0 (omega arith))
 
-  pub values-part : take valuesSize (drop valuesAt (encode W)) ≡ valueSection W.value
+  pub values-part : take valuesSize (drop valuesAt (lay fs W)) ≡ valueSection W.value
   unfolding valueSection sections section
-  values-part = rw (encode-sections W) (layOut-part (sections W) 1 (omega arith))
+  values-part = rw (lay-sections fs W) (layOut-part (sections fs W) 1 (omega arith))
 
-  pub changes-part : take changesSize (drop changesAt (encode W)) ≡ changeSection W.status W.parent
+  pub changes-part : take changesSize (drop changesAt (lay fs W)) ≡ changeSection W.status W.parent
   unfolding changeSection sections section
-  changes-part = rw (encode-sections W) (layOut-part (sections W) 2 (omega arith))
+  changes-part = rw (lay-sections fs W) (layOut-part (sections fs W) 2 (omega arith))
 
-  pub line-part : take lineSize (drop lineAt (encode W)) ≡ lineSection
+  pub line-part : take lineSize (drop lineAt (lay fs W)) ≡ lineSection
   unfolding lineSection sections section
-  line-part = rw (encode-sections W) (layOut-part (sections W) 3 (omega arith))
+  line-part = rw (lay-sections fs W) (layOut-part (sections fs W) 3 (omega arith))
 
-  pub locks-part : take locksSize (drop locksAt (encode W)) ≡ lockSection W.held
+  pub locks-part : take locksSize (drop locksAt (lay fs W)) ≡ lockSection W.held
   unfolding lockSection sections section
-  locks-part = rw (encode-sections W) (layOut-part (sections W) 4 (omega arith))
+  locks-part = rw (lay-sections fs W) (layOut-part (sections fs W) 4 (omega arith))
 
-  pub permits-part : take permitsSize (drop permitsAt (encode W)) ≡ permitSection W.permits
+  pub permits-part : take permitsSize (drop permitsAt (lay fs W)) ≡ permitSection W.permits
   unfolding permitSection sections section
-  permits-part = rw (encode-sections W) (layOut-part (sections W) 5 (omega arith))
+  permits-part = rw (lay-sections fs W) (layOut-part (sections fs W) 5 (omega arith))
 
-  pub ties-part : take tiesSize (drop tiesAt (encode W)) ≡ tieSection W.ties
+  pub ties-part : take tiesSize (drop tiesAt (lay fs W)) ≡ tieSection W.ties
   unfolding tieSection sections section
-  ties-part = rw (encode-sections W) (layOut-part (sections W) 6 (omega arith))
+  ties-part = rw (lay-sections fs W) (layOut-part (sections fs W) 6 (omega arith))
 
-  pub log-part : take logSize (drop logAt (encode W)) ≡ logSection W.log
+  pub log-part : take logSize (drop logAt (lay fs W)) ≡ logSection W.log
   unfolding logSection sections section
-  log-part = rw (encode-sections W) (layOut-part (sections W) 7 (omega arith))
+  log-part = rw (lay-sections fs W) (layOut-part (sections fs W) 7 (omega arith))
 
 -- bytes of a window's size are their eight parts, one after the other
 module _ (bs : List ℕ) (size : length bs ≡ windowSize) where

@@ -3,9 +3,10 @@ use mathlib.Core.Path.{_≡_, refl, sym, _∙_, ap, fun-ext}
 use mathlib.Core.Bool.{Bool}
 use mathlib.Core.List.{List, [], _∷_, _++_, append-assoc}
 use Prim.Native.Nat.{ℕ, zero, suc, _+_, _-_, _*_, _/_, _%_, _≤_, _<_}
-use native.Mathlib.Nat.{div-add-mod', mul-add-div-right, mul-add-mod-self-right, mul-le-mul-right, le-div-iff-mul-le, add-zero, add-div-right, add-mod-right, div-eq-of-lt, mod-eq-of-lt, mod-lt, zero-mul, suc-mul, add-comm, zero-add, suc-add, sub-zero, suc-sub-suc, le-of-suc-le-suc, not-suc-le-zero}
+use native.Mathlib.Nat.{div-add-mod', div-lt-iff-lt-mul, mul-le-mul-right, le-div-iff-mul-le, add-zero, add-div-right, add-mod-right, div-eq-of-lt, mod-eq-of-lt, mod-lt, zero-mul, suc-mul, add-comm, zero-add, suc-add, sub-zero, suc-sub-suc, le-of-suc-le-suc, not-suc-le-zero}
 use native.Mathlib.Numerals.{add-one}
 use native.Mathlib.Omega.{arith}
+use lib.Arith.{digits-lt, digits-div, digits-mod}
 use lib.ListN.{getD, length, replicate, getD-replicate, length-append, List·getD-eq-default}
 use lib.Seq.{ext-getD}
 use Rattle.rules.specs.Base.{table}
@@ -86,25 +87,56 @@ pub log-flat : (l : List LogRecord) → length l ≤ 2048 → logSection l ≡ f
 unfolding logSection logByte recordBytes placeByte byte
 log-flat l h = records-flat 6 (omega arith) recordBytes noRecord (λ p. refl) refl 2048 l h
 
--- byte k of place j, and a section read back from its bytes
-module _ {ℓ} {A : Type ℓ} (w : ℕ) (pos : 0 < w) (bytes : A → List ℕ) (none : A) where
-  pub place-at : (most : ℕ) (l : List A) (j k : ℕ) → j < most → k < w → getD (table (most * w) 0 (placeByte w bytes none l)) (j * w + k) 0 ≡ getD (bytes (getD l j none)) k 0
-  unfolding placeByte
-  place-at most l j k hj hk = getD-table0 (most * w) (placeByte w bytes none l) (j * w + k) 0 (place-below most j k hj hk)
-      ∙ rw (mul-add-div-right pos j k, div-eq-of-lt hk, mul-add-mod-self-right j w k, mod-eq-of-lt hk, add-zero)
-    where
-      place-below : (m i r : ℕ) → i < m → r < w → i * w + r < m * w
-      place-below m i r hi hr = let s : suc i * w ≤ m * w = mul-le-mul-right w hi in omega (arith, s, suc-mul i w)
+-- the first byte of a place
+pub first-byte : (bs : List ℕ) (at : ℕ) → getD bs at 0 ≡ getD bs (at + 0) 0
+first-byte bs at = ap (λ i. getD bs i 0) (sym (add-zero at))
 
-  -- n places that hold what the bytes say there, and zeros after them
-  pub places-again : (most n : ℕ) (bs : List ℕ) (read : ℕ → A) → length bs ≡ most * w → ((k : ℕ) → getD (bytes none) k 0 ≡ 0)
-      → ((j k : ℕ) → j < n → k < w → getD (bytes (read j)) k 0 ≡ getD bs (j * w + k) 0) → ((i : ℕ) → n * w ≤ i → i < most * w → getD bs i 0 ≡ 0)
-      → bs ≡ table (most * w) 0 (placeByte w bytes none (table n 0 read))
-  unfolding placeByte
-  places-again most n bs read size blank used rest = ext-getD 0 bs (table (most * w) 0 (placeByte w bytes none (table n 0 read))) (size ∙ sym (length-table (most * w) 0 _))
-      (λ i h. let m : i < most * w = rw size at h in go i m (below (i / w) n) ∙ sym (getD-table0 (most * w) (placeByte w bytes none (table n 0 read)) i 0 m))
+-- A SECTION THAT HAS w BYTES FOR EACH PLACE
+-- byte i where place k has the bytes f k
+unfoldable pub placed : ℕ → (ℕ → List ℕ) → ℕ → ℕ
+placed w f i = getD (f (i / w)) (i % w) 0
+
+module _ (w : ℕ) (pos : 0 < w) (n : ℕ) where
+  -- byte j of place k
+  pub cell-read : (f : ℕ → List ℕ) (k j : ℕ) → k < n → j < w → getD (table (n * w) 0 (placed w f)) (k * w + j) 0 ≡ getD (f k) j 0
+  unfolding placed
+  cell-read f k j h t = getD-table0 (n * w) (placed w f) (k * w + j) 0 (digits-lt h t) ∙ rw (digits-div k t, digits-mod k t)
+
+  -- a list of bytes is the section that it is byte by byte
+  pub by-cells : (s : List ℕ) (g : ℕ → List ℕ) → length s ≡ n * w → ((k j : ℕ) → k < n → j < w → getD s (k * w + j) 0 ≡ getD (g k) j 0) → s ≡ table (n * w) 0 (placed w g)
+  by-cells s g e f = ext-getD 0 s (table (n * w) 0 (placed w g)) (e ∙ sym (length-table (n * w) 0 (placed w g))) (λ i h. go i (rw e at h))
     where
-      go : (i : ℕ) → i < most * w → {b : Bool} → Below (i / w) n b → getD bs i 0 ≡ getD (bytes (getD (table n 0 read) (i / w) none)) (i % w) 0
-      go i m (under h) = rw (getD-table0 n read (i / w) none h) (ap (λ x. getD bs x 0) (sym (div-add-mod' i w)) ∙ sym (used (i / w) (i % w) h (mod-lt i pos)))
-      go i m (over h) = let q : length (table n 0 read) ≤ i / w = rw length-table h in
-          rest i (le-div-iff-mul-le pos .0 h) m ∙ sym (rw (List·getD-eq-default (table n 0 read) none {n = i / w} q) (blank (i % w)))
+      go : (i : ℕ) → i < n * w → getD s i 0 ≡ getD (table (n * w) 0 (placed w g)) i 0
+      go i h =
+          let q : i / w < n = div-lt-iff-lt-mul pos .1 h in
+          let r : i % w < w = mod-lt i pos in
+          ap (λ (x : ℕ). getD s x 0) (sym (div-add-mod' i w)) ∙ f (i / w) (i % w) q r ∙ sym (cell-read g (i / w) (i % w) q r)
+          ∙ ap (λ (x : ℕ). getD (table (n * w) 0 (placed w g)) x 0) (div-add-mod' i w)
+
+-- the places of a list of records
+module _ {ℓ} {A : Type ℓ} (w : ℕ) (pos : 0 < w) (bytes : A → List ℕ) (none : A) (most : ℕ) where
+  pub place-at : (l : List A) (j k : ℕ) → j < most → k < w → getD (table (most * w) 0 (placeByte w bytes none l)) (j * w + k) 0 ≡ getD (bytes (getD l j none)) k 0
+  unfolding placeByte placed
+  place-at l j k = cell-read w pos most (λ i. bytes (getD l i none)) j k
+
+  module _ (blank : bytes none ≡ replicate w 0) (n : ℕ) (bs : List ℕ) where
+    -- a place past the last record
+    no-record : (l : List A) → length l ≡ n → (j k : ℕ) → n ≤ j → k < w → getD (bytes (getD l j none)) k 0 ≡ 0
+    no-record l e j k h t = rw (List·getD-eq-default l none {n = j} (omega arith), blank) (getD-replicate w k 0 0 t)
+
+    -- n places that hold what the bytes say there, and zeros after them
+    pub places-again : (read : ℕ → A) → length bs ≡ most * w → ((j k : ℕ) → j < n → k < w → getD (bytes (read j)) k 0 ≡ getD bs (j * w + k) 0)
+        → ((i : ℕ) → n * w ≤ i → i < most * w → getD bs i 0 ≡ 0) → bs ≡ table (most * w) 0 (placeByte w bytes none (table n 0 read))
+    unfolding placeByte placed
+    places-again read size used rest = by-cells w pos most bs (λ j. bytes (getD (table n 0 read) j none)) size (λ j k h t. go j k h t (below j n))
+      where
+        go : (j k : ℕ) → j < most → k < w → {b : Bool} → Below j n b → getD bs (j * w + k) 0 ≡ getD (bytes (getD (table n 0 read) j none)) k 0
+        go j k h t (under l) = rw (getD-table0 n read j none l) (sym (used j k l t))
+        go j k h t (over l) = let m : n * w ≤ j * w = mul-le-mul-right w l in
+            rest (j * w + k) (omega arith) (digits-lt h t) ∙ sym (no-record (table n 0 read) (length-table n 0 read) j k l t)
+
+    -- the bytes past n records are zeros
+    pub places-rest : (l : List A) → length l ≡ n → bs ≡ table (most * w) 0 (placeByte w bytes none l) → (i : ℕ) → n * w ≤ i → i < most * w → getD bs i 0 ≡ 0
+    places-rest l e is i h t = let k : i % w < w = mod-lt i pos in
+        ap (λ x. getD bs x 0) (sym (div-add-mod' i w)) ∙ ap (λ x. getD x (i / w * w + i % w) 0) is
+        ∙ place-at l (i / w) (i % w) (div-lt-iff-lt-mul pos .1 t) k ∙ no-record l e (i / w) (i % w) (le-div-iff-mul-le pos .1 h) k

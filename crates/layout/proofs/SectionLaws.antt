@@ -9,7 +9,7 @@ use lib.Seq.{ext-getD, getD-append-add, take-at, drop-at, take-append-add, drop-
 use Rattle.rules.specs.Base.{put, table}
 use Rattle.rules.proofs.BaseLaws.{other}
 use Rattle.rules.specs.Window.{Window}
-use Rattle.layout.specs.Codec.{headSize, valuesSize, changesSize, lineSize, locksSize, permitsSize, tiesSize, logSize, figures, headByte, valueByte, changeByte, lineByte, lockByte, permitByte, tieByte, logByte, headSection, valueSection, changeSection, lineSection, lockSection, permitSection, tieSection, logSection, encode}
+use Rattle.layout.specs.Codec.{headSize, valuesSize, changesSize, lineSize, locksSize, permitsSize, tiesSize, logSize, figures, headByte, valueByte, changeByte, lineByte, lockByte, permitByte, tieByte, logByte, headSection, valueSection, changeSection, lineSection, lockSection, permitSection, tieSection, logSection, lay, encode}
 
 -- tables
 pub length-table {ℓ} : {A : Type ℓ} (k i : ℕ) (f : ℕ → A) → length (table k i f) ≡ k
@@ -31,6 +31,10 @@ pub table-list {ℓ} : {A : Type ℓ} (d : A) (l : List A) (f : ℕ → A) → (
 table-list d l f h = ext-getD d (table (length l) 0 f) l (length-table (length l) 0 f)
     (λ j s. let t : j < length l = rw length-table at s in getD-table0 (length l) f j d t ∙ h j t)
 
+-- each element is a byte: what is known of a slice of bytes
+abbrev pub Bytes : List ℕ → Type 0
+Bytes l = (i : ℕ) → getD l i 0 < 256
+
 -- sections, one after the other
 pub record Section : Type 0 where
   pub size : ℕ
@@ -43,14 +47,18 @@ unfoldable pub layOut : List Section → List ℕ
 layOut [] = []
 layOut (s ∷ l) = table s.size 0 s.content ++ layOut l
 
--- those of a window
-unfoldable pub sections : Window → List Section
-sections W = section headSize (headByte (figures W)) ∷ section valuesSize (valueByte W.value) ∷ section changesSize (changeByte W.status W.parent) ∷ section lineSize lineByte
+-- those of a window, with any figures in the header
+unfoldable pub sections : List ℕ → Window → List Section
+sections fs W = section headSize (headByte fs) ∷ section valuesSize (valueByte W.value) ∷ section changesSize (changeByte W.status W.parent) ∷ section lineSize lineByte
     ∷ section locksSize (lockByte W.held) ∷ section permitsSize (permitByte W.permits) ∷ section tiesSize (tieByte W.ties) ∷ section logSize (logByte W.log) ∷ []
 
-pub encode-sections : (W : Window) → encode W ≡ layOut (sections W)
-unfolding encode headSection valueSection changeSection lineSection lockSection permitSection tieSection logSection layOut sections section
-encode-sections W = rw append-nil
+pub lay-sections : (fs : List ℕ) (W : Window) → lay fs W ≡ layOut (sections fs W)
+unfolding lay headSection valueSection changeSection lineSection lockSection permitSection tieSection logSection layOut sections section
+lay-sections fs W = rw append-nil
+
+pub encode-sections : (W : Window) → encode W ≡ layOut (sections (figures W) W)
+unfolding encode
+encode-sections W = lay-sections (figures W) W
 
 -- how many bytes, where each begins, and each by its place
 abbrev pub total : List Section → ℕ

@@ -163,10 +163,14 @@ tieSection ties = table tiesSize 0 (tieByte ties)
 unfoldable pub logSection : List LogRecord → List ℕ
 logSection log = table logSize 0 (logByte log)
 
--- one after the other
-unfoldable pub encode : Window → List ℕ
-encode W = headSection (figures W) ++ (valueSection W.value ++ (changeSection W.status W.parent ++ (lineSection
+-- one after the other, with any figures in the header: what stands in the bytes while a call is at work
+unfoldable pub lay : List ℕ → Window → List ℕ
+lay figures W = headSection figures ++ (valueSection W.value ++ (changeSection W.status W.parent ++ (lineSection
     ++ (lockSection W.held ++ (permitSection W.permits ++ (tieSection W.ties ++ logSection W.log))))))
+
+-- with its own
+unfoldable pub encode : Window → List ℕ
+encode W = lay (figures W) W
 
 -- BYTES AS A WINDOW
 -- byte i of the section that begins there

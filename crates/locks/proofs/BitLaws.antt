@@ -2,7 +2,7 @@
 use mathlib.Core.Path.{_≡_, refl, sym, _∙_, ap}
 use mathlib.Core.Bool.{Bool, true, cond, _&&_}
 use mathlib.Core.List.{List}
-use Prim.Native.Nat.{ℕ, zero, suc, _+_, _*_, _/_, _%_, _≤_, _<_}
+use Prim.Native.Nat.{ℕ, suc, _+_, _*_, _/_, _%_, _≤_, _<_}
 use native.Mathlib.Nat.{zero-add}
 use native.Mathlib.Omega.{arith}
 use lib.Dec.{ltb, eqb}
@@ -11,7 +11,7 @@ use Rattle.rules.specs.Base.{put2, table}
 use Rattle.rules.specs.Sets.{Set}
 use Rattle.rules.proofs.BaseLaws.{Below, under, over, below, Same, same, other, same?, leb-true, eqb-same}
 use Rattle.layout.specs.Codec.{pack, unpack, lockByte, lockSection, locksSize}
-use Rattle.layout.proofs.CodecLaws.{unpack-pack}
+use Rattle.layout.proofs.CodecLaws.{pack-same, unpack-pack}
 use Rattle.layout.proofs.SectionLaws.{length-table, getD-table0}
 use Rattle.sets.specs.Members.{loaded, setByte, setBytes, stored}
 use Rattle.locks.proofs.Tables.{table-same, paste-table}
@@ -35,12 +35,6 @@ lockBits held e m c = eqb (held e c) (suc m)
 pub lock-bits : (held : ℕ → ℕ → ℕ) → lockSection held ≡ bitsSection (lockBits held)
 unfolding lockSection lockByte bitsSection bitsByte lockBits
 lock-bits held = refl
-
--- the same tests, the same number
-pack-same : (n : ℕ) (p q : Set) → ((b : ℕ) → b < n → p b ≡ q b) → pack n p ≡ pack n q
-unfolding pack
-pack-same zero p q h = refl
-pack-same (suc n) p q h = rw (h 0 (omega arith), pack-same n (λ b. p (suc b)) (λ b. q (suc b)) (λ b l. h (suc b) (omega arith)))
 
 -- the same bits, the same bytes
 pub bits-same : (t u : Bits) → ((e m c : ℕ) → e < 256 → m < 2 → c < 256 → t e m c ≡ u e m c) → bitsSection t ≡ bitsSection u

@@ -9,3 +9,5 @@ pub mod RowLaws
 -- the locks changed by entries, and a walk over them
 pub mod ChangeLaws
 pub mod WalkLaws
+-- permits by their places
+pub mod PermitLaws

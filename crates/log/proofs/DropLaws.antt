@@ -15,9 +15,9 @@ use Rattle.layout.specs.Codec.{noRecord, recordBytes, logSection}
 use Rattle.layout.proofs.RecordLaws.{flat, log-flat}
 use Rattle.cells.specs.Part.{part, patch}
 use Rattle.cells.proofs.PartLaws.{getD-part}
+use Rattle.cells.proofs.CloseLaws.{Closing, closing-none, closing-here, closing-turn, closing-all}
 use Rattle.log.specs.Records.{isUnowned, unowned, Dropped}
 use Rattle.log.proofs.LogLaws.{length-record}
-use Rattle.log.proofs.CloseLaws.{Closing, closing-none, closing-here, closing-skip, closing-keep, closing-all}
 
 -- what is left is the log of rules' `endAll`
 pub unowned-ended : (how : ℕ) (s : Set) (W : Window) → endAll how s W .log ≡ unowned s (W .log)
@@ -30,11 +30,11 @@ unused l = replicate ((2048 - length l) * 6) 0
 
 -- i records of l were read, and j of them kept
 abbrev pub Dropping : Set → List LogRecord → List ℕ → ℕ → ℕ → Type 0
-Dropping s l log i j = Closing 6 recordBytes length-record (isUnowned s) noRecord l (unused l) log i j
+Dropping s l log i j = Closing 6 recordBytes (isUnowned s) l (unused l) log i j
 
 -- before the first turn
 pub dropping-none : (s : Set) (l : List LogRecord) (log : List ℕ) → length l ≤ 2048 → log ≡ logSection l → Dropping s l log 0 0
-dropping-none s l log h e = closing-none 6 recordBytes length-record (isUnowned s) noRecord l (unused l) log (e ∙ log-flat l h)
+dropping-none s l log h e = closing-none 6 recordBytes (isUnowned s) l (unused l) log (e ∙ log-flat l h)
 
 -- no more are kept than were read
 pub kept-most : (b : Bool) (i j r : ℕ) → j ≤ i → r ≡ cond b j (j + 1) → r ≤ i + 1
@@ -46,7 +46,7 @@ module _ (s : Set) (l : List LogRecord) (log : List ℕ) (i j : ℕ) (m : Droppi
   owner-here : getD log (i * 6) 0 ≡ getD l i noRecord .owner
   unfolding recordBytes
   owner-here = ap (λ (k : ℕ). getD log k 0) (sym (add-zero (i * 6))) ∙ sym (getD-part log (i * 6) 6 0 (omega arith))
-      ∙ ap (λ (t : List ℕ). getD t 0 0) (closing-here 6 recordBytes length-record (isUnowned s) noRecord l (unused l) log i j m h)
+      ∙ ap (λ (t : List ℕ). getD t 0 0) (closing-here 6 recordBytes (isUnowned s) length-record noRecord l (unused l) log i j m h (i * 6) refl)
 
   -- the next record is dropped, or kept
   pub dropping-turn : (r : ℕ) (out : List ℕ) → i * 6 + 6 ≤ length log → r ≡ cond (s (getD log (i * 6) 0)) j (j + 1)
@@ -54,12 +54,12 @@ module _ (s : Set) (l : List LogRecord) (log : List ℕ) (i j : ℕ) (m : Droppi
   unfolding isUnowned
   dropping-turn r out room er eo = go (s (getD log (i * 6) 0)) refl er eo
     where
-      test : (b : Bool) → s (getD log (i * 6) 0) ≡ b → isUnowned s (getD l i noRecord) ≡ not b
-      test b e = ap not (ap s (sym owner-here) ∙ e)
+      turn : (b : Bool) → s (getD log (i * 6) 0) ≡ b → Dropping s l (cond (not b) (patch log (j * 6) (part log (i * 6) 6)) log) (i + 1) (cond (not b) (j + 1) j)
+      turn b e = closing-turn 6 recordBytes (isUnowned s) length-record noRecord l (unused l) log i j m h (not b) (ap not (sym e ∙ ap s owner-here)) (i * 6) (j * 6) refl refl room
 
       go : (b : Bool) → s (getD log (i * 6) 0) ≡ b → r ≡ cond b j (j + 1) → out ≡ cond b log (patch log (j * 6) (part log (i * 6) 6)) → Dropping s l out (i + 1) r
-      go true e p q = rw (p, q) (closing-skip 6 recordBytes length-record (isUnowned s) noRecord l (unused l) log i j m h (test true e))
-      go false e p q = rw (p, q) (closing-keep 6 recordBytes length-record (isUnowned s) noRecord l (unused l) log i j m h (test false e) room)
+      go true e p q = rw (p, q) (turn true e)
+      go false e p q = rw (p, q) (turn false e)
 
 -- records and zeros are the section
 cleared : (l : List LogRecord) (x y : ℕ) → length l ≤ 2048 → x + y ≡ (2048 - length l) * 6 → flat recordBytes l ++ (replicate x 0 ++ replicate y 0) ≡ logSection l
@@ -71,7 +71,7 @@ pub dropping-all : (s : Set) (l : List LogRecord) (log : List ℕ) (n j : ℕ) (
     → out ≡ patch log (j * 6) (replicate (n * 6 - j * 6) 0) → Dropped s l j out
 unfolding unowned
 dropping-all s l log n j out e h m o =
-    let a = closing-all 6 recordBytes length-record (isUnowned s) noRecord l (unused l) log n j e m in
+    let a = closing-all 6 recordBytes (isUnowned s) l (unused l) log n j e m (j * 6) (n * 6) refl refl in
     let few : length (keep (isUnowned s) l) ≤ length l = length-keep (isUnowned s) l in
     record {
       count = a .0;

@@ -1,8 +1,6 @@
 -- Laws of the log's section. Other crates cite a file X here as Rattle.log.proofs.X.
 -- records read, appended and replaced
 pub mod LogLaws
--- records of any width closed up in place
-pub mod CloseLaws
 -- the records that no member owns
 pub mod DropLaws
 -- records handed over

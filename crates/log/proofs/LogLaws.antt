@@ -15,11 +15,12 @@ use Rattle.rules.proofs.BaseLaws.{Below, under, over, below}
 use Rattle.rules.proofs.ListLaws.{length-append-one}
 use Rattle.layout.specs.Codec.{noRecord, recordBytes, logByte, logSection, logSize}
 use Rattle.layout.proofs.SectionLaws.{length-table}
+use Rattle.layout.proofs.RecordLaws.{placed, cell-read}
 use Rattle.cells.specs.Part.{part, patch}
 use Rattle.cells.specs.Num.{le, num}
 use Rattle.cells.proofs.PartLaws.{part-part, patch-cons}
 use Rattle.cells.proofs.NumLaws.{num-le}
-use Rattle.places.proofs.PlaceLaws.{placed, cell-read, place-read, cell-store, place-store}
+use Rattle.places.proofs.PlaceLaws.{place-read, cell-store, place-store}
 use Rattle.places.proofs.ByteLaws.{le-bytes}
 
 -- the bytes of place i

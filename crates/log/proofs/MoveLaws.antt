@@ -1,5 +1,5 @@
 -- The log handed over: one record, one turn of the loop, and its end. Assumes nothing.
-use mathlib.Core.Path.{_≡_, refl, sym, ap, _∙_, fun-ext}
+use mathlib.Core.Path.{_≡_, refl, sym, ap, _∙_}
 use mathlib.Core.Bool.{Bool, true, false, _&&_, _||_}
 use mathlib.Core.List.{List, [], _∷_, _++_, map}
 use Prim.Native.Nat.{ℕ, zero, suc, _+_, _*_, _<_}
@@ -10,16 +10,11 @@ use lib.ListN.{length, take, drop, getD, set}
 use lib.Seq.{set-getD}
 use Rattle.rules.specs.Sets.{Set}
 use Rattle.rules.specs.Window.{LogRecord}
-use Rattle.rules.specs.Effects.{moveLog, every, entriesNamed}
+use Rattle.rules.specs.Effects.{moveLog}
 use Rattle.layout.specs.Codec.{noRecord, logSection}
-use Rattle.log.specs.Records.{onEntries, movedRecord}
+use Rattle.sets.specs.Entries.{onEntries}
+use Rattle.log.specs.Records.{movedRecord}
 use Rattle.log.proofs.LogLaws.{owner-read, entry-read, owner-store}
-
--- the entries are those that a delegate names: every entry where its argument says so, otherwise the one that it is
-pub on-named : (all : Bool) (entry named : ℕ) → all ≡ eqb named every → (all ≡ false → entry ≡ named) → onEntries all entry ≡ entriesNamed named
-unfolding onEntries entriesNamed
-on-named true entry named e f = fun-ext (λ x. ap (λ (b : Bool). b || eqb x named) e)
-on-named false entry named e f = fun-ext (λ x. ap (λ (k : ℕ). eqb x k) (f refl) ∙ ap (λ (b : Bool). b || eqb x named) e)
 
 -- ONE RECORD, by the test of its two bytes
 module _ (s : List ℕ) (l : List LogRecord) (i from to : ℕ) (all : Bool) (entry : ℕ) (e : s ≡ logSection l) (h : i < 2048) (t : i < length l) where

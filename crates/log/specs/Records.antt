@@ -1,6 +1,6 @@
 -- The log's records: those that stay when changes end, and those that a delegate moves. Assumes nothing.
 use mathlib.Core.Path.{_≡_}
-use mathlib.Core.Bool.{Bool, not, cond, _&&_, _||_}
+use mathlib.Core.Bool.{Bool, not, cond, _&&_}
 use mathlib.Core.List.{List}
 use Prim.Native.Nat.{ℕ}
 use lib.Dec.{eqb}
@@ -24,10 +24,6 @@ pub record Dropped (s : Set) (l : List LogRecord) (left : ℕ) (out : List ℕ) 
   pub count : left ≡ length (unowned s l)
   -- the section holds them, in order, and zeros
   pub bytes : out ≡ logSection (unowned s l)
-
--- every entry, or one: rules' `entriesNamed` of a delegate's argument (proofs/MoveLaws)
-unfoldable pub onEntries : Bool → ℕ → Set
-onEntries every entry e = every || eqb e entry
 
 -- one record of rules' `moveLog`
 unfoldable pub movedRecord : ℕ → ℕ → Set → LogRecord → LogRecord

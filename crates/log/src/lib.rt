@@ -15,7 +15,8 @@ ghost use Rattle.rules.specs.Effects.{moveLog, undo as undone};
 ghost use Rattle.layout.specs.Codec.{noRecord, valuesSize, logSize, valueSection, logSection};
 ghost use Rattle.cells.specs.Part.{part, patch};
 ghost use Rattle.sets.specs.Members.{members};
-ghost use Rattle.log.specs.Records.{Dropped, onEntries, movedRecord};
+ghost use Rattle.sets.specs.Entries.{onEntries};
+ghost use Rattle.log.specs.Records.{Dropped, movedRecord};
 
 // The bytes of a record.
 const RECORD: usize = 6;

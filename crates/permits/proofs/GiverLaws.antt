@@ -1,7 +1,7 @@
 -- The walk over an entry's rows that finds the givers. Assumes nothing.
 use mathlib.Core.Path.{_≡_, refl, sym, ap, ap₂, _∙_}
 use mathlib.Core.Logic.{⊎-elim}
-use mathlib.Core.Bool.{Bool, true, false, _&&_, _||_, false≢true}
+use mathlib.Core.Bool.{Bool, true, false, _&&_, _||_, or-assoc, false≢true}
 use mathlib.Core.List.{List, [], _∷_, _++_}
 use Prim.Native.Nat.{ℕ, suc, _+_, _-_, _≤_, _<_}
 use native.Mathlib.Nat.{eq-or-lt-of-le}
@@ -12,10 +12,12 @@ use borrow.Author.Tests.{eq-eqb, ne-eqb}
 use Rattle.rules.specs.Base.{table, any, rising}
 use Rattle.rules.specs.Window.{PermitRecord, permitKey}
 use Rattle.rules.specs.Locks.{contains, permitted}
-use Rattle.rules.proofs.BaseLaws.{and-false, no-true, Same, same, other, same?}
+use Rattle.rules.proofs.BaseLaws.{and-false, no-true}
 use Rattle.layout.specs.Codec.{permitSection}
+use Rattle.layout.proofs.SectionLaws.{Bytes}
+use Rattle.sets.proofs.MemberLaws.{add-passed, nothing-added}
 use Rattle.rows.specs.Rows.{Row, rowKey, rankOf, rank, rowAt, rows, Found}
-use Rattle.rows.proofs.OrderLaws.{Bytes, Small, small-at, ranks-rise}
+use Rattle.rows.proofs.OrderLaws.{Small, small-at, ranks-rise}
 use Rattle.rows.proofs.RowLaws.{rows-split}
 use Rattle.rows.proofs.PlaceLaws.{any-where}
 use Rattle.rows.proofs.TableLaws.{table-any}
@@ -42,10 +44,6 @@ unfolding grants
 grants-other g taker entry mode r h = rw (ne-eqb (r .k1) entry h, and-false (eqb r.k2 g && (eqb r.k3 taker || eqb r.k3 0)))
 
 -- tests over lists
-or-assoc : (a b c : Bool) → (a || b) || c ≡ a || (b || c)
-or-assoc true b c = refl
-or-assoc false b c = refl
-
 -- one of two lists passes
 any-append {ℓ} : {A : Type ℓ} (p : A → Bool) (l k : List A) → any p (l ++ k) ≡ any p l || any p k
 unfolding any
@@ -64,21 +62,11 @@ or-no false b e = sym e
 -- a giver noted, or not
 module _ (taker mode : ℕ) (r : Row) (d : Bool) (ed : d ≡ serves taker mode r) where
   pub noted : d ≡ true → (k : ℕ) (m m′ : Bool) → m′ ≡ eqb k (r .k2) || m → m′ ≡ m || (eqb (r .k2) k && serves taker mode r)
-  noted t k m m′ e = rw (sym ed ∙ t) (e ∙ ap (λ (x : Bool). x || m) (swap (same? k (r .k2))) ∙ go (eqb (r .k2) k) m)
-    where
-      swap : {x : Bool} → Same k (r .k2) x → x ≡ eqb (r .k2) k
-      swap (same q) = sym (eq-eqb (r .k2) k (sym q))
-      swap (other n) = sym (ne-eqb (r .k2) k (λ q. n (sym q)))
-
-      go : (a m : Bool) → a || m ≡ m || (a && true)
-      go true true = refl
-      go true false = refl
-      go false true = refl
-      go false false = refl
+  noted t k m m′ e = add-passed (r .k2) k m m′ (serves taker mode r) (sym ed ∙ t) e
 
   -- a row that does not serve adds no giver
   pub not-noted : d ≡ false → (k : ℕ) (m : Bool) → m ≡ m || (eqb (r .k2) k && serves taker mode r)
-  not-noted t k m = or-no m (eqb (r .k2) k && serves taker mode r) (rw (sym ed ∙ t, and-false (eqb (r .k2) k)))
+  not-noted t k m = nothing-added m (eqb (r .k2) k) (serves taker mode r) (sym ed ∙ t)
 
 -- THE WALK over the first n rows of l
 -- the givers among the rows from place i on

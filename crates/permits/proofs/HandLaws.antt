@@ -14,6 +14,7 @@ use Rattle.rules.specs.Effects.{movePermits}
 use Rattle.rules.proofs.BaseLaws.{and-left, not-true}
 use Rattle.rules.proofs.ListLaws.{length-parts}
 use Rattle.rules.proofs.SortLaws.{rising-keep, length-inserts}
+use Rattle.rules.proofs.SoundPermit.{unite-key}
 use Rattle.layout.specs.Codec.{permitSection}
 use Rattle.cells.specs.Part.{patch}
 use Rattle.rows.specs.Rows.{Row, rowKey, rows, addRow, Stored, Closed, Holds}
@@ -87,12 +88,9 @@ module _ (ps : List PermitRecord) (n : ℕ) (bytes : List ℕ) (len : length ps 
       table-stored permitRow permitKey permitSection 1024 permit-table (keep (stays from on) ps) left rest (sym (here .count)) (here .bytes) (omega (arith, hand-fits))
       (foldr (insert permitKey unitePermits) (keep (stays from on) ps) (map (regiven to) (keep (moves from to on) ps))) r after
       (omega (arith, here .count, length-least-all permitKey unitePermits (map (regiven to) (keep (moves from to on) ps)) (keep (stays from on) ps)))
-      (omega (arith, hand-fits, here .count, how-many, length-inserts permitKey unitePermits keys (map (regiven to) (keep (moves from to on) ps)) (keep (stays from on) ps), length-map (keep (moves from to on) ps) (regiven to)))
+      (omega (arith, hand-fits, here .count, how-many, length-inserts permitKey unitePermits unite-key (map (regiven to) (keep (moves from to on) ps)) (keep (stays from on) ps), length-map (keep (moves from to on) ps) (regiven to)))
       (rw all at s)
     where
-      keys : (x y : PermitRecord) → permitKey (unitePermits x y) ≡ permitKey y
-      keys x y = unfold permitKey unitePermits in refl
-
       all : foldr addRow (rows left rest) (map (withGiver to) (rows m moved)) ≡ map permitRow (foldr (insert permitKey unitePermits) (keep (stays from on) ps) (map (regiven to) (keep (moves from to on) ps)))
       all =
           ap₂ (λ (a b : List Row). foldr addRow a b)

@@ -1,5 +1,5 @@
 -- What is proved of the table of permits. Other crates cite a file X here as Rattle.permits.proofs.X.
--- permits as rows; the permits left and the entries named are the rules'
+-- permits as rows; the permits left are the rules'
 pub mod PermitLaws
 -- the hand-over: rows given one after the other, and what that makes of the permits
 pub mod GiveLaws

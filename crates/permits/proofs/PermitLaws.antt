@@ -1,20 +1,19 @@
 -- Permits as rows, and what the calls on rows come to in permits. Assumes nothing.
-use mathlib.Core.Path.{_≡_, refl, ap, _∙_, fun-ext}
-use mathlib.Core.Bool.{Bool, true, false, not, _||_}
+use mathlib.Core.Path.{_≡_, refl, ap, _∙_}
+use mathlib.Core.Bool.{Bool, true, not, _||_}
 use mathlib.Core.List.{List, _++_}
 use Prim.Native.Nat.{ℕ, _-_, _*_, _≤_}
-use lib.Dec.{eqb}
 use lib.ListN.{length, replicate}
 use Rattle.rules.specs.Base.{exceeds, rising}
 use Rattle.rules.specs.Sets.{Set}
 use Rattle.rules.specs.Window.{limits, PermitRecord, Window, permitKey}
 use Rattle.rules.specs.Locks.{makePermit, unitePermits, addPermit}
-use Rattle.rules.specs.Effects.{every, entriesNamed, endAll}
+use Rattle.rules.specs.Effects.{endAll}
 use Rattle.layout.specs.Codec.{permitBytes, permitSection}
 use Rattle.layout.proofs.RecordLaws.{permits-flat}
 use Rattle.rows.specs.Rows.{Row, row, rowKey, rowBytes, rows, uniteRows, addRow, unlessOver, spared, Stored, Closed, Holds}
-use Rattle.rows.proofs.TableLaws.{TableOf, flat-rows, table-rising, table-closed, table-fits, table-added}
-use Rattle.permits.specs.Tables.{permitsLeft, everyOr}
+use Rattle.rows.proofs.TableLaws.{TableOf, flat-rows, table-rising, table-fits, table-added, table-left}
+use Rattle.permits.specs.Tables.{permitsLeft}
 
 -- a permit's row
 unfoldable pub permitRow : PermitRecord → Row
@@ -38,24 +37,16 @@ pub permits-ended : (how : ℕ) (s : Set) (W : Window) → endAll how s W .permi
 unfolding endAll permitsLeft
 permits-ended how s W = refl
 
--- so are the entries that a delegate names
-pub every-named : (named entry : ℕ) → (eqb named every ≡ false → entry ≡ named) → everyOr (eqb named every) entry ≡ entriesNamed named
-unfolding everyOr entriesNamed
-every-named named entry h = fun-ext (λ e. go e (eqb named every) h)
-  where
-    go : (e : ℕ) (b : Bool) → (b ≡ false → entry ≡ named) → b || eqb e entry ≡ b || eqb e named
-    go e true f = refl
-    go e false f = ap (eqb e) (f refl)
+-- and the rows that are spared are theirs
+pub permits-left : (s : Set) (n : ℕ) (bytes : List ℕ) → n ≤ 1024 → (r : ℕ) (after : List ℕ) → Closed (spared s) n bytes r after
+    → (r ≤ n) × ((ps : List PermitRecord) → length ps ≡ n → bytes ≡ permitSection ps → Holds permitSection (permitsLeft s ps) r after)
+unfolding permitsLeft spared permitRow
+permits-left = table-left permitRow permitKey permitSection 1024 permit-table (λ s p. not (s p.giver || s p.taker)) (λ s p. refl)
 
 -- THE CALLS, on `ps` whose section is `bytes`
 module _ (ps : List PermitRecord) (n : ℕ) (bytes : List ℕ) (len : length ps ≡ n) (is : bytes ≡ permitSection ps) (few : n ≤ 1024) where
   pub permits-rising : rising permitKey ps ≡ true → rising rowKey (rows n bytes) ≡ true
   permits-rising = table-rising permitRow permitKey permitSection 1024 permit-table ps n bytes len is few
-
-  -- the rows that are spared are the permits that are left
-  pub permits-left : (s : Set) (r : ℕ) (after : List ℕ) → Closed (spared s) n bytes r after → Holds permitSection (permitsLeft s ps) r after
-  unfolding permitsLeft spared permitRow
-  permits-left s r after c = table-closed permitRow permitKey permitSection 1024 permit-table ps n bytes len is few (spared s) (λ p. not (s p.giver || s p.taker)) (λ p. refl) r after c
 
   module _ (g t e o : ℕ) where
     -- a permit fits where its row does

@@ -17,8 +17,9 @@ ghost use Rattle.rules.specs.Locks.{permitted, makePermit, addPermit};
 ghost use Rattle.rules.specs.Effects.{movePermits};
 ghost use Rattle.layout.specs.Codec.{permitsSize, permitSection};
 ghost use Rattle.sets.specs.Members.{members};
+ghost use Rattle.sets.specs.Entries.{onEntries};
 ghost use Rattle.rows.specs.Rows.{rowKey, rowAt, rows, addRow, unlessOver, Stored, Closed, Holds};
-ghost use Rattle.permits.specs.Tables.{permitsLeft, everyOr};
+ghost use Rattle.permits.specs.Tables.{permitsLeft};
 ghost use Rattle.permits.specs.PermitRows.{handed, withGiver, serves};
 
 // Whether a permit of the key can be added, with any operations: there is room, or one stands already.
@@ -62,7 +63,7 @@ pub fn drop_ended(permits: &mut [u8], count: usize, ended: ChangeSet) -> usize
 // Whether the row at a place goes to `to` (moving), or stays (not moving).
 fn is_handed(s: &[u8], i: usize, from: u8, to: u8, every: bool, entry: u8, moving: bool) -> bool
     requires { ⌜ 4 * i + 4 ≤ length (now s) ⌝ }
-    ensures { λ r. ⌜ r ≡ handed from to (everyOr every entry) moving (rowAt (now (s .entry)) i) ⌝ }
+    ensures { λ r. ⌜ r ≡ handed from to (onEntries every entry) moving (rowAt (now (s .entry)) i) ⌝ }
 {
     let at = 4 * i;
     let given = (s[at + 1] == from) & (every | (s[at] == entry));
@@ -83,7 +84,7 @@ fn keep_handed(
     moving: bool,
 ) -> usize
     requires { ⌜ 4 * n ≤ length (now s) ⌝ }
-    ensures { λ r. ⌜ Closed (handed from to (everyOr every entry) moving) n (now (s .entry)) r (now (s .exit)) ⌝ }
+    ensures { λ r. ⌜ Closed (handed from to (onEntries every entry) moving) n (now (s .entry)) r (now (s .exit)) ⌝ }
 {
     let mut i = 0;
     let mut j = 0;
@@ -138,7 +139,7 @@ pub fn hand_over(
     requires { ⌜ length (now permits) ≡ permitsSize ⌝ }
     requires { ⌜ count ≤ 1024 ⌝ }
     ensures { λ r. ⌜ r ≤ 1024 ⌝ }
-    ensures { λ r. ⌜ ((ps : List PermitRecord) → length ps ≡ count → now (permits .entry) ≡ permitSection ps → rising permitKey ps ≡ true → Holds permitSection (movePermits from to (everyOr every entry) ps) r (now (permits .exit))) ⌝ }
+    ensures { λ r. ⌜ ((ps : List PermitRecord) → length ps ≡ count → now (permits .entry) ≡ permitSection ps → rising permitKey ps ≡ true → Holds permitSection (movePermits from to (onEntries every entry) ps) r (now (permits .exit))) ⌝ }
 {
     let mut moved = [0u8; Permits::SIZE];
     copy_in(permits, &mut moved, 0);

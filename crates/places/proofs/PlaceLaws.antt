@@ -1,23 +1,20 @@
--- A section that has w bytes for each of n places: a byte and a place read, a byte and a place stored. Assumes nothing.
+-- A section that has w bytes for each of n places: a place read, a byte and a place stored. Assumes nothing.
 use mathlib.Core.Path.{_≡_, sym, ap, _∙_}
 use mathlib.Core.Logic.{_≢_}
 use mathlib.Core.Bool.{Bool}
 use mathlib.Core.List.{List}
-use Prim.Native.Nat.{ℕ, _+_, _*_, _/_, _%_, _≤_, _<_}
-use native.Mathlib.Nat.{mod-lt, div-lt-iff-lt-mul, div-add-mod', mul-le-mul-right, suc-mul}
+use Prim.Native.Nat.{ℕ, _+_, _*_, _/_, _≤_, _<_}
+use native.Mathlib.Nat.{mul-le-mul-right, suc-mul}
 use native.Mathlib.Omega.{arith}
-use lib.Arith.{digits-lt, digits-div, digits-mod}
+use lib.Arith.{digits-lt, digits-div}
 use lib.ListN.{length, getD, set, length-set}
 use lib.Seq.{ext-getD, getD-set-same, getD-set-other}
 use Rattle.rules.specs.Base.{table}
 use Rattle.rules.proofs.BaseLaws.{Same, same, other, same?, Below, under, over, below}
-use Rattle.layout.proofs.SectionLaws.{length-table, getD-table0}
+use Rattle.layout.proofs.SectionLaws.{length-table}
+use Rattle.layout.proofs.RecordLaws.{placed, cell-read, by-cells}
 use Rattle.cells.specs.Part.{part, patch}
 use Rattle.cells.proofs.PartLaws.{length-part, length-patch, getD-part, getD-patch, getD-patch-before, getD-patch-after}
-
--- byte i of a section in which place k has the bytes f k
-unfoldable pub placed : ℕ → (ℕ → List ℕ) → ℕ → ℕ
-placed w f i = getD (f (i / w)) (i % w) 0
 
 -- another function of places: bs at place k, and elsewhere the same
 pub record Stored (f : ℕ → List ℕ) (k : ℕ) (bs : List ℕ) (g : ℕ → List ℕ) : Type 0 where
@@ -28,38 +25,22 @@ module _ (w : ℕ) (pos : 0 < w) (n : ℕ) where
   in-section : (k : ℕ) → k < n → k * w + w ≤ n * w
   in-section k h = rw (suc-mul k w) at (mul-le-mul-right w h)
 
-  -- a byte read
-  pub cell-read : (f : ℕ → List ℕ) (k j : ℕ) → k < n → j < w → getD (table (n * w) 0 (placed w f)) (k * w + j) 0 ≡ getD (f k) j 0
-  unfolding placed
-  cell-read f k j h t = getD-table0 (n * w) (placed w f) (k * w + j) 0 (digits-lt h t) ∙ rw (digits-div k t, digits-mod k t)
-
   -- a place read
   pub place-read : (f : ℕ → List ℕ) (k : ℕ) → k < n → length (f k) ≡ w → part (table (n * w) 0 (placed w f)) (k * w) w ≡ f k
   place-read f k h e =
       let long : length (table (n * w) 0 (placed w f)) ≡ n * w = length-table (n * w) 0 (placed w f) in
       let size : length (part (table (n * w) 0 (placed w f)) (k * w) w) ≡ w = length-part (table (n * w) 0 (placed w f)) (k * w) w (rw long (in-section k h)) in
       ext-getD 0 (part (table (n * w) 0 (placed w f)) (k * w) w) (f k) (size ∙ sym e)
-      (λ j t. let u : j < w = rw size at t in getD-part (table (n * w) 0 (placed w f)) (k * w) w j u ∙ cell-read f k j h u)
-
-  -- a list of bytes is the section that it is byte by byte
-  pub by-cells : (s : List ℕ) (g : ℕ → List ℕ) → length s ≡ n * w → ((k j : ℕ) → k < n → j < w → getD s (k * w + j) 0 ≡ getD (g k) j 0) → s ≡ table (n * w) 0 (placed w g)
-  by-cells s g e f = ext-getD 0 s (table (n * w) 0 (placed w g)) (e ∙ sym (length-table (n * w) 0 (placed w g))) (λ i h. go i (rw e at h))
-    where
-      go : (i : ℕ) → i < n * w → getD s i 0 ≡ getD (table (n * w) 0 (placed w g)) i 0
-      go i h =
-          let q : i / w < n = div-lt-iff-lt-mul pos .1 h in
-          let r : i % w < w = mod-lt i pos in
-          ap (λ (x : ℕ). getD s x 0) (sym (div-add-mod' i w)) ∙ f (i / w) (i % w) q r ∙ sym (cell-read g (i / w) (i % w) q r)
-          ∙ ap (λ (x : ℕ). getD (table (n * w) 0 (placed w g)) x 0) (div-add-mod' i w)
+      (λ j t. let u : j < w = rw size at t in getD-part (table (n * w) 0 (placed w f)) (k * w) w j u ∙ cell-read w pos n f k j h u)
 
   -- a section is known by its n places
   pub by-places : (f g : ℕ → List ℕ) → ((k : ℕ) → k < n → f k ≡ g k) → table (n * w) 0 (placed w f) ≡ table (n * w) 0 (placed w g)
-  by-places f g e = by-cells (table (n * w) 0 (placed w f)) g (length-table (n * w) 0 (placed w f)) (λ k j h t. cell-read f k j h t ∙ ap (λ (x : List ℕ). getD x j 0) (e k h))
+  by-places f g e = by-cells w pos n (table (n * w) 0 (placed w f)) g (length-table (n * w) 0 (placed w f)) (λ k j h t. cell-read w pos n f k j h t ∙ ap (λ (x : List ℕ). getD x j 0) (e k h))
 
   -- a place stored
   pub place-store : (f g : ℕ → List ℕ) (k : ℕ) (bs : List ℕ) → k < n → length bs ≡ w → Stored f k bs g
       → patch (table (n * w) 0 (placed w f)) (k * w) bs ≡ table (n * w) 0 (placed w g)
-  place-store f g k bs h e s = by-cells (patch l (k * w) bs) g (length-patch l (k * w) bs (rw (e, long) (in-section k h)) ∙ long) (λ q r hq hr. go q r hq hr (same? q k))
+  place-store f g k bs h e s = by-cells w pos n (patch l (k * w) bs) g (length-patch l (k * w) bs (rw (e, long) (in-section k h)) ∙ long) (λ q r hq hr. go q r hq hr (same? q k))
     where
       l : List ℕ
       l = table (n * w) 0 (placed w f)
@@ -74,12 +55,12 @@ module _ (w : ℕ) (pos : 0 < w) (n : ℕ) where
 
       go : (q r : ℕ) → q < n → r < w → {b : Bool} → Same q k b → getD (patch l (k * w) bs) (q * w + r) 0 ≡ getD (g q) r 0
       go q r hq hr (same u) = rw u (getD-patch l (k * w) bs w r e (omega (arith, long, in-section k h)) hr ∙ ap (λ (x : List ℕ). getD x r 0) (sym (s .here)))
-      go q r hq hr (other u) = before q r u hr (below q k) ∙ cell-read f q r hq hr ∙ ap (λ (x : List ℕ). getD x r 0) (sym (s .there q u))
+      go q r hq hr (other u) = before q r u hr (below q k) ∙ cell-read w pos n f q r hq hr ∙ ap (λ (x : List ℕ). getD x r 0) (sym (s .there q u))
 
   -- a byte stored
   pub cell-store : (f g : ℕ → List ℕ) (k j v : ℕ) → k < n → j < w → length (f k) ≡ w → Stored f k (set (f k) j v) g
       → set (table (n * w) 0 (placed w f)) (k * w + j) v ≡ table (n * w) 0 (placed w g)
-  cell-store f g k j v h t e s = by-cells (set l (k * w + j) v) g (length-set l (k * w + j) v ∙ long) (λ q r hq hr. go q r hq hr (same? q k) (same? r j))
+  cell-store f g k j v h t e s = by-cells w pos n (set l (k * w + j) v) g (length-set l (k * w + j) v ∙ long) (λ q r hq hr. go q r hq hr (same? q k) (same? r j))
     where
       l : List ℕ
       l = table (n * w) 0 (placed w f)
@@ -89,7 +70,7 @@ module _ (w : ℕ) (pos : 0 < w) (n : ℕ) where
 
       -- another byte
       apart : (q r : ℕ) → q < n → r < w → q * w + r ≢ k * w + j → getD (set l (k * w + j) v) (q * w + r) 0 ≡ getD (f q) r 0
-      apart q r hq hr ne = getD-set-other l (k * w + j) (q * w + r) v 0 ne ∙ cell-read f q r hq hr
+      apart q r hq hr ne = getD-set-other l (k * w + j) (q * w + r) v 0 ne ∙ cell-read w pos n f q r hq hr
 
       go : (q r : ℕ) → q < n → r < w → {a b : Bool} → Same q k a → Same r j b → getD (set l (k * w + j) v) (q * w + r) 0 ≡ getD (g q) r 0
       go q r hq hr (same a) (same b) = rw (a, b) (getD-set-same l (k * w + j) v 0 (rw long (digits-lt h t)) ∙ sym (ap (λ (x : List ℕ). getD x j 0) (s .here) ∙ getD-set-same (f k) j v 0 (rw e t)))

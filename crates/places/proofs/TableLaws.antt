@@ -9,10 +9,11 @@ use lib.Seq.{getD-set-same, getD-set-other}
 use Rattle.rules.specs.Base.{put, table}
 use Rattle.rules.proofs.BaseLaws.{put-same, put-other}
 use Rattle.layout.specs.Codec.{headByte, valueByte, changeByte, headSection, valueSection, changeSection}
+use Rattle.layout.proofs.RecordLaws.{placed, cell-read}
 use Rattle.cells.specs.Part.{part, patch}
 use Rattle.cells.specs.Num.{le, num}
 use Rattle.cells.proofs.NumLaws.{length-le, num-le}
-use Rattle.places.proofs.PlaceLaws.{placed, Stored, cell-read, place-read, by-places, cell-store, place-store}
+use Rattle.places.proofs.PlaceLaws.{Stored, place-read, by-places, cell-store, place-store}
 use Rattle.places.proofs.ByteLaws.{le-byte}
 
 -- the bytes of a figure

@@ -9,7 +9,7 @@ use lib.Dec.{eqb}
 use borrow.Author.Tests.{eq-eqb, ne-eqb, eqb-true}
 use Rattle.rules.specs.Base.{exceeds}
 use Rattle.rules.specs.Locks.{contains}
-use Rattle.rules.proofs.BaseLaws.{over-false, within-of}
+use Rattle.rules.proofs.BaseLaws.{over-false, over-true}
 use Rattle.rules.proofs.SortLaws.{length-insert}
 use Rattle.cells.specs.Part.{part, patch}
 use Rattle.rows.specs.Rows.{Row, row, rowKey, rank, rowBytes, rowsBytes, rowAt, rows, standsAt, uniteRows, addRow, unlessOver, Stored}
@@ -30,14 +30,6 @@ united-other old more h = rw (ne-eqb old more h) (go (eqb old 3) (eqb-true old 3
     go : (b : Bool) → (b ≡ true → old ≡ 3) → 3 ≡ cond b old 3
     go true f = sym (f refl)
     go false f = refl
-
--- a figure above the largest, and one that is not
-pub exceeds-true : (m n : ℕ) → n < m → exceeds m n ≡ true
-exceeds-true m n h = go (exceeds m n) refl
-  where
-    go : (b : Bool) → exceeds m n ≡ b → b ≡ true
-    go true e = refl
-    go false e = absurd (omega (arith, within-of m n (ap not e)))
 
 -- a list that fits takes the other's place
 pub unless-fits {ℓ} : {A : Type ℓ} (most : ℕ) (new old : List A) → exceeds (length new) most ≡ false → unlessOver most new old ≡ new
@@ -69,7 +61,7 @@ module _ (l : List ℕ) (n : ℕ) (x : Row) (at : ℕ) (p : Placed l n x at) (mo
     where
       go : (u : Bool) → t ≡ u → u ≡ not (exceeds (length (addRow x (rows n l))) most)
       go true f = sym (ap not (over-false (length (addRow x (rows n l))) most (omega (arith, length-old l n x at p (sym et ∙ f)))))
-      go false f = sym (ap not (exceeds-true (length (addRow x (rows n l))) most (omega (arith, length-new l n x at p (sym et ∙ f)))))
+      go false f = sym (ap not (over-true (length (addRow x (rows n l))) most (omega (arith, length-new l n x at p (sym et ∙ f)))))
 
   module _ (few : n ≤ most) (room : 4 * most ≤ length l) where
     -- it stands: united
@@ -88,7 +80,7 @@ module _ (l : List ℕ) (n : ℕ) (x : Row) (at : ℕ) (p : Placed l n x at) (mo
     -- it does not, and the table is full: nothing changes
     pub add-full : t ≡ false → n ≡ most → Stored (unlessOver most (addRow x (rows n l)) (rows n l)) l n l
     add-full f e =
-        rw (unless-over most (addRow x (rows n l)) (rows n l) (exceeds-true (length (addRow x (rows n l))) most (omega (arith, length-new l n x at p (sym et ∙ f)))))
+        rw (unless-over most (addRow x (rows n l)) (rows n l) (over-true (length (addRow x (rows n l))) most (omega (arith, length-new l n x at p (sym et ∙ f)))))
         (record { count = sym (length-rows n l); bytes = sym (rows-same l n (omega arith)) })
 
     -- it does not, and there is room: put in

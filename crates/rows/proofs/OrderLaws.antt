@@ -1,16 +1,15 @@
 -- Where a key belongs among rows in order, and what putting a row there makes of them. Assumes nothing.
-use mathlib.Core.Path.{_≡_, refl, sym, ap, _∙_}
+use mathlib.Core.Path.{_≡_, refl, sym, ap}
 use mathlib.Core.Logic.{⊎-elim}
-use mathlib.Core.Bool.{Bool, true}
+use mathlib.Core.Bool.{true}
 use mathlib.Core.List.{List, _∷_, _++_}
 use Prim.Native.Nat.{ℕ, zero, suc, _+_, _-_, _*_, _≤_, _<_, Ordering, Ordering·lt, Ordering·eq, Ordering·gt}
 use native.Mathlib.Nat.{eq-or-lt-of-le}
 use native.Mathlib.Omega.{arith}
-use lib.ListN.{getD}
-use Rattle.rules.specs.Base.{Key, order, byOrder, isLt, all, table, insert, rising}
-use Rattle.rules.proofs.BaseLaws.{and-left, and-right}
-use Rattle.rules.proofs.SortLaws.{Before, by1, by2, by3, Ordered, below, equal, above, ordered, before-of-lt}
-use Rattle.rows.specs.Rows.{Row, rowKey, rankOf, rank, rowAt, rows, uniteRows, addRow}
+use Rattle.rules.specs.Base.{Key, order, byOrder, table, insert, rising}
+use Rattle.rules.proofs.SortLaws.{Before, by1, by2, by3, Ordered, below, equal, above, ordered, rising-at}
+use Rattle.layout.proofs.SectionLaws.{Bytes, length-table, getD-table0}
+use Rattle.rows.specs.Rows.{Row, row, rowKey, rankOf, rank, rowAt, rows, uniteRows, addRow}
 
 -- the three bytes of a row's key are below 256
 pub record Small (r : Row) : Type 0 where
@@ -18,17 +17,13 @@ pub record Small (r : Row) : Type 0 where
   pub s2 : r .k2 < 256
   pub s3 : r .k3 < 256
 
--- bytes
-abbrev pub Bytes : List ℕ → Type 0
-Bytes l = (i : ℕ) → getD l i 0 < 256
-
 -- a row of bytes has a small key
 pub small-at : (l : List ℕ) → Bytes l → (i : ℕ) → Small (rowAt l i)
 unfolding rowAt
 small-at l b i = record { s1 = b (4 * i); s2 = b (4 * i + 1); s3 = b (4 * i + 2) }
 
 -- the order of keys is that of their ranks
-rank-before : (a b : Row) → Small a → Small b → Before (rowKey a) (rowKey b) → rank a < rank b
+pub rank-before : (a b : Row) → Small a → Small b → Before (rowKey a) (rowKey b) → rank a < rank b
 unfolding rank rowKey
 rank-before a b s t (by1 h) = omega arith
 rank-before a b s t (by2 e h) = omega arith
@@ -41,6 +36,15 @@ rank-equal a b e = ap (λ (k : Key). rankOf (k .k1) (k .k2) (k .k3)) e
 
 module _ (a b : Row) (s : Small a) (t : Small b) where
   -- a lower rank is a lower key
+  pub before-rank : rank a < rank b → Before (rowKey a) (rowKey b)
+  before-rank h = go (ordered (rowKey a) (rowKey b))
+    where
+      go : {o : Ordering} → Ordered (rowKey a) (rowKey b) o → Before (rowKey a) (rowKey b)
+      go (below c) = c
+      go (equal e) = absurd (omega (arith, rank-equal a b e))
+      go (above c) = absurd (omega (arith, rank-before b a t s c))
+
+  -- as the order of keys says it
   order-lt : rank a < rank b → order (rowKey a) (rowKey b) ≡ Ordering·lt
   order-lt h = go (ordered (rowKey a) (rowKey b))
     where
@@ -68,30 +72,12 @@ module _ (a b : Row) (s : Small a) (t : Small b) where
       go (above _) = refl
 
 -- rows in rising order have rising ranks
-all-table {ℓ} : {A : Type ℓ} (p : A → Bool) (n i : ℕ) (f : ℕ → A) → all p (table n i f) ≡ true → (j : ℕ) → i ≤ j → j < i + n → p (f j) ≡ true
-unfolding all table
-all-table p zero i f e j h k = absurd (omega arith)
-all-table p (suc n) i f e j h k =
-    ⊎-elim
-    (λ q. ap (λ (x : ℕ). p (f x)) (sym q) ∙ and-left (p (f i)) (all p (table n (suc i) f)) e)
-    (λ q. all-table p n (suc i) f (and-right (p (f i)) (all p (table n (suc i) f)) e) j q (omega arith))
-    (eq-or-lt-of-le h)
-
--- each row of a rising table is before every later one
-rising-table : (n i : ℕ) (f : ℕ → Row) → rising rowKey (table n i f) ≡ true → (a b : ℕ) → i ≤ a → a < b → b < i + n → Before (rowKey (f a)) (rowKey (f b))
-unfolding rising table
-rising-table zero i f e a b h k m = absurd (omega arith)
-rising-table (suc n) i f e a b h k m =
-    let later : Bool = all (λ y. isLt (order (rowKey (f i)) (rowKey y))) (table n (suc i) f) in
-    ⊎-elim
-    (λ q. rw (← q) (before-of-lt (rowKey (f i)) (rowKey (f b)) (all-table (λ y. isLt (order (rowKey (f i)) (rowKey y))) n (suc i) f (and-left later (rising rowKey (table n (suc i) f)) e) b (omega arith) (omega arith))))
-    (λ q. rising-table n (suc i) f (and-right later (rising rowKey (table n (suc i) f)) e) a b q k (omega arith))
-    (eq-or-lt-of-le h)
-
--- so ranks rise
 pub ranks-rise : (l : List ℕ) (n : ℕ) → Bytes l → rising rowKey (rows n l) ≡ true → (i j : ℕ) → i < j → j < n → rank (rowAt l i) < rank (rowAt l j)
 unfolding rows
-ranks-rise l n b e i j h k = rank-before (rowAt l i) (rowAt l j) (small-at l b i) (small-at l b j) (rising-table n 0 (rowAt l) e i j (omega arith) h (omega arith))
+ranks-rise l n b e i j h k =
+    let none : Row = row 0 0 0 0 in
+    rank-before (rowAt l i) (rowAt l j) (small-at l b i) (small-at l b j)
+    (rw (getD-table0 n (rowAt l) i none (omega arith), getD-table0 n (rowAt l) j none k) at (rising-at rowKey none (table n 0 (rowAt l)) e i j h (rw length-table k)))
 
 -- a search by halves: the middle row is lower, or not
 module _ (l : List ℕ) (n : ℕ) (b : Bytes l) (e : rising rowKey (rows n l) ≡ true) (k mid : ℕ) (h : mid < n) where

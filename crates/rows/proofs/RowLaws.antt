@@ -4,12 +4,13 @@ use mathlib.Core.List.{List, [], _∷_, _++_, append-assoc}
 use Prim.Native.Nat.{ℕ, zero, suc, _+_, _-_, _*_, _≤_, _<_}
 use native.Mathlib.Omega.{arith}
 use lib.ListN.{length, take, drop, getD, replicate, length-append, length-replicate, take-append-drop, replicate-append-replicate}
-use lib.Seq.{take-add, drop-drop, drop-at, drop-append-add, length-take-le}
+use lib.Seq.{take-add, drop-drop, drop-at, drop-append-add}
 use Rattle.rules.specs.Base.{table}
 use Rattle.layout.proofs.SectionLaws.{length-table, table-list}
-use Rattle.layout.proofs.RecordLaws.{table-append}
+use Rattle.layout.proofs.RecordLaws.{table-append, flat}
 use Rattle.cells.specs.Part.{part, patch}
 use Rattle.cells.proofs.NumLaws.{part4}
+use Rattle.cells.proofs.CloseLaws.{flat-append}
 use Rattle.rows.specs.Rows.{Row, row, rowBytes, rowsBytes, rowAt, rows, Stored}
 
 -- how many
@@ -23,11 +24,15 @@ pub length-rows : (n : ℕ) (l : List ℕ) → length (rows n l) ≡ n
 unfolding rows
 length-rows n l = length-table n 0 (rowAt l)
 
+-- rows are records of four bytes
+pub bytes-flat : (rs : List Row) → rowsBytes rs ≡ flat rowBytes rs
+unfolding rowsBytes flat
+bytes-flat [] = refl
+bytes-flat (r ∷ rs) = ap (λ (t : List ℕ). rowBytes r ++ t) (bytes-flat rs)
+
 -- one after the other
 pub bytes-append : (rs qs : List Row) → rowsBytes (rs ++ qs) ≡ rowsBytes rs ++ rowsBytes qs
-unfolding rowsBytes
-bytes-append [] qs = refl
-bytes-append (r ∷ rs) qs = ap (λ (t : List ℕ). rowBytes r ++ t) (bytes-append rs qs) ∙ sym (append-assoc (rowBytes r) (rowsBytes rs) (rowsBytes qs))
+bytes-append rs qs = bytes-flat (rs ++ qs) ∙ flat-append rowBytes rs qs ∙ sym (ap₂ (λ (a b : List ℕ). a ++ b) (bytes-flat rs) (bytes-flat qs))
 
 -- the bytes of rows that stand in a section are a part of it
 pub row-part : (l : List ℕ) (i : ℕ) → 4 * i + 4 ≤ length l → rowBytes (rowAt l i) ≡ part l (4 * i) 4
@@ -66,13 +71,15 @@ pub rows-bytes : (rs : List Row) (t : List ℕ) → rows (length rs) (rowsBytes 
 unfolding rows
 rows-bytes rs t = table-list (row 0 0 0 0) rs (rowAt (rowsBytes rs ++ t)) (row-here rs t)
 
--- a section with its own first rows at its front is the section
+-- a section is the bytes of its first rows, and the rest
+pub rows-rest : (l : List ℕ) (n : ℕ) → 4 * n ≤ length l → rowsBytes (rows n l) ++ drop (4 * n) l ≡ l
+unfolding rows part
+rows-rest l n h = ap (λ (t : List ℕ). t ++ drop (4 * n) l) (bytes-part l n 0 (omega arith)) ∙ take-append-drop (4 * n) l
+
+-- so with its own first rows at its front it is the same
 pub rows-same : (l : List ℕ) (n : ℕ) → 4 * n ≤ length l → patch l 0 (rowsBytes (rows n l)) ≡ l
-unfolding patch rows part
-rows-same l n h =
-    ap (λ (t : List ℕ). t ++ drop (length t) l) (bytes-part l n 0 (omega arith))
-    ∙ ap (λ (k : ℕ). take (4 * n) l ++ drop k l) (length-take-le (4 * n) l h)
-    ∙ take-append-drop (4 * n) l
+unfolding patch
+rows-same l n h = ap (λ (k : ℕ). rowsBytes (rows n l) ++ drop k l) (length-bytes (rows n l) ∙ ap (λ (k : ℕ). 4 * k) (length-rows n l)) ∙ rows-rest l n h
 
 -- a section in three pieces: the rows before a place, those from there on, and the rest
 pub rows-split : (l : List ℕ) (n at : ℕ) → at ≤ n → rows n l ≡ table at 0 (rowAt l) ++ table (n - at) at (rowAt l)
@@ -84,15 +91,10 @@ rows-split l n at h =
 
 -- and its bytes
 pub pieces : (l : List ℕ) (n at : ℕ) → at ≤ n → 4 * n ≤ length l → l ≡ rowsBytes (table at 0 (rowAt l)) ++ (rowsBytes (table (n - at) at (rowAt l)) ++ drop (4 * n) l)
-unfolding patch
 pieces l n at h k =
-    sym (rows-same l n k)
-    ∙ ap (λ (t : List ℕ). t ++ drop (length t) l) (ap rowsBytes (rows-split l n at h) ∙ bytes-append (table at 0 (rowAt l)) (table (n - at) at (rowAt l)))
-    ∙ append-assoc (rowsBytes (table at 0 (rowAt l))) (rowsBytes (table (n - at) at (rowAt l))) _
-    ∙ ap (λ (m : ℕ). rowsBytes (table at 0 (rowAt l)) ++ (rowsBytes (table (n - at) at (rowAt l)) ++ drop m l)) long
-  where
-    long : length (rowsBytes (table at 0 (rowAt l)) ++ rowsBytes (table (n - at) at (rowAt l))) ≡ 4 * n
-    long = simp (length-append, length-bytes, length-table) (omega arith)
+    sym (rows-rest l n k)
+    ∙ ap (λ (t : List ℕ). t ++ drop (4 * n) l) (ap rowsBytes (rows-split l n at h) ∙ bytes-append (table at 0 (rowAt l)) (table (n - at) at (rowAt l)))
+    ∙ append-assoc (rowsBytes (table at 0 (rowAt l))) (rowsBytes (table (n - at) at (rowAt l))) (drop (4 * n) l)
 
 -- zeros at the end of a section
 pub patch-zeros : (xs ys : List ℕ) (k z : ℕ) → length xs ≤ length ys + z → length ys + z ≤ length xs + k

@@ -6,12 +6,14 @@ use Prim.Native.Nat.{ℕ, suc, _+_, _-_, _*_, _≤_, Ordering, Ordering·lt, Ord
 use native.Mathlib.Omega.{arith}
 use lib.ListN.{length, replicate, length-map}
 use Rattle.rules.specs.Base.{Key, order, byOrder, isLt, all, any, keep, exceeds, insert, rising}
+use Rattle.rules.specs.Sets.{Set}
 use Rattle.rules.proofs.BaseLaws.{within-of}
 use Rattle.rules.proofs.ListLaws.{length-keep}
 use Rattle.layout.proofs.RecordLaws.{flat}
 use Rattle.cells.specs.Part.{patch}
-use Rattle.rows.specs.Rows.{Row, rowKey, rowBytes, rowsBytes, rows, uniteRows, addRow, unlessOver, Stored, Closed, Holds}
+use Rattle.rows.specs.Rows.{Row, rowKey, rowBytes, rowsBytes, rows, uniteRows, addRow, unlessOver, spared, Stored, Closed, Holds}
 use Rattle.rows.proofs.RowLaws.{length-bytes, rows-bytes, patch-zeros}
+use Rattle.rows.proofs.CloseLaws.{closed-few}
 
 -- LISTS OF RECORDS AND OF THEIR ROWS
 module _ {A : Type 0} (f : A → Row) where
@@ -181,3 +183,10 @@ module _ {A : Type 0} (f : A → Row) (key : A → Key) (section : List A → Li
     table-added r after s =
         let e : unlessOver most (addRow (f x) (rows n bytes)) (rows n bytes) ≡ map f (unlessOver most (insert key unite x l) l) = ap₂ (unlessOver most) added table-rows ∙ unless-map f most (insert key unite x l) l in
         table-stored (unlessOver most (insert key unite x l) l) r after (omega (arith, unless-least most (insert key unite x l) l (length-least key unite x l))) (unless-most most (insert key unite x l) l (omega arith)) (rw e at s)
+
+-- what a set of changes leaves when it ends, where a record is left just where its row is spared
+pub table-left : {A : Type 0} (f : A → Row) (key : A → Key) (section : List A → List ℕ) (most : ℕ) → TableOf f key section most → (p : Set → A → Bool) → ((s : Set) (x : A) → spared s (f x) ≡ p s x)
+    → (s : Set) (n : ℕ) (bytes : List ℕ) → n ≤ most → (r : ℕ) (after : List ℕ) → Closed (spared s) n bytes r after
+    → (r ≤ n) × ((l : List A) → length l ≡ n → bytes ≡ section l → Holds section (keep (p s) l) r after)
+table-left f key section most t p h s n bytes few r after c =
+    (closed-few (spared s) n bytes r after c, λ l len is. table-closed f key section most t l n bytes len is few (spared s) (p s) (h s) r after c)

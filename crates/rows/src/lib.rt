@@ -19,7 +19,7 @@ fn key(a: u8, b: u8, c: u8) -> u32
 }
 
 // The key of the row at a place.
-fn key_at(s: &[u8], i: usize) -> u32
+pub fn key_at(s: &[u8], i: usize) -> u32
     requires { ⌜ 4 * i + 4 ≤ length (now s) ⌝ }
     ensures { λ r. ⌜ r ≡ rank (rowAt (now (s .entry)) i) ⌝ }
 {

@@ -5,7 +5,8 @@ use mathlib.Core.Bool.{Bool, true, false, not, cond, _&&_, _||_, false≢true}
 use Prim.Native.Nat.{ℕ, zero, suc, _≤_, _<_, zero-le, suc-le-suc}
 use native.Mathlib.Nat.{eq-or-lt-of-le, le-of-suc-le-suc, not-suc-le-zero}
 use native.Mathlib.Omega.{arith}
-use lib.Dec.{leb, ltb, eqb, T, eqb→eq, eqb-refl, leb→le, le→leb, nleb→lt, ltb→lt, nltb→le}
+use lib.Dec.{leb, ltb, eqb, T, ltb→lt, nltb→le}
+use borrow.Author.Tests as tests
 use Rattle.rules.specs.Base.{put, allBelow, anyBelow, countBelow, exceeds as above}
 
 pub or-left : (a b : Bool) → a ≡ true → a || b ≡ true
@@ -59,12 +60,13 @@ and-five a b c d x e = let f = and-four a b c d (and-left (a && b && c && d) x e
 
 -- tests that failed
 pub not-true : (b : Bool) → not b ≡ true → b ≡ false
-not-true true e = absurd (false≢true e)
-not-true false e = refl
+not-true = tests.not-true
 
 pub not-false : (b : Bool) → not b ≡ false → b ≡ true
-not-false true e = refl
-not-false false e = absurd (false≢true (sym e))
+not-false = tests.not-false
+
+pub never : (b : Bool) → b ≡ true → not b ≡ true → ⊥
+never b p q = false≢true (rw p at q)
 
 pub or-false-left : (a b : Bool) → a || b ≡ false → a ≡ false
 or-false-left true b e = e
@@ -87,34 +89,30 @@ both-ways true false f g = sym (f refl)
 both-ways false true f g = g refl
 both-ways false false f g = refl
 
-pub of-T : (b : Bool) → T b → b ≡ true
-of-T true t = refl
-of-T false t = absurd t
-
 pub to-T : (b : Bool) → b ≡ true → T b
 to-T b e = rw e tt
 
 pub eqb-same : (c : ℕ) → eqb c c ≡ true
-eqb-same c = of-T (eqb c c) (eqb-refl c)
+eqb-same c = tests.eq-eqb c c refl
 
 pub eqb-eq : (c d : ℕ) → eqb c d ≡ true → c ≡ d
-eqb-eq c d e = eqb→eq c d (to-T (eqb c d) e)
+eqb-eq = tests.eqb-true
 
 -- a test as a fact of numbers, and back
 pub le-of : (m n : ℕ) → leb m n ≡ true → m ≤ n
-le-of m n e = leb→le m n (to-T (leb m n) e)
+le-of = tests.leb-true
 
 pub lt-of : (m n : ℕ) → ltb m n ≡ true → m < n
-lt-of m n e = ltb→lt m n (to-T (ltb m n) e)
+lt-of = tests.ltb-true
 
 pub ge-of : (m n : ℕ) → ltb m n ≡ false → n ≤ m
-ge-of m n e = nltb→le m n (to-T (not (ltb m n)) (ap not e))
+ge-of = tests.ltb-false
 
 pub gt-of : (m n : ℕ) → leb m n ≡ false → n < m
-gt-of m n e = nleb→lt m n (to-T (not (leb m n)) (ap not e))
+gt-of = tests.leb-false
 
 pub leb-true : (m n : ℕ) → m ≤ n → leb m n ≡ true
-leb-true m n h = of-T (leb m n) (le→leb m n h)
+leb-true = tests.le-leb
 
 -- a test against a bound
 pub data Below (e n : ℕ) : Bool → Type 0 where
@@ -129,18 +127,10 @@ below e n = go (ltb e n) (ltb→lt e n) (nltb→le e n)
     go false f g = over (g tt)
 
 pub ltb-true : (e n : ℕ) → e < n → ltb e n ≡ true
-ltb-true e n h = go (below e n)
-  where
-    go : {b : Bool} → Below e n b → b ≡ true
-    go (under k) = refl
-    go (over k) = absurd (omega arith)
+ltb-true = tests.lt-ltb
 
 pub ltb-false : (e n : ℕ) → n ≤ e → ltb e n ≡ false
-ltb-false e n h = go (below e n)
-  where
-    go : {b : Bool} → Below e n b → b ≡ false
-    go (under k) = absurd (omega arith)
-    go (over k) = refl
+ltb-false = tests.le-ltb
 
 -- two numbers are the same, or not
 pub data Same (a b : ℕ) : Bool → Type 0 where
@@ -155,14 +145,17 @@ same? a b = go (eqb a b) refl
     go false e = other (λ q. false≢true (sym e ∙ (rw q (eqb-same b))))
 
 pub ne-of : (a b : ℕ) → eqb a b ≡ false → a ≢ b
-ne-of a b e q = false≢true (sym e ∙ rw q (eqb-same b))
+ne-of = tests.eqb-false
 
 pub eqb-other : (a b : ℕ) → a ≢ b → eqb a b ≡ false
-eqb-other a b h = go (same? a b)
+eqb-other = tests.ne-eqb
+
+pub eqb-sym : (a b : ℕ) → eqb a b ≡ eqb b a
+eqb-sym a b = go (same? a b)
   where
-    go : {x : Bool} → Same a b x → x ≡ false
-    go (same e) = absurd (h e)
-    go (other n) = refl
+    go : {x : Bool} → Same a b x → x ≡ eqb b a
+    go (same e) = sym (rw e (eqb-same b))
+    go (other n) = sym (eqb-other b a (λ q. n (sym q)))
 
 -- for all below a bound
 pub allBelow-intro : (n : ℕ) (p : ℕ → Bool) → ((c : ℕ) → c < n → p c ≡ true) → allBelow n p ≡ true
@@ -185,6 +178,12 @@ unfolding above
 over-false zero n h = refl
 over-false (suc m) zero h = absurd (not-suc-le-zero h)
 over-false (suc m) (suc n) h = over-false m n (le-of-suc-le-suc h)
+
+pub over-true : (m n : ℕ) → n < m → above m n ≡ true
+unfolding above
+over-true zero n h = absurd (not-suc-le-zero h)
+over-true (suc m) zero h = refl
+over-true (suc m) (suc n) h = over-true m n (le-of-suc-le-suc h)
 
 pub within-of : (m n : ℕ) → not (above m n) ≡ true → m ≤ n
 unfolding above

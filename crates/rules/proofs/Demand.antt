@@ -13,13 +13,14 @@ use Rattle.rules.specs.Effects.{endAll, addChange, handOver}
 use Rattle.rules.specs.Refusals.{step}
 use Rattle.rules.specs.Events.{Event, Action, opening, initiating, other as nothing, locking, permitting, delegating, tying, actionOf, action, isOpening, isTying, highestAfter}
 use Rattle.rules.specs.Lists.{status, remember, event, history, tieMade, enter, strike, book, highest, isGrouped, firstOfGroup, liveGroups, walks, Demand3After, Demand3, final}
-use Rattle.rules.proofs.BaseLaws.{none-below, within-of, or-cases, and-both, and-left, and-right, any-intro, Within, count-within}
+use Rattle.rules.proofs.BaseLaws.{never, none-below, within-of, or-cases, and-both, and-left, and-right, any-intro, Within, count-within}
 use Rattle.rules.proofs.DemandBook.{bookOf, strike-same, book-next, clash-permitted}
 use Rattle.rules.proofs.DemandEnds.{endingOf, fresh-tie}
-use Rattle.rules.proofs.DemandMoves.{shownStatus, status-shown, Move, opened, started, calm, locked, granted, handed, tied, committed, aborted, move, live-unended, live-status, given-live}
+use Rattle.rules.proofs.DemandMoves.{shownStatus, status-shown, Move, opened, started, calm, locked, granted, handed, tied, committed, aborted, move, live-not, live-status, given-live}
 use Rattle.rules.proofs.DemandTies.{TieHistory, Bound, stands, over as gone, story-next, story-fresh, story-lasts, story-groups, story-falls, story-waits}
 use Rattle.rules.proofs.DemandWalks.{final-append, firstInGroup, groupCount, all-end}
-use Rattle.rules.proofs.SetLaws.{reach-seed, reach-closed, reach-least}
+use Rattle.rules.proofs.SetLaws.{reach-closed, reach-least}
+use Rattle.rules.proofs.TieLaws.{group-seed}
 use Rattle.rules.proofs.SoundParts.{live-below, Sound, live-change}
 use Rattle.rules.proofs.SoundStep.{step-sound, opened-sound, opened-fresh, group-live}
 use Rattle.rules.proofs.SourceLaws.{grouped-both}
@@ -115,19 +116,16 @@ module _ (L : Limits) where
 
   -- grouped live changes are one group of the window
   module _ (W : Window) (p : List Event) (v : Inv L W p) where
-    dead-not : (x : ℕ) → live W x ≡ true → isEnded (shownStatus W x) ≡ true → ⊥
-    dead-not x l h = true≢false (sym h ∙ live-unended W x l)
-
     tied-now : (x y : ℕ) → live W x ≡ true → tieMade p 3 x y || tieMade p 3 y x ≡ true → grouped (W .ties) x y ≡ true
     tied-now x y l e = ⊎-elim (λ q. forth (v .story .bound x y q)) (λ q. back (v .story .bound y x q)) (or-cases (tieMade p 3 x y) _ e)
       where
         forth : Bound W p x y → grouped (W .ties) x y ≡ true
         forth (stands a b g) = g
-        forth (gone a b t) = absurd (dead-not x l a)
+        forth (gone a b t) = absurd (live-not W x l a)
 
         back : Bound W p y x → grouped (W .ties) x y ≡ true
         back (stands a b g) = grouped-both (W .ties) y x g
-        back (gone a b t) = absurd (dead-not x l (ap isEnded b ∙ a))
+        back (gone a b t) = absurd (live-not W x l (ap isEnded b ∙ a))
 
     group-step : (c x y : ℕ) → live W c ≡ true → x < suc (W .given) → y < suc (W .given) → groupOf W c x ≡ true → tieMade p 3 x y || tieMade p 3 y x ≡ true → groupOf W c y ≡ true
     group-step c x y lc hx hy g e = next (tied-now x y (group-live L W (v .sound) c lc x g) e)
@@ -135,13 +133,9 @@ module _ (L : Limits) where
         next : grouped (W .ties) x y ≡ true → groupOf W c y ≡ true
         next t = unfold groupOf in reach-closed (suc (W .given)) (grouped (W .ties)) c x y hx hy g t
 
-    seed : (c : ℕ) → groupOf W c c ≡ true
-    unfolding groupOf
-    seed c = reach-seed (suc (W .given)) (grouped (W .ties)) c
-
     grouped-in : (c d : ℕ) → live W c ≡ true → d < suc (W .given) → isGrouped p c d ≡ true → groupOf W c d ≡ true
     unfolding isGrouped
-    grouped-in c d lc hd e = reach-least (suc (W .given)) (λ a b. tieMade p 3 a b || tieMade p 3 b a) c (groupOf W c) (seed c) (λ x y hx hy g t. group-step c x y lc hx hy g t) d hd (rw (v .top) at e)
+    grouped-in c d lc hd e = reach-least (suc (W .given)) (λ a b. tieMade p 3 a b || tieMade p 3 b a) c (groupOf W c) (group-seed W c) (λ x y hx hy g t. group-step c x y lc hx hy g t) d hd (rw (v .top) at e)
 
     heads-lead : Within (suc (W .given)) (firstInGroup W) (firstOfGroup p)
     unfolding firstInGroup firstOfGroup
@@ -152,9 +146,6 @@ module _ (L : Limits) where
         never (anyBelow c (λ x. live W x && groupOf W c x))
         (any-intro c (λ x. live W x && groupOf W c x) d j (and-both (live W d) _ ld (grouped-in c d l (live-below W d ld) (and-right (isLive (status p d)) _ e))))
         (and-right (live W c) _ h))))
-      where
-        never : (b : Bool) → b ≡ true → not b ≡ true → ⊥
-        never b q r = false≢true (rw q at r)
 
     fewer : groupCount W ≤ liveGroups p
     unfolding groupCount liveGroups

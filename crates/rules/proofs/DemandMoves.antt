@@ -79,6 +79,9 @@ live-unended W c h = go (noChange W c)
     go true = zero-live
     go false = not-ended (W .status c) (live-status W c h)
 
+pub live-not : (W : Window) (c : ℕ) → live W c ≡ true → isEnded (shownStatus W c) ≡ true → ⊥
+live-not W c l h = true≢false (sym h ∙ live-unended W c l)
+
 -- a status that stays live
 calm-status : (W : Window) (c s : ℕ) → live W c ≡ true → isLive s ≡ true → Calm W (withStatus W (put (W .status) c s))
 unfolding withStatus shownStatus live noChange put isEnded

@@ -15,7 +15,7 @@ use Rattle.rules.specs.Events.{Event, action, isTying}
 use Rattle.rules.specs.Lists.{status, endedAs, endedAt, tieMade, Grouped, itself, along, against}
 use Rattle.rules.proofs.BaseLaws.{or-left, or-right, or-cases, and-left, and-right, eqb-eq, eqb-other, Same, same, other, same?}
 use Rattle.rules.proofs.DemandEnds.{how-ended, Ending, New, ofKind}
-use Rattle.rules.proofs.DemandMoves.{shownStatus, live-unended}
+use Rattle.rules.proofs.DemandMoves.{shownStatus, live-unended, live-not}
 use Rattle.rules.proofs.SourceLaws.{grouped-both}
 
 -- what an arrow's leader has come to when its follower may commit
@@ -104,9 +104,6 @@ module _ (W X : Window) (s : Set) (how : ℕ) (P : Ending W X s how) (p : List E
       go false i false j true k = absurd (true≢false (sym (P .fewer c i k) ∙ j))
       go false i false j false k = let z = S .yet c j in going i j k z (at-first e p c z ∙ rw (shows c, k))
 
-  live-not : (c : ℕ) → live W c ≡ true → isEnded (shownStatus W c) ≡ true → ⊥
-  live-not c l h = true≢false (sym h ∙ live-unended W c l)
-
   past-next : (c : ℕ) → isEnded (shownStatus X c) ≡ true → (0 < endedAt (e ∷ p) c) × (endedAt (e ∷ p) c ≤ suc (length p))
   past-next c h = go (now c)
     where
@@ -140,20 +137,20 @@ module _ (W X : Window) (s : Set) (how : ℕ) (P : Ending W X s how) (p : List E
   bound-next l f (stands a b g) = go (now l) (now f)
     where
       go : Now l → Now f → Bound X (e ∷ p) l f
-      go (gone j k t) y = absurd (live-not l a j)
-      go (ending i l′ k x z t) (gone j k′ t′) = absurd (live-not f b j)
+      go (gone j k t) y = absurd (live-not W l a j)
+      go (ending i l′ k x z t) (gone j k′ t′) = absurd (live-not W f b j)
       go (ending i l′ k x z t) (ending i′ l″ k′ x′ z′ t′) = over (ap isEnded k ∙ x) (k′ ∙ sym k) (t′ ∙ sym t)
       go (ending i l′ k x z t) (going i′ j′ k′ z′ t′) = absurd (true≢false (sym (P .together l f a b g i) ∙ i′))
-      go (going i j k z t) (gone j′ k′ t′) = absurd (live-not f b j′)
+      go (going i j k z t) (gone j′ k′ t′) = absurd (live-not W f b j′)
       go (going i j k z t) (ending i′ l″ k′ x′ z′ t′) = absurd (true≢false (sym (P .together f l b a (grouped-both (W .ties) l f g) i′) ∙ i))
       go (going i j k z t) (going i′ j′ k′ z′ t′) = stands (P .on l i a) (P .on f i′ b) (grouped-next l f i i′ g)
   bound-next l f (over a b t) = go (now l) (now f)
     where
       go : Now l → Now f → Bound X (e ∷ p) l f
-      go (ending i l′ k x z t′) y = absurd (live-not l l′ a)
+      go (ending i l′ k x z t′) y = absurd (live-not W l l′ a)
       go (going i j k z t′) y = absurd (true≢false (sym a ∙ j))
       go (gone j k t′) (gone j′ k′ t″) = over (ap isEnded k ∙ a) (k′ ∙ b ∙ sym k) (t″ ∙ t ∙ sym t′)
-      go (gone j k t′) (ending i′ l″ k′ x′ z′ t″) = absurd (live-not f l″ (ap isEnded b ∙ a))
+      go (gone j k t′) (ending i′ l″ k′ x′ z′ t″) = absurd (live-not W f l″ (ap isEnded b ∙ a))
       go (gone j k t′) (going i′ j′ k′ z′ t″) = absurd (true≢false (sym a ∙ ap isEnded (sym b) ∙ j′))
 
   passes-4 : (k : ℕ) → passes k 4 ≡ true
@@ -177,21 +174,21 @@ module _ (W X : Window) (s : Set) (how : ℕ) (P : Ending W X s how) (p : List E
       leaves i u v w (inr q) false y = led (ap (passes k) (i ∙ q) ∙ passes-5 k y) (inl w)
 
       go : Now f → Now l → Led X (e ∷ p) k l f
-      go (gone j k′ t′) y = absurd (live-not f b j)
+      go (gone j k′ t′) y = absurd (live-not W f b j)
       go (ending i l′ k′ x′ z t′) y = ⊎-elim (λ q. absurd (P .unled k l f r a t q i)) (λ q. fell (k′ ∙ q)) (P .way)
-      go (going i′ j′ k″ z′ t″) (gone j k′ t′) = absurd (live-not l a j)
+      go (going i′ j′ k″ z′ t″) (gone j k′ t′) = absurd (live-not W l a j)
       go (going i′ j′ k″ z′ t″) (ending i l′ k′ x′ z t′) = leaves k′ i i′ k″ (P .way) (eqb k 2) refl
       go (going i′ j′ k″ z′ t″) (going i j k′ z t′) = stands (P .on l i a) (P .on f i′ b) (P .ties (ofKind k) l f i i′ t)
   led-next k l f r (fell h) = go (now f)
     where
       go : Now f → Led X (e ∷ p) k l f
       go (gone j k′ t) = fell (k′ ∙ h)
-      go (ending i l′ k′ x z t) = absurd (live-not f l′ (ap isEnded h ∙ ended-5))
+      go (ending i l′ k′ x z t) = absurd (live-not W f l′ (ap isEnded h ∙ ended-5))
       go (going i j k′ z t) = absurd (true≢false (sym ended-5 ∙ ap isEnded (sym h) ∙ j))
   led-next k l f r (led a b) = go (now l) (now f) b
     where
       go : Now l → Now f → (isEnded (shownStatus W f) ≡ false) ⊎ (endedAt p l < endedAt p f) → Led X (e ∷ p) k l f
-      go (ending i l′ k′ x z t) y c = absurd (live-not l l′ (passes-ended k (shownStatus W l) a))
+      go (ending i l′ k′ x z t) y c = absurd (live-not W l l′ (passes-ended k (shownStatus W l) a))
       go (going i j k′ z t) y c = absurd (true≢false (sym (passes-ended k (shownStatus W l) a) ∙ j))
       go (gone j k′ t) (gone j′ k″ t′) (inl c) = absurd (true≢false (sym j′ ∙ c))
       go (gone j k′ t) (gone j′ k″ t′) (inr c) = led (ap (passes k) k′ ∙ a) (inr (rw (t, t′) c))

@@ -16,16 +16,16 @@ use Rattle.rules.specs.Calls.{Call, Commit, done, unchanged}
 use Rattle.rules.specs.Effects.{effect, commitChange, commitBlockers, commitGroup, endAll}
 use Rattle.rules.specs.Refusals.{step, settle, checks, firstFailed, _if_}
 use Rattle.rules.specs.Lists.{final, walks}
-use Rattle.rules.proofs.BaseLaws.{not-true, none-below, or-none, or-left, or-right, or-cases, and-both, and-left, and-right, Same, same, other, same?, ltb-true, any-intro, any-elim, Within, count-within, count-same}
+use Rattle.rules.proofs.BaseLaws.{not-true, never, none-below, or-none, or-left, or-right, or-cases, and-both, and-left, and-right, Same, same, other, same?, ltb-true, any-intro, any-elim, Within, count-within, count-same}
 use Rattle.rules.proofs.DemandEnds.{Ending, commit-ending}
 use Rattle.rules.proofs.DemandMoves.{shownStatus, live-unended, live-status, not-ended}
 use Rattle.rules.proofs.ListLaws.{all-weaken, all-and, any-weaken}
-use Rattle.rules.proofs.SetLaws.{Closed, reach-seed, reach-closed, reach-least}
+use Rattle.rules.proofs.SetLaws.{Closed, reach-closed, reach-least}
 use Rattle.rules.proofs.SoundEnd.{end-sound}
 use Rattle.rules.proofs.SoundParts.{live-below, Sound, live-zero, live-change, live-of, ends-live, tie-parts}
 use Rattle.rules.proofs.SoundStep.{group-live}
 use Rattle.rules.proofs.SourceLaws.{blocked, fineTie, source, reach-back, reach-through, grouped-both}
-use Rattle.rules.proofs.TieLaws.{grouped-ends, arrows-tied}
+use Rattle.rules.proofs.TieLaws.{grouped-ends, arrows-tied, group-seed}
 
 -- the live changes with which no lower live one is grouped, and how many
 unfoldable pub firstInGroup : Window → ℕ → Bool
@@ -54,15 +54,11 @@ module _ (L : Limits) (W : Window) (z : Sound L W) where
   unfolding groupOf
   group-through c d x lx e = reach-through (suc (W .given)) (grouped (W .ties)) c d e x (live-below W x lx)
 
-  group-seed : (c : ℕ) → groupOf W c c ≡ true
-  unfolding groupOf
-  group-seed c = reach-seed (suc (W .given)) (grouped (W .ties)) c
-
   -- the head of a live change's group
   head-of : (c : ℕ) → live W c ≡ true → (h : ℕ) × (groupOf W c h ≡ true) × (firstInGroup W h ≡ true)
   unfolding firstInGroup
   head-of c lc =
-      let r = lowest (groupOf W c) (suc (W .given)) c (live-below W c lc) (group-seed c) in
+      let r = lowest (groupOf W c) (suc (W .given)) c (live-below W c lc) (group-seed W c) in
       let lh = group-live L W z c lc (r .0) (r .2) in (
         r .0,
         r .2,
@@ -116,10 +112,6 @@ module _ (L : Limits) (W : Window) (z : Sound L W) where
     grouped-still a b na nb g = ⊎-elim (λ q. or-left (tied (X .ties) isGroup a b) _ (P .ties isGroup a b na nb q))
         (λ q. or-right (tied (X .ties) isGroup a b) _ (P .ties isGroup b a nb na q)) (or-cases (tied (W .ties) isGroup a b) _ g)
 
-    still-seed : (a : ℕ) → groupOf X a a ≡ true
-    unfolding groupOf
-    still-seed a = reach-seed (suc (X .given)) (grouped (X .ties)) a
-
     still-step : (a x y : ℕ) → x < suc (W .given) → y < suc (W .given) → groupOf X a x ≡ true → grouped (X .ties) x y ≡ true → groupOf X a y ≡ true
     unfolding groupOf X endAll
     still-step a x y hx hy = reach-closed (suc (W .given)) (grouped (X .ties)) a x y hx hy
@@ -140,7 +132,7 @@ module _ (L : Limits) (W : Window) (z : Sound L W) where
 
     beside-seed : (a : ℕ) → live W a ≡ true → groupOf W c a ≡ false → beside a a ≡ true
     unfolding beside
-    beside-seed a la n = rw (still-seed a, n, la)
+    beside-seed a la n = rw (group-seed X a, n, la)
 
     beside-all : (a b : ℕ) → live W a ≡ true → groupOf W c a ≡ false → b < suc (W .given) → groupOf W a b ≡ true → beside a b ≡ true
     unfolding groupOf
@@ -159,9 +151,6 @@ module _ (L : Limits) (W : Window) (z : Sound L W) where
         (λ x j q. let l = and-left (live W x) _ q in let g = and-right (live W x) _ q in
         let n = not-in d x (o .1) l (o .0) g in
         never (anyBelow d (λ y. live X y && groupOf X d y)) (any-intro d (λ y. live X y && groupOf X d y) x j (and-both (live X x) _ (P .on x n l) (group-still d x (o .1) l (o .0) g))) (and-right (live X d) _ e))))
-      where
-        never : (b : Bool) → b ≡ true → not b ≡ true → ⊥
-        never b p q = false≢true (rw p at q)
 
     out-4 : (d : ℕ) → groupOf W c d ≡ true → live X d ≡ true → ⊥
     out-4 d g l = true≢false (sym g ∙ out d l .0)

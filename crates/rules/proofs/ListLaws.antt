@@ -3,10 +3,11 @@ use mathlib.Core.Path.{_≡_, refl, ap}
 use mathlib.Core.Logic.{⊎-elim}
 use mathlib.Core.Bool.{Bool, true, false, not, cond, _&&_, _||_, false≢true}
 use mathlib.Core.List.{List, [], _∷_, _++_, map, List·Memᴰ, List·Memᴰ·head, List·Memᴰ·tail}
-use Prim.Native.Nat.{ℕ, zero, suc, _+_, _≤_}
+use Prim.Native.Nat.{ℕ, zero, suc, _+_, _≤_, _<_}
+use native.Mathlib.Nat.{not-suc-le-zero, le-of-suc-le-suc}
 use native.Mathlib.Omega.{arith}
 use lib.ListN.{length, getD}
-use Rattle.rules.specs.Base.{exceeds, all, any, keep}
+use Rattle.rules.specs.Base.{exceeds, all, any, keep, table}
 use Rattle.rules.proofs.BaseLaws.{or-left, or-right, or-cases, and-both, and-left, and-right, over-less}
 
 module _ {ℓ} {A : Type ℓ} where
@@ -89,16 +90,49 @@ module _ {ℓ} {A : Type ℓ} where
   find p q [] e h = absurd (false≢true e)
   find p q (x ∷ l) e h = ⊎-elim (λ a. (x, a, and-left (q x) (all q l) h)) (λ a. find p q l a (and-right (q x) (all q l) h)) (or-cases (p x) (any p l) e)
 
+  -- two lists, one after the other
+  pub all-join : (p : A → Bool) (l m : List A) → all p l ≡ true → all p m ≡ true → all p (l ++ m) ≡ true
+  unfolding all
+  all-join p [] m d e = e
+  all-join p (x ∷ l) m d e = and-both (p x) (all p (l ++ m)) (and-left (p x) (all p l) d) (all-join p l m (and-right (p x) (all p l) d) e)
+
   pub all-append : (p : A → Bool) (l : List A) (x : A) → all p l ≡ true → p x ≡ true → all p (l ++ (x ∷ [])) ≡ true
   unfolding all
-  all-append p [] x e h = and-both (p x) true h refl
-  all-append p (y ∷ l) x e h = and-both (p y) (all p (l ++ (x ∷ []))) (and-left (p y) (all p l) e) (all-append p l x (and-right (p y) (all p l) e) h)
+  all-append p l x e h = all-join p l (x ∷ []) e (and-both (p x) true h refl)
 
   pub all-getD : (p : A → Bool) (l : List A) (j : ℕ) (d : A) → all p l ≡ true → p d ≡ true → p (getD l j d) ≡ true
   unfolding all
   all-getD p [] j d e h = h
   all-getD p (x ∷ l) zero d e h = and-left (p x) (all p l) e
   all-getD p (x ∷ l) (suc j) d e h = all-getD p l j d (and-right (p x) (all p l) e) h
+
+  -- tests of all and of some, by places
+  pub all-at : (p : A → Bool) (d : A) (l : List A) → all p l ≡ true → (j : ℕ) → j < length l → p (getD l j d) ≡ true
+  unfolding all
+  all-at p d [] e j h = absurd (not-suc-le-zero h)
+  all-at p d (x ∷ l) e zero h = and-left (p x) (all p l) e
+  all-at p d (x ∷ l) e (suc j) h = all-at p d l (and-right (p x) (all p l) e) j (le-of-suc-le-suc h)
+
+  pub all-places : (p : A → Bool) (d : A) (l : List A) → ((j : ℕ) → j < length l → p (getD l j d) ≡ true) → all p l ≡ true
+  unfolding all
+  all-places p d [] h = refl
+  all-places p d (x ∷ l) h = and-both (p x) (all p l) (h 0 (omega arith)) (all-places p d l (λ j m. h (suc j) (omega arith)))
+
+  pub all-table : (p : A → Bool) (f : ℕ → A) (n i : ℕ) → ((j : ℕ) → i ≤ j → j < i + n → p (f j) ≡ true) → all p (table n i f) ≡ true
+  unfolding all table
+  all-table p f zero i h = refl
+  all-table p f (suc n) i h = and-both (p (f i)) _ (h i (omega arith) (omega arith)) (all-table p f n (suc i) (λ j a b. h j (omega arith) (omega arith)))
+
+  pub any-at : (p : A → Bool) (d : A) (l : List A) (j : ℕ) → j < length l → p (getD l j d) ≡ true → any p l ≡ true
+  unfolding any
+  any-at p d [] j h e = absurd (not-suc-le-zero h)
+  any-at p d (x ∷ l) zero h e = or-left (p x) (any p l) e
+  any-at p d (x ∷ l) (suc j) h e = or-right (p x) (any p l) (any-at p d l j (le-of-suc-le-suc h) e)
+
+  pub any-place : (p : A → Bool) (d : A) (l : List A) → any p l ≡ true → (j : ℕ) × (j < length l) × (p (getD l j d) ≡ true)
+  unfolding any
+  any-place p d [] e = absurd (false≢true e)
+  any-place p d (x ∷ l) e = ⊎-elim (λ q. (0, omega arith, q)) (λ q. let m = any-place p d l q in (suc (m .0), omega (arith, m .1), m .2)) (or-cases (p x) (any p l) e)
 
   pub length-append-one : (l : List A) (x : A) → length (l ++ (x ∷ [])) ≡ suc (length l)
   length-append-one [] x = refl

@@ -72,12 +72,16 @@ pub data Arrows (ts : List TieRecord) (x : ℕ) : ℕ → Type 0 where
   one : {y : ℕ} → Arrow ts x y → Arrows ts x y
   more : {y z : ℕ} → Arrows ts x y → Arrow ts y z → Arrows ts x z
 
+-- no arrow's follower leads to its leader
+abbrev pub NoReturn : List TieRecord → Type 0
+NoReturn ts = (l f : ℕ) → tied ts isArrow l f ≡ true → Way (leading ts) f l → ⊥
+
 module _ (ts : List TieRecord) where
   by-group : (a b : ℕ) → grouped ts a b ≡ true → leading ts a b ≡ true
   unfolding leading
   by-group a b e = or-left (grouped ts a b) (tied ts isArrow a b) e
 
-  by-arrow : (a b : ℕ) → tied ts isArrow a b ≡ true → leading ts a b ≡ true
+  pub by-arrow : (a b : ℕ) → tied ts isArrow a b ≡ true → leading ts a b ≡ true
   unfolding leading
   by-arrow a b e = or-right (grouped ts a b) (tied ts isArrow a b) e
 
@@ -111,9 +115,10 @@ module _ (ts : List TieRecord) where
     pub leading-bounded : Bounded n (leading ts)
     leading-bounded a b e = let m = leading-ends (λ x. ltb x n) ts ends a b e in (lt-of a n (m .0), lt-of b n (m .1))
 
-    clear : acyclic n ts ≡ true → (l f : ℕ) → tied ts isArrow l f ≡ true → Way (leading ts) f l → ⊥
+    -- acyclic ties have none that returns
+    pub acyclic-clear : acyclic n ts ≡ true → NoReturn ts
     unfolding acyclic tied
-    clear h l f e p = let m = find _ (λ t. not (isArrow t.kind) || not (reach n (leading ts) t.follower t.leader)) ts e h in go (m .0) (m .1) (m .2)
+    acyclic-clear h l f e p = let m = find _ (λ t. not (isArrow t.kind) || not (reach n (leading ts) t.follower t.leader)) ts e h in go (m .0) (m .1) (m .2)
       where
         go : (t : TieRecord) → isArrow t.kind && eqb t.leader l && eqb t.follower f ≡ true → not (isArrow t.kind) || not (reach n (leading ts) t.follower t.leader) ≡ true → ⊥
         go t x y =
@@ -121,12 +126,18 @@ module _ (ts : List TieRecord) where
             let z = rw (and-left (isArrow t.kind) (eqb t.leader l) u, eqb-eq t.leader l (and-right (isArrow t.kind) (eqb t.leader l) u), eqb-eq t.follower f (and-right (isArrow t.kind && eqb t.leader l) (eqb t.follower f) x)) at y in
             false≢true (rw (reach-ways n (leading ts) leading-bounded f l .1 p) at z)
 
+    -- and where none returns they are acyclic
+    pub clear-acyclic : NoReturn ts → acyclic n ts ≡ true
+    unfolding acyclic
+    clear-acyclic h = all-members _ ts (λ t i. go t i (isArrow t.kind) refl)
+      where
+        go : (t : TieRecord) → List·Memᴰ t ts → (b : Bool) → isArrow t.kind ≡ b → not b || not (reach n (leading ts) t.follower t.leader) ≡ true
+        go t i false e = refl
+        go t i true e = rw (no-true (reach n (leading ts) t.follower t.leader) (λ q. h t.leader t.follower (stands-tied isArrow i e) (reach-ways n (leading ts) leading-bounded t.follower t.leader .0 q)))
+
     -- "no path of arrows returns to its group"
     pub acyclic-paths : acyclic n ts ≡ true ↔ ((x : ℕ) → Arrows ts x x → ⊥)
-    unfolding acyclic
-    acyclic-paths = (λ h x p. let m = first p in clear h (m .0) (m .1) (m .3) (way-join (m .4) (m .2)), λ h. all-members _ ts (λ t i. go h t i (isArrow t.kind) refl))
-      where
-        go : ((x : ℕ) → Arrows ts x x → ⊥) → (t : TieRecord) → List·Memᴰ t ts → (b : Bool) → isArrow t.kind ≡ b → not b || not (reach n (leading ts) t.follower t.leader) ≡ true
-        go h t i false e = refl
-        go h t i true e = rw (no-true (reach n (leading ts) t.follower t.leader) (λ q. h t.leader (further (one (record { leader = t.leader; follower = t.follower; leaves = stay; tie = stands-tied isArrow i e; enters = stay }))
-            (reach-ways n (leading ts) leading-bounded t.follower t.leader .0 q))))
+    acyclic-paths = (
+      λ h x p. let m = first p in acyclic-clear h (m .0) (m .1) (m .3) (way-join (m .4) (m .2)),
+      λ h. clear-acyclic (λ l f e w. h l (further (one (record { leader = l; follower = f; leaves = stay; tie = e; enters = stay })) w)),
+    )

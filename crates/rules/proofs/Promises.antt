@@ -8,7 +8,7 @@ use Prim.Native.Nat.{ℕ, suc}
 use native.Mathlib.Omega.{arith}
 use lib.Dec.{ltb, eqb}
 use lib.ListN.{length}
-use Rattle.rules.specs.Base.{put, exceeds, anyBelow, all, any}
+use Rattle.rules.specs.Base.{put, exceeds, anyBelow, any}
 use Rattle.rules.specs.Sets.{Set}
 use Rattle.rules.specs.Window.{Limits, LogRecord, TieRecord, Window, tieKey, withValue, live, isEnded}
 use Rattle.rules.specs.Locks.{clash, permitted}
@@ -16,35 +16,31 @@ use Rattle.rules.specs.Ties.{makeTie, addTie, acyclic, isArrow, tied, gr
 use Rattle.rules.specs.Calls.{Lock, Commit, Abort, done, unchanged}
 use Rattle.rules.specs.Effects.{covers, lockBlockers, grantable, lockEntry, commitBlockers, commitGroup, commitChange, undo, endAll, abortAll, abortChange, effect}
 use Rattle.rules.specs.Refusals.{checks, firstFailed, _if_, settle, step}
-use Rattle.rules.proofs.BaseLaws.{lt-of, ltb-true, or-cases, or-none, and-both, and-left, and-right, not-true, not-false, ne-of, eqb-eq, none-below, anyBelow-none}
+use Rattle.rules.proofs.BaseLaws.{lt-of, or-cases, or-none, and-both, and-left, and-right, not-true, not-false, ne-of, eqb-eq, none-below, anyBelow-none}
 use Rattle.rules.proofs.DemandMoves.{live-status, not-ended}
-use Rattle.rules.proofs.ListLaws.{all-weaken, any-find, any-weaken}
+use Rattle.rules.proofs.ListLaws.{any-find, any-weaken}
 use Rattle.rules.proofs.PathLaws.{Way, reach-ways, Arrows, acyclic-paths}
 use Rattle.rules.proofs.SortLaws.{insert-standing}
 use Rattle.rules.proofs.SoundLock.{grant}
-use Rattle.rules.proofs.SoundParts.{Sound, live-below, live-change, ends-live}
+use Rattle.rules.proofs.SoundParts.{Sound, live-below, live-change, ends-below, ends-live}
 use Rattle.rules.proofs.SoundStep.{group-live}
 use Rattle.rules.proofs.TieLaws.{tied-ends, grouped-ends, falling-ends, stands-tied}
 
--- of a sound window, all ends of ties are below the next change number
+-- of a sound window
 module _ (L : Limits) (W : Window) (z : Sound L W) where
-  ends-below : all (λ t. ltb t.leader (suc W.given) && ltb t.follower (suc W.given)) W.ties ≡ true
-  ends-below = all-weaken (λ t. live W t.leader && live W t.follower) _
-      (λ t h. and-both (ltb t.leader (suc W.given)) _ (ltb-true t.leader (suc W.given) (live-below W t.leader (and-left (live W t.leader) _ h))) (ltb-true t.follower (suc W.given) (live-below W t.follower (and-right (live W t.leader) _ h)))) W.ties (ends-live L W z)
-
   -- "A group is a live change with all that group ties reach from it"
   pub group-ways : (c d : ℕ) → groupOf W c d ≡ true ↔ Way (grouped W.ties) c d
   unfolding groupOf
-  group-ways = reach-ways (suc W.given) (grouped W.ties) (λ a b e. let m = grouped-ends (λ x. ltb x (suc W.given)) W.ties ends-below a b e in (lt-of a _ (m .0), lt-of b _ (m .1)))
+  group-ways = reach-ways (suc W.given) (grouped W.ties) (λ a b e. let m = grouped-ends (λ x. ltb x (suc W.given)) W.ties (ends-below W (z .ties)) a b e in (lt-of a _ (m .0), lt-of b _ (m .1)))
 
   -- "the least set that holds the change and is closed under group ties either way and under fall ties from leader to follower"
   pub end-ways : (c d : ℕ) → endSet W c d ≡ true ↔ Way (falling W.ties) c d
   unfolding endSet
-  end-ways = reach-ways (suc W.given) (falling W.ties) (λ a b e. let m = falling-ends (λ x. ltb x (suc W.given)) W.ties ends-below a b e in (lt-of a _ (m .0), lt-of b _ (m .1)))
+  end-ways = reach-ways (suc W.given) (falling W.ties) (λ a b e. let m = falling-ends (λ x. ltb x (suc W.given)) W.ties (ends-below W (z .ties)) a b e in (lt-of a _ (m .0), lt-of b _ (m .1)))
 
   -- "no path of arrows returns to its group"
   pub no-return : (x : ℕ) → Arrows W.ties x x → ⊥
-  no-return = acyclic-paths W.ties (suc W.given) ends-below .0 (z .no-circle)
+  no-return = acyclic-paths W.ties (suc W.given) (ends-below W (z .ties)) .0 (z .no-circle)
 
   -- "an existing tie is 0 again": neither 9 nor 11 applies, and the ties stay as they are
   pub tie-again : (k l f : ℕ) → List·Memᴰ (makeTie k l f) W.ties

@@ -1,25 +1,17 @@
 -- The starred calls in which a largest figure plays a part, for any figure, and at the largest ones. Assumes nothing.
 use mathlib.Core.Path.{_≡_, refl, ap}
-use mathlib.Core.Bool.{true}
 use mathlib.Core.List.{[], _∷_, _++_}
-use Prim.Native.Nat.{ℕ, zero, suc, _+_, _≤_, _<_}
-use native.Mathlib.Nat.{not-suc-le-zero, le-of-suc-le-suc}
+use Prim.Native.Nat.{ℕ, zero, suc, _+_, _≤_}
 use native.Mathlib.Omega.{arith}
 use lib.Dec.{leb·suc-zero}
 use lib.ListN.{replicate}
-use Rattle.rules.specs.Base.{table, exceeds}
+use Rattle.rules.specs.Base.{table}
 use Rattle.rules.specs.Window.{Limits, limits, Window, fresh}
 use Rattle.rules.specs.Calls.{Open, Initiate, unchanged, done}
 use Rattle.rules.specs.Effects.{effect, addChange}
 use Rattle.rules.specs.Refusals.{step, settle, checks, firstFailed, _if_}
 use Rattle.rules.specs.Lists.{answers}
-use Rattle.rules.proofs.BaseLaws.{ltb-false, over-false}
-
-over-true : (m n : ℕ) → n < m → exceeds m n ≡ true
-unfolding exceeds
-over-true zero n h = absurd (not-suc-le-zero h)
-over-true (suc m) zero h = refl
-over-true (suc m) (suc n) h = over-true m n (le-of-suc-le-suc h)
+use Rattle.rules.proofs.BaseLaws.{ltb-false, over-false, over-true}
 
 -- as many changes as there is room for, and one more
 pub fill : (L : Limits) (m : ℕ) (W : Window) → W .given + m ≡ L .changes

@@ -7,7 +7,7 @@ use Prim.Native.Nat.{ℕ, _≤_, max}
 use native.Mathlib.Omega.{arith}
 use lib.Dec.{leb, ltb, eqb}
 use lib.ListN.{length, length-map}
-use Rattle.rules.specs.Base.{keep}
+use Rattle.rules.specs.Base.{keep, rising}
 use Rattle.rules.specs.Sets.{Set}
 use Rattle.rules.specs.Window.{Limits, LogRecord, PermitRecord, Window, permitKey, live}
 use Rattle.rules.specs.Locks.{clashesPermitted, unitePermits, addPermit}
@@ -28,8 +28,8 @@ held-max a b i l n p q t = and-both (leb (max a b) 2) (eqb (max a b) 0 || (i && 
     (λ y. or-right (eqb (max a b) 0) (i && n) (and-both i n (and-left i l y) t))
     (or-cases (eqb a 0) (i && l) (and-right (leb a 2) (eqb a 0 || (i && l)) p)))
 
-module _ (L : Limits) (W : Window) (from to : ℕ) (on : Set) (k : Sound L W) (lives : live W to ≡ true) (fit : clashesPermitted (handOver W from to on) ≡ true) where
-  hand-held : (e c : ℕ) → heldSound W.entries (live W) (handOver W from to on .held) e c ≡ true
+module _ (L : Limits) (W : Window) (from to : ℕ) (on : Set) (k : Sound L W) (lives : live W to ≡ true) where
+  pub hand-held : (e c : ℕ) → heldSound W.entries (live W) (handOver W from to on .held) e c ≡ true
   unfolding heldSound handOver moveHeld
   hand-held e c = go (on e) (same? c to) (same? c from)
     where
@@ -93,9 +93,13 @@ module _ (L : Limits) (W : Window) (from to : ℕ) (on : Set) (k : Sound L W) (l
     length-parts goes stays (λ p a b. false≢true (sym (not-true (given p) b) ∙ and-left (given p) (not (eqb p.taker to)) a)) W.permits,
   )
 
-  pub hand-sound : Sound L (handOver W from to on)
+  pub hand-order : rising permitKey (movePermits from to (on) W.permits) ≡ true
+  unfolding movePermits addPermit given goes stays handed
+  hand-order = inserts-rising permitKey unitePermits unite-key (map handed (keep goes W.permits)) (keep stays W.permits) (rising-keep permitKey stays W.permits (k .permit-order))
+
+  pub hand-sound : clashesPermitted (handOver W from to on) ≡ true → Sound L (handOver W from to on)
   unfolding handOver moveLog live moved movePermits addPermit given goes stays handed
-  hand-sound = record {
+  hand-sound fit = record {
     some = k .some;
     entries = k .entries;
     changes = k .changes;
@@ -111,7 +115,7 @@ module _ (L : Limits) (W : Window) (from to : ℕ) (on : Set) (k : Sound L W) (l
         (all-map (permitSound W.entries (live W)) (λ p. permitSound W.entries (live W) (handed p)) handed (λ p h. h) (keep goes W.permits) (all-keep (permitSound W.entries (live W)) goes _ hand-permit W.permits (k .permits)))
         (all-keep (permitSound W.entries (live W)) stays _ (λ p a b. a) W.permits (k .permits));
     ties = k .ties;
-    permit-order = inserts-rising permitKey unitePermits unite-key (map handed (keep goes W.permits)) (keep stays W.permits) (rising-keep permitKey stays W.permits (k .permit-order));
+    permit-order = hand-order;
     tie-order = k .tie-order;
     no-circle = k .no-circle;
     locks = fits-all (handOver W from to on) hand-held fit;

@@ -87,11 +87,17 @@ pub clash-right : (m : ℕ) → clash m 0 ≡ false
 unfolding clash
 clash-right m = rw and-false
 
--- who lives has a number, and holds the locks
+-- who lives has a number
 pub live-below : (W : Window) (c : ℕ) → live W c ≡ true → c < suc (W .given)
 unfolding live
 live-below W c h = lt-of c (suc (W .given)) (and-left (ltb c (suc (W .given))) _ h)
 
+-- so have the ends of ties
+pub ends-below : (W : Window) → all (tieSound (live W)) W.ties ≡ true → all (λ t. ltb t.leader (suc W.given) && ltb t.follower (suc W.given)) W.ties ≡ true
+ends-below W = all-weaken (tieSound (live W)) (λ t. ltb t.leader (suc W.given) && ltb t.follower (suc W.given))
+    (λ t h. let m = tie-parts (live W) t h in and-both (ltb t.leader (suc W.given)) _ (ltb-true t.leader (suc W.given) (live-below W t.leader (m .1))) (ltb-true t.follower (suc W.given) (live-below W t.follower (m .2)))) W.ties
+
+-- and holds the locks
 module _ (W : Window) (helds : (e c : ℕ) → heldSound W.entries (live W) W.held e c ≡ true) where
   pub held-most : (e c : ℕ) → W .held e c ≤ 2
   unfolding heldSound

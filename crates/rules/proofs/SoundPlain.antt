@@ -15,7 +15,7 @@ use Rattle.rules.specs.Sound.{valueSound, statusSound, parentSound, held
 use Rattle.rules.specs.Effects.{undo, addChange}
 use Rattle.rules.proofs.BaseLaws.{both-ways, Same, same, other, same?, or-map, or-true, and-left, and-right, and-map, eqb-other, ltb-true, ltb-false, lt-of}
 use Rattle.rules.proofs.ListLaws.{all-weaken, all-append, length-append-one}
-use Rattle.rules.proofs.SoundParts.{Sound, live-below, ends-live, record-parts, permit-parts, tie-parts}
+use Rattle.rules.proofs.SoundParts.{Sound, live-below, ends-below, record-parts, permit-parts, tie-parts}
 use Rattle.rules.proofs.TieLaws.{acyclic-more}
 
 -- a fresh window
@@ -191,11 +191,6 @@ module _ (L : Limits) (W : Window) (p : ℕ) (room : not (exceeds (suc W.given) 
       go (same q) = rw (q, eqb-other (suc (W .given)) 0 (omega arith), ltb-false (suc (W .given)) (suc (W .given)) (omega arith)) e
       go (other q) = rw (both-ways (ltb (suc W.given) c) (ltb W.given c) (λ a. ltb-true W.given c (omega (arith, lt-of (suc (W .given)) c a))) (λ a. ltb-true (suc W.given) c (omega (arith, lt-of (W .given) c a)))) (h c)
 
-  bounded : all (λ t. ltb t.leader (suc W.given) && ltb t.follower (suc W.given)) W.ties ≡ true
-  bounded = all-weaken (λ t. live W t.leader && live W t.follower) (λ t. ltb t.leader (suc W.given) && ltb t.follower (suc W.given))
-      (λ t. and-map (live W t.leader) (live W t.follower) _ _ (λ h. ltb-true t.leader (suc W.given) (live-below W t.leader h)) (λ h. ltb-true t.follower (suc W.given) (live-below W t.follower h)))
-      W.ties (ends-live L W k)
-
   pub start-sound : Sound L (addChange W p)
   unfolding addChange statusSound parentSound pairPermitted outside
   start-sound = record {
@@ -214,6 +209,6 @@ module _ (L : Limits) (W : Window) (p : ℕ) (room : not (exceeds (suc W.given) 
     ties = all-weaken _ _ (tie-more (live W) (live (addChange W p)) live-start) W.ties (k .ties);
     permit-order = k .permit-order;
     tie-order = k .tie-order;
-    no-circle = acyclic-more (suc W.given) W.ties bounded (k .no-circle);
+    no-circle = acyclic-more (suc W.given) W.ties (ends-below W (k .ties)) (k .no-circle);
     locks = k .locks;
   }

@@ -8,8 +8,8 @@ use native.Mathlib.Omega.{arith}
 use lib.Dec.{ltb, eqb}
 use Rattle.rules.specs.Base.{all, keep}
 use Rattle.rules.specs.Sets.{Set, Rel, reach}
-use Rattle.rules.specs.Window.{TieRecord}
-use Rattle.rules.specs.Ties.{isGroup, isArrow, isFall, tied, grouped, falling, leading, acyclic}
+use Rattle.rules.specs.Window.{TieRecord, Window}
+use Rattle.rules.specs.Ties.{isGroup, isArrow, isFall, tied, grouped, falling, leading, acyclic, groupOf}
 use Rattle.rules.proofs.BaseLaws.{or-cases, or-map, and-left, and-right, lt-of, eqb-eq, eqb-same, Within}
 use Rattle.rules.proofs.ListLaws.{all-weaken, all-and, all-keep, all-members, any-member, any-keep, find}
 use Rattle.rules.proofs.SetLaws.{reach-seed, reach-closed, reach-least}
@@ -82,3 +82,8 @@ acyclic-more n ts b e = all-weaken (λ t. (ltb t.leader n && ltb t.follower n) &
     go t h = reach-least (suc n) (leading ts) t.follower (reach n (leading ts) t.follower) (reach-seed n (leading ts) t.follower)
         (λ d c hd hc p q. let m = leading-ends (λ x. ltb x n) ts b d c q in reach-closed n (leading ts) t.follower d c (lt-of d n (m .0)) (lt-of c n (m .1)) p q)
         t.leader (omega arith)
+
+-- a change is in its group
+pub group-seed : (W : Window) (c : ℕ) → groupOf W c c ≡ true
+unfolding groupOf
+group-seed W c = reach-seed (suc W.given) (grouped W.ties) c

@@ -1,15 +1,9 @@
 -- Bytes joined to numbers, and back. Assumes nothing.
-use mathlib.Core.Path.{_≡_, refl}
-use mathlib.Core.List.{List}
-use Prim.Native.Nat.{ℕ, zero, suc, _+_, _*_, _/_, _%_, _^_, _<_}
+use mathlib.Core.Path.{_≡_}
+use Prim.Native.Nat.{ℕ, zero, suc, _^_, _<_}
 use native.Mathlib.Nat.{zero-div}
 use native.Mathlib.Omega.{arith}
-use lib.ListN.{getD}
 use Rattle.layout.specs.Codec.{byte, join2, join4}
-
--- each element is a byte: what is known of a slice of bytes
-abbrev pub Bytes : List ℕ → Type 0
-Bytes l = (i : ℕ) → getD l i 0 < 256
 
 pub join4-below : (f : ℕ → ℕ) → ((k : ℕ) → f k < 256) → join4 f < 4294967296
 unfolding join4

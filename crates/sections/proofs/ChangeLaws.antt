@@ -1,7 +1,7 @@
 -- The changes: statuses in their range, lower parents, zeros elsewhere. Assumes nothing.
 use mathlib.Core.Path.{_≡_, refl, sym, _∙_, ap}
-use mathlib.Core.Logic.{_≢_, ⊎-elim}
-use mathlib.Core.Bool.{Bool, true, false, not, cond, _&&_, _||_, false≢true}
+use mathlib.Core.Logic.{_≢_}
+use mathlib.Core.Bool.{Bool, true, false, not, cond, _||_}
 use mathlib.Core.List.{List, [], _∷_}
 use Prim.Native.Nat.{ℕ, zero, suc, _+_, _-_, _*_, _/_, _%_, _≤_, _<_}
 use native.Mathlib.Nat.{add-zero}
@@ -11,7 +11,7 @@ use lib.ListN.{getD, length}
 use lib.Seq.{ext-getD}
 use Rattle.rules.specs.Base.{allBelow, outside, table}
 use Rattle.rules.specs.Sound.{statusSound, parentSound}
-use Rattle.rules.proofs.BaseLaws.{and-both, and-four, eqb-eq, eqb-same, eqb-other, ltb-true, ltb-false, lt-of, or-right, allBelow-at, allBelow-intro, Same, same, other, same?, Below, under, over, below}
+use Rattle.rules.proofs.BaseLaws.{and-four, eqb-eq, eqb-other, ltb-true, ltb-false, or-right, allBelow-at, allBelow-intro, Same, same, other, same?, Below, under, over, below}
 use Rattle.layout.specs.Codec.{changeByte, changeSection}
 use Rattle.layout.proofs.SectionLaws.{length-table, getD-table0}
 use Rattle.cells.specs.Part.{zeroAt}

@@ -2,9 +2,7 @@
 pub mod ByteLaws
 pub mod PlaceLaws
 pub mod HeadLaws
-pub mod TurnLaws
 pub mod ChangeLaws
-pub mod RowLaws
 pub mod TableLaws
 pub mod LockLaws
 pub mod LogLaws

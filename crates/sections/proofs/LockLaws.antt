@@ -4,65 +4,32 @@ use mathlib.Core.Logic.{⊎-elim}
 use mathlib.Core.Bool.{Bool, true, false, not, cond, _&&_, _||_, false≢true}
 use mathlib.Core.List.{List}
 use Prim.Native.Nat.{ℕ, zero, suc, _+_, _-_, _*_, _/_, _%_, _^_, _≤_, _<_}
-use native.Mathlib.Nat.{zero-div, pow-suc, mul-comm, div-div-eq-div-mul, div-lt-iff-lt-mul}
 use native.Mathlib.Omega.{arith}
 use lib.Dec.{leb, ltb, eqb}
 use lib.ListN.{getD, length}
 use lib.Seq.{ext-getD}
-use Rattle.rules.specs.Base.{allBelow, anyBelow, table}
+use Rattle.rules.specs.Base.{allBelow, table}
 use Rattle.rules.specs.Sets.{Set}
 use Rattle.rules.specs.Sound.{heldSound}
-use Rattle.rules.proofs.BaseLaws.{and-both, and-left, and-right, or-cases, or-none, or-right, and-false, not-true, no-true, both-ways, eqb-eq, eqb-same, ltb-true, ltb-false, lt-of, allBelow-at, allBelow-intro, any-intro, any-elim, Same, same, other, same?, Below, under, over, below}
+use Rattle.rules.proofs.BaseLaws.{and-left, and-right, or-cases, and-false, no-true, not-true, not-false, eqb-eq, ltb-true, ltb-false, lt-of, allBelow-at, allBelow-intro, Same, same, other, same?, Below, under, over, below}
 use Rattle.layout.specs.Codec.{bit, pack, unpack, lockByte, lockSection}
-use Rattle.layout.proofs.SectionLaws.{length-table, getD-table0}
+use Rattle.layout.proofs.CodecLaws.{pack-most, pack-same, unpack-pack}
+use Rattle.layout.proofs.SectionLaws.{Bytes, length-table, getD-table0}
+use Rattle.sets.proofs.Digits.{unpack-zero, unpack-ext}
 use Rattle.cells.specs.Part.{zeroAt}
 use Rattle.cells.proofs.ZeroLaws.{zeros-at, zeros-all}
 use Rattle.locks.proofs.BitLaws.{lockBits, lock-bits, bits-read}
 use Rattle.sections.specs.Cells.{reads, writes, lockFits, rowFits}
 use Rattle.sections.specs.Sections.{LocksSound}
-use Rattle.sections.proofs.ByteLaws.{Bytes}
 
 -- eight bits of a byte are the byte
-two-pow : (i : ℕ) → 2 ^ suc i ≡ 2 * 2 ^ i
-two-pow i = pow-suc 2 i ∙ mul-comm (2 ^ i) 2
-
-lowest-bit : (x : ℕ) → bit (eqb (x / 1 % 2) 1) ≡ x % 2
-lowest-bit x = let e : x / 1 % 2 ≡ x % 2 = omega arith in rw e (go (x % 2) refl)
-  where
-    go : (r : ℕ) → x % 2 ≡ r → bit (eqb r 1) ≡ r
-    go zero e = refl
-    go (suc zero) e = refl
-    go (suc (suc r)) e = absurd (omega arith)
-
-pack-same : (n : ℕ) (p q : ℕ → Bool) → ((j : ℕ) → j < n → p j ≡ q j) → pack n p ≡ pack n q
-unfolding pack
-pack-same zero p q h = refl
-pack-same (suc n) p q h = rw (h 0 (omega arith), pack-same n (λ j. p (suc j)) (λ j. q (suc j)) (λ j l. h (suc j) (omega arith)))
-
-pub pack-unpack : (n x : ℕ) → x < 2 ^ n → pack n (unpack x) ≡ x
-unfolding pack unpack
-pack-unpack zero x h = omega arith
-pack-unpack (suc n) x h =
-    let two : 0 < 2 = omega arith in
-    let l : x / 2 < 2 ^ n = div-lt-iff-lt-mul two .1 (rw (pow-suc 2 n) at h) in
-    let e : pack n (λ j. unpack x (suc j)) ≡ pack n (unpack (x / 2)) = pack-same n (λ j. unpack x (suc j)) (unpack (x / 2)) (λ j k. rw (two-pow j, ← (div-div-eq-div-mul x 2 (2 ^ j)))) in
-    let i : pack n (unpack (x / 2)) ≡ x / 2 = pack-unpack n (x / 2) l in
-    rw (lowest-bit x) (omega (arith, e, i))
+pack-unpack : (n x : ℕ) → x < 2 ^ n → pack n (unpack x) ≡ x
+pack-unpack n x h = unpack-ext n (pack n (unpack x)) x (pack-most n (unpack x)) h (unpack-pack n (unpack x))
 
 pack-none : (n : ℕ) → pack n (λ j. false) ≡ 0
 unfolding pack
 pack-none zero = refl
 pack-none (suc n) = rw (pack-none n)
-
--- a set with no member, as a test of all numbers
-pub none-as : (n : ℕ) (p q : ℕ → Bool) → ((k : ℕ) → k < n → q k ≡ not (p k)) → not (anyBelow n p) ≡ allBelow n q
-none-as n p q h = both-ways _ _
-    (λ e. allBelow-intro n q (λ k l. h k l ∙ ap not (no-true (p k) (λ x. false≢true (rw (any-intro n p k l x) at e)))))
-    (λ e. ap not (no-true (anyBelow n p) (λ a. let m = any-elim n p a in false≢true (rw (m .2) at (sym (h (m .0) (m .1)) ∙ allBelow-at n q e (m .0) (m .1))))))
-
-no-not : (x : Bool) → not (not x) ≡ true → x ≡ true
-no-not true p = refl
-no-not false p = p
 
 module _ (bs : List ℕ) (b : Bytes bs) (size : length bs ≡ 16384) (entries : ℕ) (lives : Set) (most : entries ≤ 256) where
   -- both tests
@@ -83,18 +50,15 @@ module _ (bs : List ℕ) (b : Bytes bs) (size : length bs ≡ 16384) (entries : 
   unfolding reads writes
   bits t e c he hc = go (below e entries)
     where
-      zero-bit : (j : ℕ) → unpack 0 j ≡ false
-      zero-bit j = unfold unpack in rw (zero-div (2 ^ j))
-
       fits : (r w : Bool) → e < entries → not (r && w || (r || w) && not (lives c)) ≡ true → Bits e c r w
       fits true true h q = absurd (false≢true q)
-      fits true false h q = reader h (no-not (lives c) q)
-      fits false true h q = writer h (no-not (lives c) q)
+      fits true false h q = reader h (not-false (lives c) (not-true _ q))
+      fits false true h q = writer h (not-false (lives c) (not-true _ q))
       fits false false h q = none
 
       go : {x : Bool} → Below e entries x → Bits e c (unpack (getD bs (e * 64 + c / 8) 0) (c % 8)) (unpack (getD bs (e * 64 + 32 + c / 8) 0) (c % 8))
       go (under h) = fits _ _ h (unfold rowFits lockFits reads writes in allBelow-at 256 (lockFits bs lives e) (allBelow-at entries (rowFits bs lives) (t .fine) e h) c hc)
-      go (over h) = rw (zeros-at bs (entries * 64) 16384 (t .rest) (e * 64 + c / 8) (omega arith) (omega arith), zeros-at bs (entries * 64) 16384 (t .rest) (e * 64 + 32 + c / 8) (omega arith) (omega arith), zero-bit (c % 8)) none
+      go (over h) = rw (zeros-at bs (entries * 64) 16384 (t .rest) (e * 64 + c / 8) (omega arith) (omega arith), zeros-at bs (entries * 64) 16384 (t .rest) (e * 64 + 32 + c / 8) (omega arith) (omega arith), unpack-zero (c % 8)) none
 
   -- a bit of the section is what the lock says
   bit-of : LockTests → (e c m : ℕ) → e < 256 → c < 256 → m < 2 → eqb (heldAt e c) (suc m) ≡ unpack (getD bs (e * 64 + m * 32 + c / 8) 0) (c % 8)

@@ -1,29 +1,26 @@
 -- The log: records of live owners that hold the write lock, and zeros. Assumes nothing.
 use mathlib.Core.Path.{_≡_, refl, sym, _∙_, ap}
-use mathlib.Core.Bool.{Bool, true, false, _&&_}
-use mathlib.Core.List.{List, [], _∷_}
-use Prim.Native.Nat.{ℕ, zero, suc, _+_, _-_, _*_, _/_, _%_, _^_, _≤_, _<_}
-use native.Mathlib.Nat.{add-zero}
+use mathlib.Core.Bool.{true, _&&_}
+use mathlib.Core.List.{List}
+use Prim.Native.Nat.{ℕ, zero, suc, _+_, _-_, _*_, _/_, _%_, _≤_, _<_}
 use native.Mathlib.Omega.{arith}
 use lib.Dec.{ltb, eqb}
-use lib.ListN.{getD, length, List·getD-eq-default}
-use Rattle.rules.specs.Base.{allBelow, all, table}
+use lib.ListN.{getD, length, replicate}
+use Rattle.rules.specs.Base.{allBelow, table}
 use Rattle.rules.specs.Sets.{Set}
-use Rattle.rules.specs.Window.{LogRecord}
 use Rattle.rules.specs.Sound.{recordSound}
-use Rattle.rules.proofs.BaseLaws.{and-both, and-left, and-right, lt-of, ltb-true, allBelow-at, allBelow-intro}
+use Rattle.rules.proofs.BaseLaws.{and-left, and-right, ltb-true, allBelow-at, allBelow-intro}
+use Rattle.rules.proofs.ListLaws.{all-at, all-table}
 use Rattle.rules.proofs.SoundParts.{record-parts}
 use Rattle.layout.specs.Codec.{byte, unpack, join4, noRecord, recordBytes, logByte, logSection, lockSection}
-use Rattle.layout.proofs.CodecLaws.{join4-byte, join4-same}
-use Rattle.layout.proofs.RecordLaws.{placeByte, place-at, places-again}
-use Rattle.layout.proofs.SectionLaws.{length-table, getD-table0}
+use Rattle.layout.proofs.RecordLaws.{placeByte, place-at, places-again, places-rest, first-byte}
+use Rattle.layout.proofs.SectionLaws.{Bytes, length-table}
 use Rattle.cells.specs.Part.{zeroAt}
 use Rattle.cells.proofs.ZeroLaws.{zeros-at, zeros-all}
 use Rattle.locks.proofs.BitLaws.{lockBits, lock-bits, bits-read}
 use Rattle.sections.specs.Cells.{writes, recordAt, recordFits}
 use Rattle.sections.specs.Sections.{LogSound}
-use Rattle.sections.proofs.ByteLaws.{Bytes, join4-below, byte-join4}
-use Rattle.sections.proofs.RowLaws.{all-table, all-at}
+use Rattle.sections.proofs.ByteLaws.{join4-below, byte-join4}
 
 -- a writer's bit is the write lock
 pub writes-held : (locks : List ℕ) (held : ℕ → ℕ → ℕ) → locks ≡ lockSection held → (e c : ℕ) → e < 256 → c < 256 → writes locks e c ≡ eqb (held e c) 2
@@ -31,15 +28,10 @@ unfolding writes lockBits
 writes-held locks held q e c he hc = let p : e * 64 + 32 ≡ e * 64 + 1 * 32 = omega arith in
     ap (λ l. unpack (getD l (e * 64 + 32 + c / 8) 0) (c % 8)) (q ∙ lock-bits held) ∙ bits-read (lockBits held) e 1 (e * 64 + 32) he (omega arith) p c hc
 
-six-zeros : (k : ℕ) → getD (recordBytes noRecord) k 0 ≡ 0
+-- no record has zeros
+blank : recordBytes noRecord ≡ replicate 6 0
 unfolding recordBytes byte
-six-zeros zero = refl
-six-zeros (suc zero) = refl
-six-zeros (suc (suc zero)) = refl
-six-zeros (suc (suc (suc zero))) = refl
-six-zeros (suc (suc (suc (suc zero)))) = refl
-six-zeros (suc (suc (suc (suc (suc zero))))) = refl
-six-zeros (suc (suc (suc (suc (suc (suc k)))))) = refl
+blank = refl
 
 module _ (bs : List ℕ) (b : Bytes bs) (size : length bs ≡ 12288) (n entries : ℕ) (lives : Set) (fits : n ≤ 2048) (most : entries ≤ 256)
     (locks : List ℕ) (held : ℕ → ℕ → ℕ) (q : locks ≡ lockSection held) where
@@ -48,13 +40,10 @@ module _ (bs : List ℕ) (b : Bytes bs) (size : length bs ≡ 12288) (n entries 
     pub fine : allBelow n (recordFits bs locks entries lives) ≡ true
     pub rest : allBelow (12288 - n * 6) (zeroAt bs (n * 6)) ≡ true
 
-  owner-first : (j : ℕ) → getD bs (j * 6) 0 ≡ getD bs (j * 6 + 0) 0
-  owner-first j = ap (λ x. getD bs x 0) (sym (add-zero (j * 6)))
-
   -- the record at a place has the bytes of the place
   whole : (j k : ℕ) → k < 6 → getD (recordBytes (recordAt bs j)) k 0 ≡ getD bs (j * 6 + k) 0
   unfolding recordBytes recordAt
-  whole j zero l = owner-first j
+  whole j zero l = first-byte bs (j * 6)
   whole j (suc zero) l = refl
   whole j (suc (suc zero)) l = byte-join4 (λ k. getD bs (j * 6 + (k + 2)) 0) (λ k. b (j * 6 + (k + 2))) 0 (omega arith)
   whole j (suc (suc (suc zero))) l = byte-join4 (λ k. getD bs (j * 6 + (k + 2)) 0) (λ k. b (j * 6 + (k + 2))) 1 (omega arith)
@@ -76,7 +65,7 @@ module _ (bs : List ℕ) (b : Bytes bs) (size : length bs ≡ 12288) (n entries 
   log-of t = record {
     log = table n 0 (recordAt bs);
     size = length-table n 0 (recordAt bs);
-    bytes = places-again 6 (omega arith) recordBytes noRecord 2048 n bs (recordAt bs) size six-zeros (λ j k h l. whole j k l) (zeros-at bs (n * 6) 12288 (t .rest));
+    bytes = places-again 6 (omega arith) recordBytes noRecord 2048 blank n bs (recordAt bs) size (λ j k h l. whole j k l) (zeros-at bs (n * 6) 12288 (t .rest));
     fine = all-table (recordSound entries lives held) (recordAt bs) n 0 (λ j h l. record-fine j (allBelow-at n (recordFits bs locks entries lives) (t .fine) j (omega arith)));
   }
 
@@ -90,14 +79,14 @@ module _ (bs : List ℕ) (b : Bytes bs) (size : length bs ≡ 12288) (n entries 
     fits-of j h =
         let r = getD (s .log) j noRecord in
         let x = record-parts entries lives held r (all-at (recordSound entries lives held) noRecord (s .log) (s .fine) j (rw (s .size) h)) in
-        let o : getD bs (j * 6) 0 ≡ r .owner = owner-first j ∙ byte-at j 0 (omega arith) (omega arith) in
+        let o : getD bs (j * 6) 0 ≡ r .owner = first-byte bs (j * 6) ∙ byte-at j 0 (omega arith) (omega arith) in
         let e : getD bs (j * 6 + 1) 0 ≡ r .entry = byte-at j 1 (omega arith) (omega arith) in
         let w : writes locks (r .entry) (r .owner) ≡ true = writes-held locks held q (r .entry) (r .owner) (rw e at (b (j * 6 + 1))) (rw o at (b (j * 6))) ∙ x .3 in
         rw (o, e, x .0, x .1, w)
 
     rest-of : (i : ℕ) → n * 6 ≤ i → i < 12288 → getD bs i 0 ≡ 0
-    rest-of i h l = let p : i / 6 * 6 + i % 6 ≡ i = omega arith in
-        ap (λ x. getD bs x 0) (sym p) ∙ byte-at (i / 6) (i % 6) (omega arith) (omega arith) ∙ rw (List·getD-eq-default (s .log) noRecord {n = i / 6} (rw (s .size) (omega arith))) (six-zeros (i % 6))
+    unfolding logSection logByte placeByte
+    rest-of = places-rest 6 (omega arith) recordBytes noRecord 2048 blank n bs (s .log) (s .size) (s .bytes)
 
     pub of-log : LogTests
     of-log = record { fine = allBelow-intro n (recordFits bs locks entries lives) fits-of; rest = zeros-all bs (n * 6) 12288 rest-of }

@@ -1,22 +1,22 @@
 -- Values, the line, the header and the changes: the sections with a fixed place for each number. Assumes nothing.
 use mathlib.Core.Path.{_≡_, refl, sym, _∙_, ap}
 use mathlib.Core.Logic.{_↔_, ⊎-elim}
-use mathlib.Core.Bool.{Bool, true, false, not, cond, _&&_, _||_, false≢true}
-use mathlib.Core.List.{List, [], _∷_}
-use Prim.Native.Nat.{ℕ, zero, suc, _+_, _-_, _*_, _/_, _%_, _^_, _≤_, _<_}
+use mathlib.Core.Bool.{Bool, true, cond, _&&_, _||_}
+use mathlib.Core.List.{List}
+use Prim.Native.Nat.{ℕ, _+_, _-_, _*_, _/_, _%_, _^_, _≤_, _<_}
 use native.Mathlib.Omega.{arith}
 use lib.Dec.{ltb, eqb}
 use lib.ListN.{getD, length}
 use lib.Seq.{ext-getD}
 use Rattle.rules.specs.Base.{allBelow, table}
 use Rattle.rules.specs.Sound.{valueSound}
-use Rattle.rules.proofs.BaseLaws.{and-both, and-right, or-left, or-right, or-cases, lt-of, ltb-true, eqb-eq, eqb-same, Below, under, over, below}
+use Rattle.rules.proofs.BaseLaws.{and-right, or-cases, lt-of, ltb-true, eqb-eq, Below, under, over, below}
 use Rattle.layout.specs.Codec.{byte, join4, valueByte, lineByte, valueSection, lineSection}
-use Rattle.layout.proofs.SectionLaws.{length-table, getD-table0}
+use Rattle.layout.proofs.SectionLaws.{Bytes, length-table, getD-table0}
 use Rattle.cells.specs.Part.{zeroAt}
 use Rattle.cells.proofs.ZeroLaws.{zeros-at, zeros-all}
 use Rattle.sections.specs.Sections.{ValuesSound}
-use Rattle.sections.proofs.ByteLaws.{Bytes, join4-below, byte-join4, join4-zero, byte-zero}
+use Rattle.sections.proofs.ByteLaws.{join4-below, byte-join4, join4-zero, byte-zero}
 
 -- VALUES
 module _ (bs : List ℕ) (b : Bytes bs) (size : length bs ≡ 1024) (entries : ℕ) (most : entries ≤ 256) where

@@ -1,28 +1,50 @@
 -- The permits and the ties: sound records in rising order, and zeros. Assumes nothing.
 use mathlib.Core.Path.{_≡_, refl, sym, _∙_, ap}
-use mathlib.Core.Logic.{_≢_}
-use mathlib.Core.Bool.{Bool, true, false, _&&_}
-use mathlib.Core.List.{List, [], _∷_}
-use Prim.Native.Nat.{ℕ, zero, suc, _+_, _-_, _*_, _/_, _%_, _≤_, _<_}
-use native.Mathlib.Nat.{add-zero}
+use mathlib.Core.Logic.{⊎-elim, _≢_}
+use mathlib.Core.Bool.{Bool, true, _&&_}
+use mathlib.Core.List.{List}
+use Prim.Native.Nat.{ℕ, zero, suc, _+_, _-_, _*_, _≤_, _<_}
+use native.Mathlib.Nat.{mul-comm}
 use native.Mathlib.Omega.{arith}
 use lib.Dec.{eqb}
-use lib.ListN.{getD, length, List·getD-eq-default}
+use lib.ListN.{getD, length, replicate}
 use Rattle.rules.specs.Base.{Key, allBelow, all, rising, table}
 use Rattle.rules.specs.Sets.{Set}
 use Rattle.rules.specs.Window.{PermitRecord, TieRecord, permitKey, tieKey}
 use Rattle.rules.specs.Locks.{makePermit}
 use Rattle.rules.specs.Sound.{permitSound, tieSound}
-use Rattle.rules.proofs.BaseLaws.{and-both, and-left, and-right, eqb-eq, eqb-same, allBelow-at, allBelow-intro}
+use Rattle.rules.proofs.BaseLaws.{and-both, and-left, and-right, or-cases, or-right, lt-of, ltb-true, eqb-eq, allBelow-at, allBelow-intro}
+use Rattle.rules.proofs.ListLaws.{all-at, all-table}
+use Rattle.rules.proofs.SortLaws.{rising-at, rising-table}
 use Rattle.layout.specs.Codec.{noPermit, noTie, permitBytes, tieBytes, permitByte, tieByte, permitSection, tieSection}
-use Rattle.layout.proofs.RecordLaws.{placeByte, place-at, places-again}
-use Rattle.layout.proofs.SectionLaws.{length-table, getD-table0}
+use Rattle.layout.proofs.RecordLaws.{placeByte, place-at, places-again, places-rest, first-byte}
+use Rattle.layout.proofs.SectionLaws.{Bytes, length-table}
+use Rattle.sets.specs.Closing.{tieAt}
+use Rattle.sets.proofs.CloseLaws.{tie-again}
 use Rattle.cells.specs.Part.{zeroAt}
 use Rattle.cells.proofs.ZeroLaws.{zeros-at, zeros-all}
-use Rattle.sections.specs.Cells.{keyAt, inOrder, permitAt, tieOf, tieAt, permitFits, tieFits}
+use Rattle.rows.specs.Rows.{rowKey, rank, rowAt}
+use Rattle.rows.proofs.OrderLaws.{small-at, rank-before, before-rank}
+use Rattle.locks.specs.Permits.{permitAt}
+use Rattle.locks.proofs.PermitLaws.{permit-again}
+use Rattle.sections.specs.Cells.{inOrder, permitFits, tieFits}
 use Rattle.sections.specs.Sections.{PermitsSound, TiesSound}
-use Rattle.sections.proofs.ByteLaws.{Bytes}
-use Rattle.sections.proofs.RowLaws.{keyNum, SmallKey, lt-of-num, num-of-lt, rising-table, rising-at, all-table, all-at, in-order-at, order-at}
+
+-- a row above the one before it, by ranks
+in-order-at : (bs : List ℕ) (j : ℕ) → inOrder bs (suc j) ≡ true → rank (rowAt bs j) < rank (rowAt bs (suc j))
+unfolding inOrder
+in-order-at bs j h = let e : suc j - 1 ≡ j = omega arith in
+    ⊎-elim (λ q. absurd (let z = eqb-eq (suc j) 0 q in omega arith)) (λ q. rw e at (lt-of (rank (rowAt bs (suc j - 1))) (rank (rowAt bs (suc j))) q)) (or-cases (eqb (suc j) 0) _ h)
+
+order-at : (bs : List ℕ) (j : ℕ) → (j ≢ 0 → rank (rowAt bs (j - 1)) < rank (rowAt bs j)) → inOrder bs j ≡ true
+unfolding inOrder
+order-at bs zero h = refl
+order-at bs (suc j) h = or-right (eqb (suc j) 0) _ (ltb-true (rank (rowAt bs (suc j - 1))) (rank (rowAt bs (suc j))) (h (λ e. omega arith)))
+
+-- the first three bytes of a place are its row's key
+key-place : (bs : List ℕ) (j : ℕ) → record { k1 = getD bs (j * 4) 0; k2 = getD bs (j * 4 + 1) 0; k3 = getD bs (j * 4 + 2) 0 } ≡ rowKey (rowAt bs j)
+unfolding rowKey rowAt
+key-place bs j = ap (λ (at : ℕ). record { k1 = getD bs at 0; k2 = getD bs (at + 1) 0; k3 = getD bs (at + 2) 0 }) (mul-comm j 4)
 
 -- records of four bytes: how one is read, and its key
 pub record Rows (A : Type 0) : Type 1 where
@@ -30,9 +52,8 @@ pub record Rows (A : Type 0) : Type 1 where
   pub none : A
   pub key : A → Key
   pub read : List ℕ → ℕ → A
-  pub blank : (k : ℕ) → getD (bytes none) k 0 ≡ 0
-  pub keyed : (bs : List ℕ) (j : ℕ) → keyNum (key (read bs j)) ≡ keyAt bs j
-  pub small : (bs : List ℕ) → Bytes bs → (j : ℕ) → SmallKey (key (read bs j))
+  pub blank : bytes none ≡ replicate 4 0
+  pub keyed : (bs : List ℕ) (j : ℕ) → key (read bs j) ≡ rowKey (rowAt bs j)
   pub again : (bs : List ℕ) (x : A) (j : ℕ) → ((k : ℕ) → k < 4 → getD bs (j * 4 + k) 0 ≡ getD (bytes x) k 0) → read bs j ≡ x
 
 module _ {A : Type 0} (R : Rows A) (p : A → Bool) (most : ℕ) (bs : List ℕ) (b : Bytes bs) (size : length bs ≡ most * 4) (n : ℕ) (fits : n ≤ most) where
@@ -57,10 +78,10 @@ module _ {A : Type 0} (R : Rows A) (p : A → Bool) (most : ℕ) (bs : List ℕ)
   stands t z = record {
     rows = table n 0 (R .read bs);
     count = length-table n 0 (R .read bs);
-    is = places-again 4 (omega arith) (R .bytes) (R .none) most n bs (R .read bs) size (R .blank) (λ j k h l. t j h .whole k l) z;
+    is = places-again 4 (omega arith) (R .bytes) (R .none) most (R .blank) n bs (R .read bs) size (λ j k h l. t j h .whole k l) z;
     fine = all-table p (R .read bs) n 0 (λ j h l. t j (omega arith) .fine);
-    order = rising-table (R .key) (R .read bs) (λ i j. lt-of-num (R .key (R .read bs i)) (R .key (R .read bs j)) (R .small bs b i) (R .small bs b j)) n 0
-        (λ j h l. rw (R .keyed bs j, R .keyed bs (suc j)) (in-order-at bs j (t (suc j) (omega arith) .order)));
+    order = rising-table (R .key) (R .read bs) n 0
+        (λ j h l. rw (R .keyed bs j, R .keyed bs (suc j)) (before-rank (rowAt bs j) (rowAt bs (suc j)) (small-at bs b j) (small-at bs b (suc j)) (in-order-at bs j (t (suc j) (omega arith) .order))));
   }
 
   module _ (s : Stands) where
@@ -70,48 +91,33 @@ module _ {A : Type 0} (R : Rows A) (p : A → Bool) (most : ℕ) (bs : List ℕ)
     read-at : (j : ℕ) → j < most → R .read bs j ≡ getD (s .rows) j (R .none)
     read-at j h = R .again bs (getD (s .rows) j (R .none)) j (λ k l. byte-at j k h l)
 
-    key-less : (j : ℕ) → suc j < n → keyAt bs j < keyAt bs (suc j)
-    key-less j h = rw (R .keyed bs j, R .keyed bs (suc j)) at
-        (num-of-lt (R .key (R .read bs j)) (R .key (R .read bs (suc j))) (R .small bs b j) (R .small bs b (suc j))
-        (rw (read-at j (omega arith), read-at (suc j) (omega arith)) (rising-at (R .key) (R .none) (s .rows) (s .order) j (rw (s .count) h))))
+    key-at : (j : ℕ) → j < most → rowKey (rowAt bs j) ≡ R .key (getD (s .rows) j (R .none))
+    key-at j h = sym (R .keyed bs j) ∙ ap (R .key) (read-at j h)
+
+    rank-less : (j : ℕ) → suc j < n → rank (rowAt bs j) < rank (rowAt bs (suc j))
+    rank-less j h = rank-before (rowAt bs j) (rowAt bs (suc j)) (small-at bs b j) (small-at bs b (suc j))
+        (rw (key-at j (omega arith), key-at (suc j) (omega arith)) (rising-at (R .key) (R .none) (s .rows) (s .order) j (suc j) (omega arith) (rw (s .count) h)))
 
     pub turn : (j : ℕ) → j < n → Turn j
     turn j h = record {
       fine = rw (read-at j (omega arith)) (all-at p (R .none) (s .rows) (s .fine) j (rw (s .count) h));
       whole = λ k l. ap (λ x. getD (R .bytes x) k 0) (read-at j (omega arith)) ∙ sym (byte-at j k (omega arith) l);
-      order = order-at bs j (λ e. let q : suc (j - 1) ≡ j = omega arith in rw q at (key-less (j - 1) (omega arith)));
+      order = order-at bs j (λ e. let q : suc (j - 1) ≡ j = omega arith in rw q at (rank-less (j - 1) (omega arith)));
     }
 
     pub rest : (i : ℕ) → n * 4 ≤ i → i < most * 4 → getD bs i 0 ≡ 0
-    rest i h l = let q : i / 4 * 4 + i % 4 ≡ i = omega arith in
-        ap (λ x. getD bs x 0) (sym q) ∙ byte-at (i / 4) (i % 4) (omega arith) (omega arith)
-        ∙ rw (List·getD-eq-default (s .rows) (R .none) {n = i / 4} (rw (s .count) (omega arith))) (R .blank (i % 4))
+    rest = places-rest 4 (omega arith) (R .bytes) (R .none) most (R .blank) n bs (s .rows) (s .count) (s .is)
 
 -- PERMITS
-four-zeros : (k : ℕ) → getD {A = ℕ} (0 ∷ 0 ∷ 0 ∷ 0 ∷ []) k 0 ≡ 0
-four-zeros zero = refl
-four-zeros (suc zero) = refl
-four-zeros (suc (suc zero)) = refl
-four-zeros (suc (suc (suc zero))) = refl
-four-zeros (suc (suc (suc (suc k)))) = refl
-
-first-byte : (bs : List ℕ) (j : ℕ) → getD bs (j * 4) 0 ≡ getD bs (j * 4 + 0) 0
-first-byte bs j = ap (λ x. getD bs x 0) (sym (add-zero (j * 4)))
-
-permit-again : (bs : List ℕ) (x : PermitRecord) (j : ℕ) → ((k : ℕ) → k < 4 → getD bs (j * 4 + k) 0 ≡ getD (permitBytes x) k 0) → permitAt bs j ≡ x
-unfolding permitAt makePermit permitBytes
-permit-again bs x j f = λ i. record { entry = (first-byte bs j ∙ f 0 (omega arith)) i; giver = f 1 (omega arith) i; taker = f 2 (omega arith) i; ops = f 3 (omega arith) i }
-
 permitRows : Rows PermitRecord
-unfolding permitBytes permitKey permitAt makePermit keyAt
+unfolding permitBytes permitKey permitAt makePermit
 permitRows = record {
   bytes = permitBytes;
   none = noPermit;
   key = permitKey;
   read = permitAt;
-  blank = four-zeros;
-  keyed = λ bs j. refl;
-  small = λ bs b j. record { one = b (j * 4); two = b (j * 4 + 1); three = b (j * 4 + 2) };
+  blank = refl;
+  keyed = key-place;
   again = permit-again;
 }
 
@@ -125,7 +131,7 @@ module _ (bs : List ℕ) (b : Bytes bs) (size : length bs ≡ 4096) (n entries :
   }
     where
       go : (k : ℕ) → k < 4 → getD (permitBytes (permitAt bs j)) k 0 ≡ getD bs (j * 4 + k) 0
-      go zero l = unfold permitBytes permitAt makePermit in first-byte bs j
+      go zero l = unfold permitBytes permitAt makePermit in first-byte bs (j * 4)
       go (suc zero) l = unfold permitBytes permitAt makePermit in refl
       go (suc (suc zero)) l = unfold permitBytes permitAt makePermit in refl
       go (suc (suc (suc zero))) l = unfold permitBytes permitAt makePermit in refl
@@ -150,20 +156,15 @@ module _ (bs : List ℕ) (b : Bytes bs) (size : length bs ≡ 4096) (n entries :
       }
 
 -- TIES
-tie-again : (bs : List ℕ) (x : TieRecord) (j : ℕ) → ((k : ℕ) → k < 4 → getD bs (j * 4 + k) 0 ≡ getD (tieBytes x) k 0) → tieAt bs j ≡ x
-unfolding tieAt tieOf tieBytes
-tie-again bs x j f = λ i. record { kind = (first-byte bs j ∙ f 0 (omega arith)) i; leader = f 1 (omega arith) i; follower = f 2 (omega arith) i }
-
 tieRows : Rows TieRecord
-unfolding tieBytes tieKey tieAt tieOf keyAt
+unfolding tieBytes tieKey tieAt
 tieRows = record {
   bytes = tieBytes;
   none = noTie;
   key = tieKey;
   read = tieAt;
-  blank = four-zeros;
-  keyed = λ bs j. refl;
-  small = λ bs b j. record { one = b (j * 4); two = b (j * 4 + 1); three = b (j * 4 + 2) };
+  blank = refl;
+  keyed = key-place;
   again = tie-again;
 }
 
@@ -177,9 +178,9 @@ module _ (bs : List ℕ) (b : Bytes bs) (size : length bs ≡ 2048) (n : ℕ) (l
   }
     where
       go : (k : ℕ) → k < 4 → getD (tieBytes (tieAt bs j)) k 0 ≡ getD bs (j * 4 + k) 0
-      go zero l = unfold tieBytes tieAt tieOf in first-byte bs j
-      go (suc zero) l = unfold tieBytes tieAt tieOf in refl
-      go (suc (suc zero)) l = unfold tieBytes tieAt tieOf in refl
+      go zero l = unfold tieBytes tieAt in first-byte bs (j * 4)
+      go (suc zero) l = unfold tieBytes tieAt in refl
+      go (suc (suc zero)) l = unfold tieBytes tieAt in refl
       go (suc (suc (suc zero))) l = unfold tieBytes in sym (eqb-eq _ 0 (and-right (tieSound lives (tieAt bs j)) _ (and-left (tieSound lives (tieAt bs j) && eqb (getD bs (j * 4 + 3) 0) 0) _ h)))
       go (suc (suc (suc (suc k)))) l = absurd (omega arith)
 

@@ -6,10 +6,12 @@ use lib.Dec.{ltb, eqb}
 use lib.ListN.{getD}
 use Rattle.rules.specs.Base.{outside, allBelow}
 use Rattle.rules.specs.Sets.{Set}
-use Rattle.rules.specs.Window.{LogRecord, PermitRecord, TieRecord}
-use Rattle.rules.specs.Locks.{makePermit}
+use Rattle.rules.specs.Window.{LogRecord}
 use Rattle.rules.specs.Sound.{permitSound, tieSound}
 use Rattle.layout.specs.Codec.{join4, unpack}
+use Rattle.sets.specs.Closing.{tieAt}
+use Rattle.rows.specs.Rows.{rank, rowAt}
+use Rattle.locks.specs.Permits.{permitAt}
 
 -- a change's place: a status from 1 to 5, a lower parent, and two bytes that are 0
 unfoldable pub changeFits : List ℕ → ℕ → Bool
@@ -34,24 +36,11 @@ lockFits bs lives e c = not (reads bs e c && writes bs e c || (reads bs e c || w
 unfoldable pub rowFits : List ℕ → Set → ℕ → Bool
 rowFits bs lives e = allBelow 256 (lockFits bs lives e)
 
--- rows of four bytes, the first three of which are the sort key: the key as one number
-unfoldable pub keyAt : List ℕ → ℕ → ℕ
-keyAt bs j = getD bs (j * 4) 0 * 65536 + getD bs (j * 4 + 1) 0 * 256 + getD bs (j * 4 + 2) 0
-
 -- a row is above the one before it
 unfoldable pub inOrder : List ℕ → ℕ → Bool
-inOrder bs j = eqb j 0 || ltb (keyAt bs (j - 1)) (keyAt bs j)
+inOrder bs j = eqb j 0 || ltb (rank (rowAt bs (j - 1))) (rank (rowAt bs j))
 
--- the permit, the tie and the log record at a place
-unfoldable pub permitAt : List ℕ → ℕ → PermitRecord
-permitAt bs j = makePermit (getD bs (j * 4 + 1) 0) (getD bs (j * 4 + 2) 0) (getD bs (j * 4) 0) (getD bs (j * 4 + 3) 0)
-
-unfoldable pub tieOf : ℕ → ℕ → ℕ → TieRecord
-tieOf k l f = record { kind = k; leader = l; follower = f }
-
-unfoldable pub tieAt : List ℕ → ℕ → TieRecord
-tieAt bs j = tieOf (getD bs (j * 4) 0) (getD bs (j * 4 + 1) 0) (getD bs (j * 4 + 2) 0)
-
+-- the log record at a place
 unfoldable pub recordAt : List ℕ → ℕ → LogRecord
 recordAt bs j = record { owner = getD bs (j * 6) 0; entry = getD bs (j * 6 + 1) 0; before = join4 (λ k. getD bs (j * 6 + (k + 2)) 0) }
 

@@ -9,6 +9,7 @@ use layout::Locks;
 use layout::Log;
 use layout::Permits;
 use layout::Ties;
+use rows::key_at;
 use sets::ChangeSet;
 ghost use mathlib.Core.Path.{_≡_};
 ghost use mathlib.Core.Bool.{true};
@@ -20,7 +21,8 @@ ghost use Rattle.rules.specs.Base.{allBelow};
 ghost use Rattle.rules.specs.Locks.{makePermit};
 ghost use Rattle.rules.specs.Sound.{permitSound, tieSound};
 ghost use Rattle.sets.specs.Members.{members};
-ghost use Rattle.sections.specs.Cells.{changeFits, nextFits, writes, rowFits, keyAt, inOrder, tieOf, permitFits, tieFits, recordFits};
+ghost use Rattle.sets.specs.Closing.{tieOf};
+ghost use Rattle.sections.specs.Cells.{changeFits, nextFits, writes, rowFits, inOrder, permitFits, tieFits, recordFits};
 ghost use Rattle.sections.specs.Sections.{HeadSound, ValuesSound, ChangesSound, LocksSound, LogSound, PermitsSound, TiesSound};
 
 // Every figure is in its range, and the rest of the header is 0.
@@ -117,22 +119,6 @@ pub fn changes(changes: &[u8], given: usize) -> bool
         return false;
     }
     all_zero(changes, given * 4 + 4, Changes::SIZE)
-}
-
-// Three bytes as one number: their order is the order of the numbers.
-fn key(a: u8, b: u8, c: u8) -> u32
-    ensures { λ r. ⌜ r ≡ a * 65536 + b * 256 + c ⌝ }
-{
-    (a as u32) * 65536 + (b as u32) * 256 + (c as u32)
-}
-
-// The sort key of row j.
-fn key_at(rows: &[u8], j: usize) -> u32
-    requires { ⌜ j * 4 + 4 ≤ length (now rows) ⌝ }
-    ensures { λ r. ⌜ r ≡ keyAt (now (rows .entry)) j ⌝ }
-{
-    let at = j * 4;
-    key(rows[at], rows[at + 1], rows[at + 2])
 }
 
 // Whether row j is above the one before it.

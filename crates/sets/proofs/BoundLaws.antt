@@ -1,11 +1,11 @@
 -- Of the numbers below a bound: whether one passes, all pass, how many, which is the lowest. What tests that agree have alike, and bounds past which none passes. Assumes nothing.
 use mathlib.Core.Path.{_≡_, refl, sym, ap, _∙_}
-use mathlib.Core.Bool.{Bool, true, false, cond, false≢true}
+use mathlib.Core.Bool.{Bool, true, false, not, cond, _&&_, _||_, false≢true}
 use Prim.Native.Nat.{ℕ, zero, suc, _+_, _-_, _≤_, _<_}
 use native.Mathlib.Nat.{add-zero, add-suc, not-suc-le-zero}
 use native.Mathlib.Omega.{arith}
 use Rattle.rules.specs.Base.{anyBelow, allBelow, countBelow, lowestBelow}
-use Rattle.rules.proofs.BaseLaws.{any-intro, any-elim, anyBelow-none, none-below, both-ways, Within, count-same, Same, same, other, same?, Below, under, over, below}
+use Rattle.rules.proofs.BaseLaws.{any-intro, any-elim, anyBelow-none, none-below, allBelow-intro, allBelow-at, both-ways, not-true, Within, count-same, Same, same, other, same?, Below, under, over, below}
 use Rattle.layout.specs.Codec.{bit}
 
 -- tests that agree below the bound
@@ -29,6 +29,31 @@ module _ (f g : ℕ → Bool) where
   unfolding lowestBelow
   lowest-ext zero h = refl
   lowest-ext (suc n) h = rw (any-ext n (λ k l. h k (omega arith)), lowest-ext n (λ k l. h k (omega arith)), h n (omega arith))
+
+-- one of two tests, and a test that does not depend on the number
+or-swap : (a b c d : Bool) → (a || b) || (c || d) ≡ (a || c) || (b || d)
+or-swap true b c d = refl
+or-swap false true true d = refl
+or-swap false true false d = refl
+or-swap false false c d = refl
+
+pub any-or : (n : ℕ) (p q : ℕ → Bool) → anyBelow n (λ k. p k || q k) ≡ anyBelow n p || anyBelow n q
+unfolding anyBelow
+any-or zero p q = refl
+any-or (suc n) p q = rw (any-or n p q) (or-swap (anyBelow n p) (anyBelow n q) (p n) (q n))
+
+pub any-and : (n : ℕ) (b : Bool) (p : ℕ → Bool) → anyBelow n (λ k. b && p k) ≡ b && anyBelow n p
+unfolding anyBelow
+any-and zero true p = refl
+any-and zero false p = refl
+any-and (suc n) true p = rw (any-and n true p)
+any-and (suc n) false p = rw (any-and n false p)
+
+-- no number passes where all fail
+pub none-as : (n : ℕ) (p q : ℕ → Bool) → ((k : ℕ) → k < n → q k ≡ not (p k)) → not (anyBelow n p) ≡ allBelow n q
+none-as n p q h = both-ways _ _
+    (λ e. allBelow-intro n q (λ k l. h k l ∙ ap not (anyBelow-none n p (not-true _ e) k l)))
+    (λ e. ap not (none-below n p (λ k l x. false≢true (rw x at (sym (h k l) ∙ allBelow-at n q e k l)))))
 
 module _ (p : ℕ → Bool) where
   -- the lowest is the one that passes, or the bound, with none before it
@@ -68,6 +93,14 @@ module _ (p : ℕ → Bool) where
       go true b q r ih = let m = ih q in (omega (arith, m .0), m .1)
       go false true q r ih = (omega arith, r)
       go false false q r ih = absurd (false≢true (sym (rw (q, r)) ∙ e))
+
+  -- a lowest below the bound passes
+  pub lowest-found : (n : ℕ) → lowestBelow n p < n → p (lowestBelow n p) ≡ true
+  lowest-found n h = go (anyBelow n p) refl
+    where
+      go : (b : Bool) → anyBelow n p ≡ b → p (lowestBelow n p) ≡ true
+      go true q = lowest-hit n q .1
+      go false q = absurd (omega (arith, lowest-is n n (omega arith) (λ l. absurd (omega arith)) (anyBelow-none n p q)))
 
   -- none below the lowest passes
   pub lowest-below : (n k : ℕ) → k < lowestBelow n p → p k ≡ false

@@ -1,8 +1,8 @@
 -- A set's words and its 32 bytes: what a loop that gathers a word keeps, what is stored, and that it is read again. Assumes nothing.
 use mathlib.Core.Path.{_≡_, refl, sym, ap, ap₂, _∙_}
-use mathlib.Core.Bool.{Bool, false}
+use mathlib.Core.Bool.{false}
 use mathlib.Core.List.{List, [], _∷_, _++_}
-use Prim.Native.Nat.{ℕ, zero, suc, _+_, _-_, _*_, _/_, _%_, _^_, _≤_, _<_}
+use Prim.Native.Nat.{ℕ, _+_, _-_, _*_, _/_, _%_, _^_, _≤_, _<_}
 use native.Mathlib.Nat.{mod-lt}
 use native.Mathlib.Decide.{decLt}
 use native.Mathlib.Numerals.{add-one}
@@ -17,7 +17,7 @@ use Rattle.rules.specs.Sets.{Set}
 use Rattle.rules.proofs.BaseLaws.{ltb-true, ltb-false, and-false}
 use Rattle.layout.specs.Codec.{bit, pack, unpack}
 use Rattle.layout.proofs.SectionLaws.{length-table, getD-table0}
-use Rattle.layout.proofs.CodecLaws.{bit-most, unpack-pack}
+use Rattle.layout.proofs.CodecLaws.{pack-most, unpack-pack}
 use Rattle.sets.specs.Members.{members, loaded, setByte, setBytes, stored}
 use Rattle.sets.specs.declared.ChangeSet.{ChangeSet}
 use Rattle.sets.proofs.Digits.{unpack-push-low, unpack-push-high, unpack-mod, unpack-shr, unpack-ext}
@@ -85,11 +85,6 @@ loaded-words bs at a b c d room ra rb rc rd k = go (decLt k 256)
     go (no n) = members-above (ofWords (a ∷ b ∷ c ∷ d ∷ [])) refl k (omega arith) ∙ sym (loaded-above bs at k (omega arith))
 
 -- STORED
-pack-most : (n : ℕ) (p : ℕ → Bool) → pack n p < 2 ^ n
-unfolding pack
-pack-most zero p = omega arith
-pack-most (suc n) p = omega (arith, bit-most (p 0), pack-most n (λ j. p (suc j)))
-
 -- byte i of a set is a part of one of its words
 pub byte-word : (s : ChangeSet) (i : ℕ) → getD (s .words) (i / 8) 0 / 2 ^ (8 * (i % 8)) % 256 ≡ setByte (members s) i
 unfolding setByte members

@@ -1,22 +1,21 @@
 -- Ties in bytes as a list of ties, and the least set that none of them adds to as the closure of the rules. Assumes nothing.
 use mathlib.Core.Path.{_≡_, sym, ap, _∙_}
-use mathlib.Core.Bool.{Bool, true, false, _&&_, false≢true}
-use mathlib.Core.List.{List, [], _∷_}
+use mathlib.Core.Bool.{Bool, true, _&&_}
+use mathlib.Core.List.{List}
 use mathlib.Core.Logic.{_⊎_, inl, inr, ⊎-elim}
-use Prim.Native.Nat.{ℕ, zero, suc, _+_, _*_, _≤_, _<_}
-use native.Mathlib.Nat.{add-zero, not-suc-le-zero, le-of-suc-le-suc}
+use Prim.Native.Nat.{ℕ, _+_, _*_, _≤_, _<_}
 use native.Mathlib.Omega.{arith}
 use lib.Dec.{leb, eqb}
 use lib.ListN.{length, getD}
-use Rattle.rules.specs.Base.{any}
 use Rattle.rules.specs.Sets.{Set, closure}
 use Rattle.rules.specs.Window.{TieRecord}
 use Rattle.rules.specs.Ties.{isWait, isFall, isGroup, isArrow, tied, grouped, falling, leading}
 use Rattle.rules.proofs.BaseLaws.{or-left, or-right, or-cases, and-left, and-right, both-ways, eqb-eq, eqb-same, le-of, leb-true, Same, same, other, same?}
+use Rattle.rules.proofs.ListLaws.{any-at, any-place}
 use Rattle.rules.proofs.SetLaws.{closure-holds, closure-closed, closure-to}
 use Rattle.layout.specs.Codec.{noTie, tieBytes, tieByte, tieSection}
-use Rattle.layout.proofs.SectionLaws.{length-table, getD-table0}
-use Rattle.layout.proofs.CodecLaws.{slot4, rest4}
+use Rattle.layout.proofs.SectionLaws.{length-table}
+use Rattle.layout.proofs.RecordLaws.{placeByte, place-at, first-byte}
 use Rattle.sets.specs.declared.Along.{Along}
 use Rattle.sets.specs.declared.Along.the-variants.{Groups, Falls, Arrows}
 use Rattle.sets.specs.Closing.{relation, lowKind, follows, tieAt, passed}
@@ -27,18 +26,15 @@ pub length-ties : (ts : List TieRecord) → length (tieSection ts) ≡ 2048
 unfolding tieSection
 length-ties ts = length-table 2048 0 (tieByte ts)
 
-tie-byte : (ts : List TieRecord) (j i : ℕ) → j < 512 → i < 4 → getD (tieSection ts) (j * 4 + i) 0 ≡ getD (tieBytes (getD ts j noTie)) i 0
-unfolding tieSection tieByte
-tie-byte ts j i h l = getD-table0 2048 (tieByte ts) (j * 4 + i) 0 (omega arith) ∙ rw (slot4 j i l, rest4 j i l)
+-- a place with a tie's bytes holds the tie
+pub tie-again : (bs : List ℕ) (x : TieRecord) (j : ℕ) → ((k : ℕ) → k < 4 → getD bs (j * 4 + k) 0 ≡ getD (tieBytes x) k 0) → tieAt bs j ≡ x
+unfolding tieAt tieBytes
+tie-again bs x j f = λ i. record { kind = (first-byte bs (j * 4) ∙ f 0 (omega arith)) i; leader = f 1 (omega arith) i; follower = f 2 (omega arith) i }
 
 -- the ties read from a section are those that it holds
 pub tie-read : (ts : List TieRecord) (j : ℕ) → j < 512 → tieAt (tieSection ts) j ≡ getD ts j noTie
-unfolding tieAt tieBytes
-tie-read ts j h = λ i. record {
-  kind = (ap (λ x. getD (tieSection ts) x 0) (sym (add-zero (j * 4))) ∙ tie-byte ts j 0 h (omega arith)) i;
-  leader = tie-byte ts j 1 h (omega arith) i;
-  follower = tie-byte ts j 2 h (omega arith) i;
-}
+unfolding tieSection tieByte placeByte
+tie-read ts j h = tie-again (tieSection ts) (getD ts j noTie) j (λ k l. place-at 4 (omega arith) tieBytes noTie 512 ts j k h l)
 
 -- of the first n ties of a section
 pub section-read : (bs : List ℕ) (ts : List TieRecord) (n : ℕ) → 4 * n ≤ length bs → bs ≡ tieSection ts → (j : ℕ) → j < n → tieAt bs j ≡ getD ts j noTie
@@ -49,20 +45,6 @@ pub section-ends : (bs : List ℕ) (ts : List TieRecord) (n : ℕ) → 4 * n ≤
     → (j : ℕ) → j < n → (getD ts j noTie .leader < 256) × (getD ts j noTie .follower < 256)
 unfolding tieAt
 section-ends bs ts n room e bytes j h = let q = section-read bs ts n room e j h in (rw (← q) (bytes (j * 4 + 1)), rw (← q) (bytes (j * 4 + 2)))
-
--- one of a list passes: it stands at a place
-module _ {ℓ} {A : Type ℓ} (p : A → Bool) (d : A) where
-  pub any-place : (l : List A) → any p l ≡ true → (j : ℕ) × (j < length l) × (p (getD l j d) ≡ true)
-  unfolding any
-  any-place [] e = absurd (false≢true e)
-  any-place (x ∷ l) e = ⊎-elim (λ q. (0, omega arith, q)) (λ q. let m = any-place l q in (suc (m .0), omega (arith, m .1), m .2)) (or-cases (p x) (any p l) e)
-
-  -- what passes at a place passes in the list
-  pub any-at : (l : List A) (j : ℕ) → j < length l → p (getD l j d) ≡ true → any p l ≡ true
-  unfolding any
-  any-at [] j h e = absurd (not-suc-le-zero h)
-  any-at (x ∷ l) zero h e = or-left (p x) (any p l) e
-  any-at (x ∷ l) (suc j) h e = or-right (p x) (any p l) (any-at l j (le-of-suc-le-suc h) e)
 
 -- a tie of a kind that stands, by its place
 pub record Stands (ts : List TieRecord) (kind : ℕ → Bool) (a b : ℕ) : Type 0 where

@@ -3,6 +3,8 @@
 pub mod Digits
 -- the numbers below a bound that pass a test
 pub mod BoundLaws
+-- walks that ask a test of one number after the other
+pub mod TurnLaws
 -- four words as a set
 pub mod Words
 -- what callers want of the members
@@ -15,3 +17,5 @@ pub mod Bytes
 pub mod PassLaws
 -- passes come to the closure of the rules
 pub mod CloseLaws
+-- the entries that a delegate names
+pub mod EntryLaws

@@ -1,15 +1,16 @@
 -- What callers want of sets of four words: nothing past 255, and words that are settled by the members. Assumes nothing.
 use mathlib.Core.Path.{_≡_, refl, sym, ap, _∙_}
-use mathlib.Core.Bool.{Bool, Bool·beq, true, false}
+use mathlib.Core.Bool.{Bool, Bool·beq, true, false, _&&_, _||_, and-true, and-false, or-false, or-comm}
 use mathlib.Core.List.{List}
 use Prim.Native.Nat.{ℕ, _+_, _*_, _/_, _^_, _≤_, _<_}
 use native.Mathlib.Decide.{decLt}
 use native.Mathlib.Omega.{arith}
+use lib.Dec.{eqb}
 use lib.ListN.{length, getD, List·getD-eq-default}
 use lib.Seq.{ext-getD}
 use Rattle.rules.specs.Base.{allBelow}
 use Rattle.rules.specs.Sets.{Set}
-use Rattle.rules.proofs.BaseLaws.{allBelow-intro, allBelow-at}
+use Rattle.rules.proofs.BaseLaws.{allBelow-intro, allBelow-at, eqb-sym}
 use Rattle.sets.specs.Members.{members, agree}
 use Rattle.sets.specs.declared.ChangeSet.{ChangeSet}
 use Rattle.sets.proofs.Digits.{unpack-ext}
@@ -62,3 +63,12 @@ agree-at n s t e k h = beq-same (s k) (t k) (allBelow-at n (agree s t) e k h)
 pub agree-all : (n : ℕ) (s t : Set) → ((k : ℕ) → k < n → s k ≡ t k) → allBelow n (agree s t) ≡ true
 unfolding agree
 agree-all n s t h = allBelow-intro n (agree s t) (λ k l. rw (h k l) (beq-refl (t k)))
+
+-- ONE MORE
+-- one where a test passed, as `add` has it
+pub add-passed : (c k : ℕ) (s s′ test : Bool) → test ≡ true → s′ ≡ eqb k c || s → s′ ≡ s || eqb c k && test
+add-passed c k s s′ test t e = e ∙ or-comm (eqb k c) s ∙ rw (t, and-true (eqb c k), eqb-sym k c)
+
+-- nothing where it failed
+pub nothing-added : (s m test : Bool) → test ≡ false → s ≡ s || m && test
+nothing-added s m test t = rw (t, and-false m, or-false s)

@@ -1,9 +1,10 @@
--- The least set that holds a set and is closed under ties, and one pass over ties in bytes. Assumes nothing.
+-- The least set that holds a set and is closed under ties, a bound on the ties' ends, and one pass over ties in bytes. Assumes nothing.
 use mathlib.Core.Bool.{Bool, _&&_, _||_}
 use mathlib.Core.List.{List}
 use Prim.Native.Nat.{ℕ, zero, suc, _+_, _*_}
-use lib.Dec.{leb, eqb}
+use lib.Dec.{leb, ltb, eqb}
 use lib.ListN.{getD}
+use Rattle.rules.specs.Base.{all}
 use Rattle.rules.specs.Sets.{Set, Rel}
 use Rattle.rules.specs.Window.{TieRecord}
 use Rattle.rules.specs.Ties.{isGroup, grouped, falling, leading}
@@ -15,6 +16,10 @@ unfoldable pub relation : Along → List TieRecord → Rel
 relation Groups ts = grouped ts
 relation Falls ts = falling ts
 relation Arrows ts = leading ts
+
+-- both ends of each tie are below n
+unfoldable pub endsBelow : ℕ → List TieRecord → Bool
+endsBelow n ts = all (λ t. ltb t.leader n && ltb t.follower n) ts
 
 -- the kinds that are gone along from leader to follower are those from a lowest one to 3
 abbrev pub lowKind : Along → ℕ

@@ -4,22 +4,20 @@ use mathlib.Core.Bool.{true, not, _&&_}
 use mathlib.Core.List.{List, [], _∷_, _++_}
 use Prim.Native.Nat.{ℕ, suc, _≤_}
 use native.Mathlib.Omega.{arith}
-use lib.Dec.{ltb}
 use lib.ListN.{length, take, drop}
 use Rattle.rules.specs.Base.{exceeds, all}
-use Rattle.rules.specs.Window.{TieRecord, limits, Window, live}
+use Rattle.rules.specs.Window.{limits, Window, live}
 use Rattle.rules.specs.Sound.{heldSound, tieSound}
 use Rattle.rules.specs.Locks.{clashesPermitted}
 use Rattle.rules.specs.Ties.{acyclic}
-use Rattle.rules.proofs.ListLaws.{all-weaken}
 use Rattle.rules.proofs.BaseLaws.{and-both, over-false, within-of, ltb-true, lt-of}
-use Rattle.rules.proofs.SoundParts.{Sound, tie-parts, live-below, held-most, held-no-change, fits-all, fit-locks}
-use Rattle.layout.specs.Codec.{headAt, headSize, valuesAt, valuesSize, changesAt, changesSize, lineAt, lineSize, locksAt, locksSize, permitsAt, permitsSize, tiesAt, tiesSize, logAt, logSize, windowSize, figures, headSection, encode, decode}
+use Rattle.rules.proofs.SoundParts.{Sound, ends-below, held-most, held-no-change, fits-all, fit-locks}
+use Rattle.layout.specs.Codec.{headAt, headSize, valuesAt, valuesSize, changesAt, changesSize, lineAt, lineSize, locksAt, locksSize, permitsAt, permitsSize, tiesAt, tiesSize, logAt, logSize, windowSize, figures, headSection, lay, encode, decode}
 use Rattle.layout.specs.Memory.{soundBytes}
-use Rattle.layout.proofs.MemoryLaws.{encode-sound, bytes-sound, bytes-again}
+use Rattle.layout.proofs.MemoryLaws.{encode-sound, bytes-sound, part-of}
 use Rattle.layout.proofs.PartLaws.{head-part, values-part, changes-part, line-part, locks-part, permits-part, ties-part, log-part, eight-parts}
+use Rattle.sets.specs.Closing.{endsBelow}
 use Rattle.locks.specs.Held.{Modes}
-use Rattle.cycles.specs.Graph.{endsBelow}
 use Rattle.sections.specs.Sections.{HeadSound, ChangesSound}
 use Rattle.soundness.specs.Parts.{lives, cut, FrontSound, BackSound, Listed}
 
@@ -51,7 +49,7 @@ module _ (bs : List ℕ) (size : length bs ≡ windowSize) (h : HeadSound (cut b
   }
 
   pub gathered-bytes : encode gathered ≡ bs
-  unfolding gathered encode figures
+  unfolding gathered encode lay figures
   gathered-bytes = sym (eight-parts bs size ∙ join8
       (h .bytes ∙ (λ i. headSection (h .entries ∷ h .given ∷ sym (k .log .size) i ∷ sym (k .permits .size) i ∷ sym (k .ties .size) i ∷ [])))
       (f .values .bytes) (c .bytes) (f .line) (f .locks .bytes) (k .permits .bytes) (k .ties .bytes) (k .log .bytes))
@@ -82,11 +80,6 @@ module _ (bs : List ℕ) (size : length bs ≡ windowSize) (h : HeadSound (cut b
   gathered-all a p = rw gathered-bytes at (encode-sound gathered (gathered-sound a p))
 
   -- its locks, permits and ties, as the last two tests want them
-  below : (t : TieRecord) → tieSound (live gathered) t ≡ true → ltb t.leader (suc (h .given)) && ltb t.follower (suc (h .given)) ≡ true
-  unfolding gathered
-  below t q = let x = tie-parts (live gathered) t q in
-      and-both _ _ (ltb-true t.leader (suc (h .given)) (live-below gathered t.leader (x .1))) (ltb-true t.follower (suc (h .given)) (live-below gathered t.follower (x .2)))
-
   helds : (e n : ℕ) → heldSound (gathered .entries) (live gathered) (gathered .held) e n ≡ true
   unfolding gathered live lives
   helds = f .locks .fine
@@ -110,7 +103,7 @@ module _ (bs : List ℕ) (size : length bs ≡ windowSize) (h : HeadSound (cut b
     };
     tie-bytes = k .ties .bytes;
     tie-count = k .ties .size;
-    ends = all-weaken (tieSound (live gathered)) _ below (k .ties .ties) fine-ties;
+    ends = ends-below gathered fine-ties;
   }
 
 -- FROM THE WINDOW TO THE SECTIONS
@@ -123,9 +116,9 @@ module _ (bs : List ℕ) (size : length bs ≡ windowSize) (s : soundBytes bs �
   z = bytes-sound bs s
 
   -- a part of the bytes is that part of the window's
-  pub at : (p n : ℕ) {x : List ℕ} → take n (drop p (encode W)) ≡ x → take n (drop p bs) ≡ x
+  pub at : (p n : ℕ) {x : List ℕ} → take n (drop p (lay (figures W) W)) ≡ x → take n (drop p bs) ≡ x
   unfolding W
-  at p n e = ap (λ l. take n (drop p l)) (sym (bytes-again bs s)) ∙ e
+  at p n e = part-of bs s p n e
 
   unfoldable pub head-known : HeadSound (cut bs headAt headSize)
   unfolding figures limits
@@ -135,7 +128,7 @@ module _ (bs : List ℕ) (size : length bs ≡ windowSize) (s : soundBytes bs �
     records = length (W .log);
     permits = length (W .permits);
     ties = length (W .ties);
-    bytes = at headAt headSize (head-part W);
+    bytes = at headAt headSize (head-part (figures W) W);
     some = lt-of 0 (W .entries) (z .some);
     entries-most = within-of (W .entries) 256 (z .entries);
     given-most = within-of (W .given) 255 (z .changes);
@@ -145,22 +138,22 @@ module _ (bs : List ℕ) (size : length bs ≡ windowSize) (s : soundBytes bs �
   }
 
   unfoldable pub changes-known : ChangesSound (cut bs changesAt changesSize) (W .given)
-  changes-known = record { status = W .status; parent = W .parent; bytes = at changesAt changesSize (changes-part W); statuses = z .statuses; parents = z .parents }
+  changes-known = record { status = W .status; parent = W .parent; bytes = at changesAt changesSize (changes-part (figures W) W); statuses = z .statuses; parents = z .parents }
 
   unfoldable pub front-known : FrontSound bs (W .entries) (lives (W .given) (W .status))
   unfolding live lives
   front-known = record {
-    values = record { value = W .value; bytes = at valuesAt valuesSize (values-part W); fine = z .values };
-    line = at lineAt lineSize (line-part W);
-    locks = record { held = W .held; bytes = at locksAt locksSize (locks-part W); fine = z .helds };
+    values = record { value = W .value; bytes = at valuesAt valuesSize (values-part (figures W) W); fine = z .values };
+    line = at lineAt lineSize (line-part (figures W) W);
+    locks = record { held = W .held; bytes = at locksAt locksSize (locks-part (figures W) W); fine = z .helds };
   }
 
   pub back-known : BackSound bs (W .entries) (length (W .permits)) (length (W .ties)) (length (W .log)) (lives (W .given) (W .status)) (W .held)
   unfolding live lives
   back-known = record {
-    permits = record { permits = W .permits; size = refl; bytes = at permitsAt permitsSize (permits-part W); fine = z .permits; order = z .permit-order };
-    ties = record { ties = W .ties; size = refl; bytes = at tiesAt tiesSize (ties-part W); fine = z .ties; order = z .tie-order };
-    log = record { log = W .log; size = refl; bytes = at logAt logSize (log-part W); fine = z .records };
+    permits = record { permits = W .permits; size = refl; bytes = at permitsAt permitsSize (permits-part (figures W) W); fine = z .permits; order = z .permit-order };
+    ties = record { ties = W .ties; size = refl; bytes = at tiesAt tiesSize (ties-part (figures W) W); fine = z .ties; order = z .tie-order };
+    log = record { log = W .log; size = refl; bytes = at logAt logSize (log-part (figures W) W); fine = z .records };
   }
 
   pub listed-known : Listed bs (W .entries) (length (W .permits)) (length (W .ties)) W

@@ -1,12 +1,12 @@
 -- A test that failed or did not, and what it decides; the length of a part; memory that begins with a window. Assumes nothing.
-use mathlib.Core.Path.{_≡_, refl, sym, _∙_}
+use mathlib.Core.Path.{_≡_, sym, _∙_}
 use mathlib.Core.Logic.{_↔_}
 use mathlib.Core.List.{List}
 use Prim.Native.Nat.{ℕ, _+_, _≤_, _<_}
 use native.Mathlib.Omega.{arith}
 use lib.ListN.{length, take, drop, length-take, length-drop}
 use mathlib.Core.Bool.{Bool, true, false, not, false≢true}
-use Rattle.rules.proofs.BaseLaws.{not-true, not-false, and-left, le-of, leb-true}
+use Rattle.rules.proofs.BaseLaws.{no-true, not-true, not-false, and-left, le-of, leb-true}
 use Rattle.layout.specs.Codec.{windowSize}
 use Rattle.layout.specs.Memory.{soundBytes, long, soundMemory}
 
@@ -20,8 +20,7 @@ passes {r} e n = e .0 (not-false r n)
 
 -- what is not so is false
 pub refuted : (b : Bool) → (b ≡ true → ⊥) → false ≡ b
-refuted true f = absurd (f refl)
-refuted false f = refl
+refuted b f = sym (no-true b f)
 
 -- a part of a window's bytes is as long as it says
 pub length-cut : (bs : List ℕ) (at n size : ℕ) → length bs ≡ size → at + n ≤ size → length (take n (drop at bs)) ≡ n

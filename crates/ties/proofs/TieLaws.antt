@@ -1,26 +1,25 @@
 -- Ties as rows, and what the calls on rows come to in ties. Assumes nothing.
-use mathlib.Core.Path.{_≡_, refl, sym, ap, _∙_}
-use mathlib.Core.Logic.{_⊎_, inl, inr}
-use mathlib.Core.Bool.{Bool, true, false, not, cond, _&&_, _||_, false≢true}
-use mathlib.Core.List.{List, [], _∷_, _++_}
-use Prim.Native.Nat.{ℕ, _-_, _*_, _≤_, _<_, min, max, Ordering}
+use mathlib.Core.Path.{_≡_, refl, ap, _∙_}
+use mathlib.Core.Bool.{Bool, true, false, not, cond, _&&_, _||_}
+use mathlib.Core.List.{List, _++_}
+use Prim.Native.Nat.{ℕ, _-_, _*_, _≤_, _<_, min, max}
 use native.Mathlib.Omega.{arith}
 use lib.Dec.{ltb, eqb}
 use lib.ListN.{length, replicate}
 use borrow.Author.Tests.{ltb-true, ltb-false, eqb-true}
-use Rattle.rules.specs.Base.{Key, order, isLt, byOrder, all, any, exceeds, insert, rising}
+use Rattle.rules.specs.Base.{any, exceeds, rising}
 use Rattle.rules.specs.Sets.{Set, only}
 use Rattle.rules.specs.Window.{limits, TieRecord, Window, tieKey}
 use Rattle.rules.specs.Ties.{isGroup, makeTie, addTie, tied}
 use Rattle.rules.specs.Locks.{contains}
 use Rattle.rules.specs.Effects.{endAll}
-use Rattle.rules.proofs.BaseLaws.{and-left, and-right, or-cases}
-use Rattle.rules.proofs.ListLaws.{find}
-use Rattle.rules.proofs.SortLaws.{Before, by1, by2, by3, before-trans, before-of-lt, Ordered, below, equal, above, ordered}
+use Rattle.rules.proofs.BaseLaws.{and-left, and-right}
+use Rattle.rules.proofs.ListLaws.{any-find}
+use Rattle.rules.proofs.SortLaws.{insert-standing}
 use Rattle.layout.specs.Codec.{tieBytes, tieSection}
 use Rattle.layout.proofs.RecordLaws.{ties-flat}
 use Rattle.rows.specs.Rows.{Row, row, rowKey, rowBytes, rows, hasKey, uniteRows, addRow, unlessOver, spared, Stored, Closed, Holds}
-use Rattle.rows.proofs.TableLaws.{TableOf, flat-rows, table-rising, table-closed, table-any, table-fits, table-added}
+use Rattle.rows.proofs.TableLaws.{TableOf, flat-rows, table-rising, table-any, table-fits, table-added, table-left}
 use Rattle.ties.specs.Tables.{tieStands, tiesLeft}
 
 -- a tie's row
@@ -45,41 +44,27 @@ pub ties-ended : (how : ℕ) (s : Set) (W : Window) → endAll how s W .ties ≡
 unfolding endAll tiesLeft
 ties-ended how s W = refl
 
--- A TIE THAT STANDS is not entered again
-irrefl : {a : Key} → Before a a → ⊥
-irrefl (by1 p) = omega arith
-irrefl (by2 e p) = omega arith
-irrefl (by3 e f p) = omega arith
+-- and the rows that are spared are theirs
+pub ties-left : (s : Set) (n : ℕ) (bytes : List ℕ) → n ≤ 512 → (r : ℕ) (after : List ℕ) → Closed (spared s) n bytes r after
+    → (r ≤ n) × ((ts : List TieRecord) → length ts ≡ n → bytes ≡ tieSection ts → Holds tieSection (tiesLeft s ts) r after)
+unfolding tiesLeft spared tieRow
+ties-left = table-left tieRow tieKey tieSection 512 tie-table (λ s t. not (s t.leader || s t.follower)) (λ s t. refl)
 
--- a tie of the same kind and ends has its key
-same-key : (t u : TieRecord) → eqb u.kind t.kind && eqb u.leader t.leader && eqb u.follower t.follower ≡ true → tieKey t ≡ tieKey u
-unfolding tieKey
-same-key t u e =
+-- A TIE THAT STANDS is not entered again: one of the same kind and ends is the tie
+same-tie : (t u : TieRecord) → eqb u.kind t.kind && eqb u.leader t.leader && eqb u.follower t.follower ≡ true → u ≡ t
+same-tie t u e =
     let d : eqb u.kind t.kind && eqb u.leader t.leader ≡ true = and-left (eqb u.kind t.kind && eqb u.leader t.leader) (eqb u.follower t.follower) e in
-    let a : t .kind ≡ u .kind = sym (eqb-true u.kind t.kind (and-left (eqb u.kind t.kind) (eqb u.leader t.leader) d)) in
-    let b : t .leader ≡ u .leader = sym (eqb-true u.leader t.leader (and-right (eqb u.kind t.kind) (eqb u.leader t.leader) d)) in
-    let c : t .follower ≡ u .follower = sym (eqb-true u.follower t.follower (and-right (eqb u.kind t.kind && eqb u.leader t.leader) (eqb u.follower t.follower) e)) in
-    λ i. record { k1 = a i; k2 = b i; k3 = c i }
+    let a : u .kind ≡ t .kind = eqb-true u.kind t.kind (and-left (eqb u.kind t.kind) (eqb u.leader t.leader) d) in
+    let b : u .leader ≡ t .leader = eqb-true u.leader t.leader (and-right (eqb u.kind t.kind) (eqb u.leader t.leader) d) in
+    let c : u .follower ≡ t .follower = eqb-true u.follower t.follower (and-right (eqb u.kind t.kind && eqb u.leader t.leader) (eqb u.follower t.follower) e) in
+    λ i. record { kind = a i; leader = b i; follower = c i }
 
--- one that stands leaves the ties as they are
+-- so the ties stay as they are
 pub stands-same : (t : TieRecord) (ts : List TieRecord) → rising tieKey ts ≡ true → tieStands t ts ≡ true → addTie t ts ≡ ts
-unfolding tieStands tied only any addTie insert byOrder rising
-stands-same t [] r e = absurd (false≢true e)
-stands-same t (u ∷ ts) r e =
-    go (ordered (tieKey t) (tieKey u)) (stands-same t ts (and-right (all (λ y. isLt (order (tieKey u) (tieKey y))) ts) (rising tieKey ts) r)) (or-cases (eqb u.kind t.kind && eqb u.leader t.leader && eqb u.follower t.follower) (tieStands t ts) e)
-  where
-    later : tieStands t ts ≡ true → Before (tieKey u) (tieKey t)
-    later q =
-        let w = find (λ v. eqb v.kind t.kind && eqb v.leader t.leader && eqb v.follower t.follower) (λ y. isLt (order (tieKey u) (tieKey y))) ts q (and-left (all (λ y. isLt (order (tieKey u) (tieKey y))) ts) (rising tieKey ts) r) in
-        rw (same-key t (w .0) (w .1)) (before-of-lt (tieKey u) (tieKey (w .0)) (w .2))
-
-    go : {o : Ordering} → Ordered (tieKey t) (tieKey u) o → (tieStands t ts ≡ true → addTie t ts ≡ ts) → (eqb u.kind t.kind && eqb u.leader t.leader && eqb u.follower t.follower ≡ true) ⊎ (tieStands t ts ≡ true)
-        → byOrder o (t ∷ u ∷ ts) (u ∷ ts) (u ∷ insert tieKey (λ p q. q) t ts) ≡ u ∷ ts
-    go (below b) ih (inl q) = absurd (irrefl (rw (same-key t u q) at b))
-    go (below b) ih (inr q) = absurd (irrefl (before-trans b (later q)))
-    go (equal k) ih q = refl
-    go (above b) ih (inl q) = absurd (irrefl (rw (same-key t u q) at b))
-    go (above b) ih (inr q) = ap (λ (x : List TieRecord). u ∷ x) (ih q)
+unfolding tieStands tied only addTie
+stands-same t ts r e =
+    let m = any-find (λ u. eqb u.kind t.kind && eqb u.leader t.leader && eqb u.follower t.follower) ts e in
+    insert-standing tieKey (rw (same-tie t (m .0) (m .2)) at (m .1)) r
 
 -- THE ENDS AS STORED
 abbrev stored : Bool → ℕ → ℕ → ℕ → TieRecord
@@ -121,11 +106,6 @@ module _ (ts : List TieRecord) (n : ℕ) (bytes : List ℕ) (len : length ts ≡
   -- its rows are in order where the ties are
   pub ties-rising : rising tieKey ts ≡ true → rising rowKey (rows n bytes) ≡ true
   ties-rising = table-rising tieRow tieKey tieSection 512 tie-table ts n bytes len is few
-
-  -- the rows that are spared are the ties that are left
-  pub ties-left : (s : Set) (r : ℕ) (after : List ℕ) → Closed (spared s) n bytes r after → Holds tieSection (tiesLeft s ts) r after
-  unfolding tiesLeft spared tieRow
-  ties-left s r after c = table-closed tieRow tieKey tieSection 512 tie-table ts n bytes len is few (spared s) (λ t. not (s t.leader || s t.follower)) (λ t. refl) r after c
 
   module _ (x : Row) (t : TieRecord) (e : x ≡ tieRow t) where
     -- a tie fits where its row does

@@ -2,7 +2,7 @@
 use borrow.Author.Needs.{needs}
 use lib.Dec.{eqb}
 use Rattle.sets.specs.Members.{members}
-use Rattle.clashes.proofs.BesideLaws.{add-passed, nothing-added}
+use Rattle.sets.proofs.MemberLaws.{add-passed, nothing-added}
 use Rattle.clashes.proofs.add_if.Statement.{statement}
 use Rattle.clashes.proofs.add_if.Tie as tie
 

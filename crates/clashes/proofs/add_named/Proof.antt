@@ -4,7 +4,7 @@ use Prim.Native.Nat.{ℕ, _+_, _*_}
 use borrow.Author.Needs.{needs}
 use lib.ListN.{getD}
 use Rattle.sets.specs.Members.{members}
-use Rattle.clashes.specs.Permits.{permitAt}
+use Rattle.locks.specs.Permits.{permitAt}
 use Rattle.clashes.proofs.BesideLaws.{named-added}
 use Rattle.clashes.proofs.add_named.Statement.{statement}
 use Rattle.clashes.proofs.add_named.Tie as tie

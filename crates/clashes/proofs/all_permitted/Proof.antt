@@ -1,16 +1,15 @@
 -- `clashes::all_permitted` meets its contract: the entries passed have permits for their clashing pairs, and the permits before `next` are of those entries. The measure is how many are left. Assumes nothing.
-use mathlib.Core.Path.{_≡_, refl, sym, _∙_}
+use mathlib.Core.Path.{_≡_, refl, sym, _∙_, ap}
 use mathlib.Core.Logic.{⊎-elim}
-use mathlib.Core.Bool.{true}
+use mathlib.Core.Bool.{true, not}
 use Prim.Native.Nat.{ℕ, _≤_, _<_, _-_, _+_}
 use native.Mathlib.Omega.{arith}
 use borrow.Author.Needs.{needs}
-use borrow.Author.Tests.{not-true, not-false}
 use Rattle.rules.specs.Base.{allBelow}
 use Rattle.rules.specs.Window.{Window}
+use Rattle.sets.proofs.TurnLaws.{none-yet, turn-failed, turn-passed, turns-done}
+use Rattle.locks.specs.Permits.{permitAt}
 use Rattle.clashes.specs.Holds.{Holds}
-use Rattle.clashes.specs.Permits.{permitAt}
-use Rattle.clashes.proofs.TurnLaws.{turns-none, turn-passed, turn-failed, turns-done}
 use Rattle.clashes.proofs.ClashLaws.{entryPermitted, by-entries, lower-last, turn-quiet, turn-found}
 use Rattle.clashes.proofs.all_permitted.Statement.{statement}
 use Rattle.clashes.proofs.all_permitted.Tie as tie
@@ -23,7 +22,7 @@ abbrev μ-loop : tie.MeasureT-loop
 μ-loop locks entries permits count entry₀ next₀ entry next = entries - entry
 
 loop-holds : tie.Need-loop-holds Inv-loop μ-loop
-loop-holds c = (omega arith, omega arith, λ j h. absurd (omega arith), λ W h. turns-none (entryPermitted W))
+loop-holds c = (omega arith, omega arith, λ j h. absurd (omega arith), λ W h. none-yet (entryPermitted W))
 
 returns : tie.Need-returns Inv-loop μ-loop
 returns c W h =
@@ -34,7 +33,7 @@ returns c W h =
     let one = c .before .entry-permitted in
     turn-failed (W .entries) (entryPermitted W) (l .entry) (one .result) (rw (h .entry-count) (omega arith))
     (turn-found (a .locks .now) (a .permits .now) (a .entries) (a .count) W h (l .entry) (one .result) (l .next) (from .result) (to .result) (omega arith) (l .inv .2) (from .ensures) (to .ensures) (one .ensures))
-    (not-true _ (c .if2 .taken))
+    (c .if2 .taken)
     ∙ sym (by-entries W)
 
 loop-again : tie.Need-loop-again Inv-loop μ-loop
@@ -47,16 +46,16 @@ loop-again c =
       omega arith,
       rw (w .5) (w .2 .ensures .to),
       rw (w .5) lower,
-      λ W h. turn-passed (entryPermitted W) (l .entry) (w .3 .result) (l .inv .3 W h)
+      λ W h. turn-passed (l .entry) (entryPermitted W) (w .3 .result) (l .inv .3 W h)
           (turn-found (a .locks .now) (a .permits .now) (a .entries) (a .count) W h (l .entry) (w .3 .result) (l .next) (w .1 .result) (w .2 .result) (omega arith) (l .inv .2) (w .1 .ensures) (w .2 .ensures) (w .3 .ensures))
-          (not-false _ (w .4 .left)),
+          (w .4 .left),
     ))
     (λ w. (
       omega arith,
       rw (w .1) (l .inv .1),
       rw (w .1) (λ j h. omega (arith, l .inv .2 j h)),
-      λ W h. turn-passed (entryPermitted W) (l .entry) (entryPermitted W (l .entry)) (l .inv .3 W h) refl
-          (turn-quiet (a .locks .now) (a .permits .now) (a .entries) (a .count) W h (l .entry) (c .before .contested .result) (c .before .contested .ensures) (w .0 .left)),
+      λ W h. turn-passed (l .entry) (entryPermitted W) (entryPermitted W (l .entry)) (l .inv .3 W h) refl
+          (ap not (turn-quiet (a .locks .now) (a .permits .now) (a .entries) (a .count) W h (l .entry) (c .before .contested .result) (c .before .contested .ensures) (w .0 .left))),
     ))
     (c .if1 .came)
 

@@ -5,7 +5,8 @@ use borrow.Author.Needs.{needs}
 use borrow.Author.Tests.{lt-leb}
 use Rattle.rules.proofs.BaseLaws.{leb-true}
 use Rattle.rules.specs.Locks.{makePermit}
-use Rattle.clashes.specs.Permits.{permitAt, fromEntry}
+use Rattle.locks.specs.Permits.{permitAt}
+use Rattle.clashes.specs.Permits.{fromEntry}
 use Rattle.clashes.proofs.PlaceLaws.{Skipped, skipped-none, skipped-more, first-found, first-nothing}
 use Rattle.clashes.proofs.first_from.Statement.{statement}
 use Rattle.clashes.proofs.first_from.Tie as tie

@@ -4,7 +4,8 @@ use Prim.Native.Nat.{ℕ, _≤_, _-_}
 use native.Mathlib.Omega.{arith}
 use borrow.Author.Needs.{needs}
 use Rattle.sets.specs.Members.{members}
-use Rattle.clashes.specs.Permits.{permitAt, anyOf}
+use Rattle.locks.specs.Permits.{permitAt}
+use Rattle.clashes.specs.Permits.{anyOf}
 use Rattle.clashes.specs.Beside.{permitsAnybody}
 use Rattle.clashes.proofs.PlaceLaws.{any-none, any-next}
 use Rattle.clashes.proofs.givers_to_anybody.Statement.{statement}

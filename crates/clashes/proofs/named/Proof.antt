@@ -6,7 +6,8 @@ use native.Mathlib.Omega.{arith}
 use borrow.Author.Needs.{needs}
 use Rattle.rules.specs.Window.{PermitRecord}
 use Rattle.sets.specs.Members.{members}
-use Rattle.clashes.specs.Permits.{permitAt, anyOf}
+use Rattle.locks.specs.Permits.{permitAt}
+use Rattle.clashes.specs.Permits.{anyOf}
 use Rattle.clashes.specs.Beside.{names}
 use Rattle.clashes.proofs.PlaceLaws.{any-none, any-next, any-skipped}
 use Rattle.clashes.proofs.BesideLaws.{names-none}

@@ -3,7 +3,8 @@ use Prim.Native.Nat.{_≤_, _-_}
 use native.Mathlib.Omega.{arith}
 use borrow.Author.Needs.{needs}
 use Rattle.rules.specs.Locks.{makePermit}
-use Rattle.clashes.specs.Permits.{permitAt, involves}
+use Rattle.locks.specs.Permits.{permitAt}
+use Rattle.clashes.specs.Permits.{involves}
 use Rattle.clashes.proofs.PlaceLaws.{Skipped, skipped-none, skipped-more, first-found, first-nothing}
 use Rattle.clashes.proofs.next_involving.Statement.{statement}
 use Rattle.clashes.proofs.next_involving.Tie as tie

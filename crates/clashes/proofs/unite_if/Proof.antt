@@ -1,7 +1,8 @@
 -- `clashes::unite_if` meets its contract: with the other set where the test passed, as it was where it failed. Assumes nothing.
 use borrow.Author.Needs.{needs}
 use Rattle.sets.specs.Members.{members}
-use Rattle.clashes.proofs.BesideLaws.{unite-passed, nothing-added}
+use Rattle.sets.proofs.MemberLaws.{nothing-added}
+use Rattle.clashes.proofs.BesideLaws.{unite-passed}
 use Rattle.clashes.proofs.unite_if.Statement.{statement}
 use Rattle.clashes.proofs.unite_if.Tie as tie
 

@@ -4,7 +4,7 @@ use native.Mathlib.Omega.{arith}
 use borrow.Author.Needs.{needs}
 use borrow.Author.Tests.{not-true, not-false}
 use Rattle.sets.specs.Members.{members}
-use Rattle.clashes.specs.Permits.{permitAt}
+use Rattle.locks.specs.Permits.{permitAt}
 use Rattle.clashes.specs.Beside.{writerFits, writersFit}
 use Rattle.clashes.proofs.WriterLaws.{Walked, lowest-of, walk-start, walk-failed, walk-rises, walk-next, walk-done}
 use Rattle.clashes.proofs.writers_permitted.Statement.{statement}

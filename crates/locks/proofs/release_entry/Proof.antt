@@ -1,11 +1,9 @@
 -- `locks::release_entry` meets its contract: nothing is stored where the set holds nothing; otherwise both sets without it. Assumes nothing.
-use mathlib.Core.Path.{_≡_, sym, _∙_, ap}
-use mathlib.Core.Bool.{_&&_, _||_}
-use Prim.Native.Nat.{ℕ}
+use mathlib.Core.Path.{sym, _∙_, ap}
 use Rattle.rules.proofs.BaseLaws.{not-true}
 use Rattle.layout.specs.Codec.{lockSection}
 use Rattle.sets.specs.Members.{members}
-use Rattle.locks.specs.Held.{inMode, rowWithout}
+use Rattle.locks.specs.Held.{rowWithout}
 use Rattle.locks.proofs.SectionLaws.{row-same}
 use Rattle.locks.proofs.RowLaws.{row-without, row-without-none}
 use Rattle.locks.proofs.ChangeLaws.{on-entry}
@@ -17,10 +15,8 @@ returns : tie.Need-returns
 returns c held e =
     let a = c .before .before .before .before .before .before .before .before .before .args in
     let l = c .before .before .before .before .before .before .load .ensures held e in
-    let taken : (k : ℕ) → members (c .before .before .common .result) k ≡ (inMode 1 (held (a .entry)) k || inMode 2 (held (a .entry)) k) && members (a .ended) k =
-    λ k. c .before .before .common .ensures k ∙ rw (c .before .before .before .unite .ensures k, l .readers k, l .writers k) in
     e ∙ row-same held (a .entry) (rowWithout (members (a .ended)) (held (a .entry)))
-    (row-without-none (held (a .entry)) (members (a .ended)) (members (c .before .before .common .result)) taken (not-true _ (sym (c .before .is-empty .ensures) ∙ c .if1 .taken)))
+    (row-without-none (held (a .entry)) (members (a .ended)) _ _ _ _ (l .readers) (l .writers) (c .before .before .before .unite .ensures) (c .before .before .common .ensures) (not-true _ (sym (c .before .is-empty .ensures) ∙ c .if1 .taken)))
     ∙ ap lockSection (on-entry (rowWithout (members (a .ended))) held (a .entry))
 
 returns-2 : tie.Need-returns-2

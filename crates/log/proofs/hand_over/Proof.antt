@@ -7,7 +7,8 @@ use lib.ListN.{length}
 use borrow.Author.Needs.{needs}
 use Rattle.rules.specs.Window.{LogRecord}
 use Rattle.layout.specs.Codec.{logSection}
-use Rattle.log.specs.Records.{onEntries, movedRecord}
+use Rattle.sets.specs.Entries.{onEntries}
+use Rattle.log.specs.Records.{movedRecord}
 use Rattle.log.proofs.MoveLaws.{firstMoved, first-none, first-turn, first-all}
 use Rattle.log.proofs.hand_over.Statement.{statement}
 use Rattle.log.proofs.hand_over.Tie as tie

@@ -5,9 +5,9 @@ use Prim.Native.Nat.{ℕ, _-_, _≤_}
 use native.Mathlib.Omega.{arith}
 use borrow.Author.Needs.{needs}
 use Rattle.rules.specs.Base.{any, rising}
+use Rattle.layout.proofs.SectionLaws.{Bytes}
 use Rattle.sets.specs.Members.{members}
 use Rattle.rows.specs.Rows.{rowKey, rowAt, rows}
-use Rattle.rows.proofs.OrderLaws.{Bytes}
 use Rattle.permits.proofs.PermitLaws.{permits-rising}
 use Rattle.permits.proofs.GiverLaws.{grants, ahead, FromEntry, walk-from, walk-entry, walk-next, walk-stop, walk-end, givers-permitted}
 use Rattle.permits.proofs.givers.Statement.{statement}

@@ -3,7 +3,7 @@ use mathlib.Core.Bool.{true, false}
 use native.Mathlib.Omega.{arith}
 use borrow.Author.Needs.{needs}
 use Rattle.rows.proofs.CloseLaws.{closed-few}
-use Rattle.permits.specs.Tables.{everyOr}
+use Rattle.sets.specs.Entries.{onEntries}
 use Rattle.permits.specs.PermitRows.{handed}
 use Rattle.permits.proofs.HandLaws.{copied, Parted, hand-fits, hand-rising, hand-over}
 use Rattle.permits.proofs.hand_over.Statement.{statement}
@@ -15,8 +15,8 @@ give-all-requires c κs =
     let i = c .before .before .before .before .before .before .before .before .before .before .copy-in in
     let k = c .before .before .before .before .before .before .before .keep-handed in
     let d = c .before .before .before .before .keep-handed2 in
-    let m = closed-few (handed (a .from) (a .to) (everyOr (a .every) (a .entry)) true) (a .count) (i .last .1 .0) (k .result) (k .last .0) (k .ensures) in
-    let r = closed-few (handed (a .from) (a .to) (everyOr (a .every) (a .entry)) false) (a .count) (a .permits .now) (d .result) (d .last .0) (d .ensures) in
+    let m = closed-few (handed (a .from) (a .to) (onEntries (a .every) (a .entry)) true) (a .count) (i .last .1 .0) (k .result) (k .last .0) (k .ensures) in
+    let r = closed-few (handed (a .from) (a .to) (onEntries (a .every) (a .entry)) false) (a .count) (a .permits .now) (d .result) (d .last .0) (d .ensures) in
     (omega arith, (omega arith, omega arith))
 
 returns : tie.Need-returns
@@ -29,7 +29,7 @@ returns c = (
       let k = c .before .before .before .before .before .before .before .before .before .before .keep-handed in
       let d = c .before .before .before .before .before .before .before .keep-handed2 in
       let g = c .before .before .give-all in
-      let on = everyOr (a .every) (a .entry) in
+      let on = onEntries (a .every) (a .entry) in
       let p : Parted (a .permits .now) (a .count) (a .from) (a .to) on (k .last .0) (k .result) (d .last .0) (d .result) =
       record { taken = rw (copied 4096 (a .permits .now) (i .last .1 .0) (s .pre .0) (i .ensures)) at (k .ensures); kept = d .ensures } in
       hand-over ps (a .count) (a .permits .now) len is (s .pre .1) (a .from) (a .to) on (k .last .0) (k .result) (d .last .0) (d .result) p (g .result) (g .last .0)

@@ -11,13 +11,13 @@ use Rattle.rows.proofs.drop_involving.Statement.{statement}
 use Rattle.rows.proofs.drop_involving.Tie as tie
 
 abbrev Inv-loop : tie.InvT-loop
-Inv-loop s₀ n ended i₀ j₀ s i j = (i ≤ n) × (j ≤ i) × (length s ≡ length s₀) × Moved (spared (members ended)) s₀ s i j
+Inv-loop s₀ n ended i₀ j₀ s i j = (i ≤ n) × (j ≤ i) × (length s ≡ length s₀) × Moved (spared (members ended)) n s₀ s i j
 
 abbrev μ-loop : tie.MeasureT-loop
 μ-loop s₀ n ended i₀ j₀ s i j = n - i
 
 loop-holds : tie.Need-loop-holds Inv-loop μ-loop
-loop-holds c = (search needs, search needs, refl, moved-none _ (c .before .args .s .now))
+loop-holds c = (search needs, search needs, refl, moved-none _ (c .before .args .n) (c .before .args .s .now) (c .before .pre))
 
 loop-again : tie.Need-loop-again Inv-loop μ-loop
 loop-again c =
@@ -26,8 +26,8 @@ loop-again c =
     let t = c .before .before .before .before .apart in
     let k = c .before .before .keep-row in
     let q = spared (members (a .ended)) in
-    let next : Moved q (a .s .now) (k .last .0) (l .i + 1) (k .result) = rw (k .ensures .1, k .ensures .0) (moved-next q (a .s .now) (l .s) (l .i) (l .j) (l .inv .3) (t .result) (t .ensures) (omega arith)) in
-    (omega arith, moved-few q (a .s .now) (k .last .0) (l .i + 1) (k .result) next, next .long, next)
+    let next : Moved q (a .n) (a .s .now) (k .last .0) (l .i + 1) (k .result) = rw (k .ensures .1, k .ensures .0) (moved-next q (a .n) (a .s .now) (l .s) (l .i) (l .j) (l .inv .3) (omega arith) (t .result) (t .ensures) (omega arith)) in
+    (omega arith, moved-few q (a .n) (a .s .now) (k .last .0) (l .i + 1) (k .result) next (omega arith), k .kept .0 ∙ l .inv .2, next)
 
 same-length : tie.Need-same-length Inv-loop μ-loop
 same-length c = c .before .before .clear .kept .0 ∙ c .before .before .before .before .before .loop .inv .2
@@ -40,7 +40,7 @@ returns c =
     let d = c .before .before .clear in
     let q = spared (members (a .ended)) in
     let done : l .i ≡ a .n = omega arith in
-    moved-all q (a .s .now) (l .s) (a .n) (l .j) (rw done at (l .inv .3)) (s .pre) (d .last .0) (d .ensures)
+    moved-all q (a .n) (a .s .now) (l .s) (l .j) (rw done at (l .inv .3)) (d .last .0) (d .ensures)
 
 pub drop-involving-spec : {M : Type 1} → statement M
 drop-involving-spec =

@@ -1,7 +1,7 @@
 -- `sections::changes` meets its contract. Assumes nothing.
 use mathlib.Core.Path.{_∙_, sym}
+use Rattle.sets.proofs.TurnLaws.{failed, held, refused}
 use Rattle.sections.proofs.ChangeLaws.{changes-sound}
-use Rattle.sections.proofs.TurnLaws.{failed, held, refused}
 use borrow.Author.Needs.{needs}
 use Rattle.sections.proofs.changes.Statement.{statement}
 use Rattle.sections.proofs.changes.Tie as tie

@@ -1,8 +1,8 @@
 -- `sections::log` meets its contract. Assumes nothing.
 use mathlib.Core.Path.{_∙_, sym}
 use Rattle.sets.specs.Members.{members}
+use Rattle.sets.proofs.TurnLaws.{failed, held as passed, refused}
 use Rattle.sections.proofs.LogLaws.{log-of, of-log}
-use Rattle.sections.proofs.TurnLaws.{failed, held as passed, refused}
 use borrow.Author.Needs.{needs}
 use Rattle.sections.proofs.log.Statement.{statement}
 use Rattle.sections.proofs.log.Tie as tie

@@ -1,5 +1,6 @@
 -- `sections::permit_at` meets its contract. Assumes nothing.
-use Rattle.sections.specs.Cells.{permitAt, permitFits}
+use Rattle.locks.specs.Permits.{permitAt}
+use Rattle.sections.specs.Cells.{permitFits}
 use borrow.Author.Needs.{needs}
 use Rattle.sections.proofs.permit_at.Statement.{statement}
 use Rattle.sections.proofs.permit_at.Tie as tie

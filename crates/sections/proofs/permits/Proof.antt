@@ -1,8 +1,8 @@
 -- `sections::permits` meets its contract. Assumes nothing.
 use mathlib.Core.Path.{_∙_, sym}
 use Rattle.sets.specs.Members.{members}
+use Rattle.sets.proofs.TurnLaws.{failed, held, refused}
 use Rattle.sections.proofs.TableLaws.{permits-of, of-permits}
-use Rattle.sections.proofs.TurnLaws.{failed, held, refused}
 use borrow.Author.Needs.{needs}
 use Rattle.sections.proofs.permits.Statement.{statement}
 use Rattle.sections.proofs.permits.Tie as tie

@@ -4,8 +4,8 @@ use mathlib.Core.Bool.{not}
 use Prim.Native.Nat.{_+_, _*_}
 use native.Mathlib.Omega.{arith}
 use Rattle.sets.proofs.Bytes.{loaded-full}
+use Rattle.sets.proofs.BoundLaws.{none-as}
 use Rattle.sections.specs.Cells.{reads, writes, lockFits, rowFits}
-use Rattle.sections.proofs.LockLaws.{none-as}
 use borrow.Author.Needs.{needs}
 use Rattle.sections.proofs.row.Statement.{statement}
 use Rattle.sections.proofs.row.Tie as tie

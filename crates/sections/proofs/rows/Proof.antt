@@ -6,8 +6,8 @@ use native.Mathlib.Omega.{arith}
 use borrow.Author.Needs.{needs}
 use Rattle.rules.specs.Base.{allBelow}
 use Rattle.sets.specs.Members.{members}
+use Rattle.sets.proofs.TurnLaws.{none-yet, turn-failed, turn-passed, turns-done}
 use Rattle.sections.specs.Cells.{rowFits}
-use Rattle.sections.proofs.TurnLaws.{none-yet, turn-failed, turn-passed, turns-done}
 use Rattle.sections.proofs.rows.Statement.{statement}
 use Rattle.sections.proofs.rows.Tie as tie
 

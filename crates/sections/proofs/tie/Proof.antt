@@ -2,13 +2,12 @@
 use Rattle.rules.specs.Base.{outside}
 use Rattle.rules.specs.Ties.{isGroup}
 use Rattle.rules.specs.Sound.{tieSound}
-use Rattle.sections.specs.Cells.{tieOf}
 use borrow.Author.Needs.{needs}
 use Rattle.sections.proofs.tie.Statement.{statement}
 use Rattle.sections.proofs.tie.Tie as tie
 
 returns : tie.Need-returns
-unfolding tieSound tieOf outside isGroup
+unfolding tieSound outside isGroup
 returns c = rw (c .before .has .ensures, c .has2 .ensures)
 
 pub tie-spec : {M : Type 1} → statement M

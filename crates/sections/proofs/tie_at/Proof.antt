@@ -1,5 +1,6 @@
 -- `sections::tie_at` meets its contract. Assumes nothing.
-use Rattle.sections.specs.Cells.{tieAt, tieFits}
+use Rattle.sets.specs.Closing.{tieAt}
+use Rattle.sections.specs.Cells.{tieFits}
 use borrow.Author.Needs.{needs}
 use Rattle.sections.proofs.tie_at.Statement.{statement}
 use Rattle.sections.proofs.tie_at.Tie as tie

@@ -1,8 +1,8 @@
 -- `sections::ties` meets its contract. Assumes nothing.
 use mathlib.Core.Path.{_∙_, sym}
 use Rattle.sets.specs.Members.{members}
+use Rattle.sets.proofs.TurnLaws.{failed, held, refused}
 use Rattle.sections.proofs.TableLaws.{ties-of, of-ties}
-use Rattle.sections.proofs.TurnLaws.{failed, held, refused}
 use borrow.Author.Needs.{needs}
 use Rattle.sections.proofs.ties.Statement.{statement}
 use Rattle.sections.proofs.ties.Tie as tie

@@ -1,6 +1,6 @@
 -- `soundness::back` meets its contract. Assumes nothing.
 use native.Mathlib.Omega.{arith}
-use Rattle.sections.proofs.TurnLaws.{refused}
+use Rattle.sets.proofs.TurnLaws.{refused}
 use Rattle.soundness.proofs.TestLaws.{fails, passes, length-cut}
 use borrow.Author.Needs.{needs}
 use Rattle.soundness.proofs.back.Statement.{statement}

@@ -1,5 +1,5 @@
 -- `soundness::front` meets its contract. Assumes nothing.
-use Rattle.sections.proofs.TurnLaws.{refused}
+use Rattle.sets.proofs.TurnLaws.{refused}
 use Rattle.soundness.proofs.TestLaws.{fails, passes}
 use borrow.Author.Needs.{needs}
 use Rattle.soundness.proofs.front.Statement.{statement}

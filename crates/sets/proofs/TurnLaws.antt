@@ -7,6 +7,7 @@ use native.Mathlib.Numerals.{add-one}
 use Rattle.rules.specs.Base.{allBelow}
 use Rattle.rules.proofs.BaseLaws.{and-both, no-true, not-true, not-false, allBelow-at}
 
+-- none asked yet, one that fails, one that passes, all asked; r is what the code found of the test
 pub none-yet : (p : ℕ → Bool) → allBelow 0 p ≡ true
 unfolding allBelow
 none-yet p = refl
