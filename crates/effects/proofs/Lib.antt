@@ -1,0 +1,7 @@
+-- What is proved of the effects on a window's bytes. Other crates cite a file X here as Rattle.effects.proofs.X.
+-- what is known of the arguments of a call that is not refused
+pub mod ArgumentLaws
+-- each call's effect
+pub mod EffectLaws
+-- who keeps a lock from being granted
+pub mod LockLaws

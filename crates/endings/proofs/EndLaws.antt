@@ -1,0 +1,99 @@
+-- The changes of a set ended, step by step from the bytes of one window to those of the next; and their log records undone. Assumes nothing.
+use mathlib.Core.Path.{_≡_, refl, sym, _∙_, ap}
+use mathlib.Core.Bool.{true}
+use mathlib.Core.List.{List}
+use Prim.Native.Nat.{ℕ, _<_, _^_}
+use native.Mathlib.Omega.{arith}
+use lib.Dec.{ltb}
+use lib.ListN.{length, getD, take, drop, replicate}
+use Rattle.rules.specs.Sets.{Set}
+use Rattle.rules.specs.Window.{limits, LogRecord, Window, live, withValue, withStatus, withHeld, withLog, withPermits, withTies}
+use Rattle.rules.specs.Sound.{recordSound}
+use Rattle.rules.specs.Effects.{endAll, undo}
+use Rattle.rules.proofs.BaseLaws.{lt-of}
+use Rattle.rules.proofs.ListLaws.{all-weaken, all-getD}
+use Rattle.rules.proofs.SoundParts.{Sound, record-parts, held-no-entry}
+use Rattle.rules.proofs.SoundPlain.{undo-values, value-sound}
+use Rattle.layout.specs.Codec.{valuesAt, valuesSize, changesAt, changesSize, locksAt, locksSize, logAt, logSize, windowSize, noRecord, figures, valueByte, valueSection, changeSection, lockSection, logSection, decode, encode}
+use Rattle.layout.specs.Memory.{soundBytes}
+use Rattle.layout.proofs.MemoryLaws.{bytes-sound, bytes-again, encode-sound, part-of}
+use Rattle.layout.proofs.SectionLaws.{length-table}
+use Rattle.layout.proofs.PartLaws.{log-part}
+use Rattle.layout.proofs.PutLaws.{laidAt}
+use Rattle.cells.specs.Part.{part, patch}
+use Rattle.cells.proofs.PartLaws.{length-part}
+use Rattle.places.specs.Statuses.{withStatuses}
+use Rattle.locks.specs.Held.{NoneFrom, rowWithout, released}
+use Rattle.log.specs.Records.{isUnowned, unowned}
+use Rattle.permits.specs.Tables.{permitsLeft}
+use Rattle.permits.proofs.HandLaws.{copied}
+use Rattle.ties.specs.Tables.{tiesLeft}
+use Rattle.reads.proofs.ReadLaws.{values-known, log-known}
+use Rattle.endings.proofs.BackLaws.{statuses-back, locks-back, values-back}
+
+-- the last two steps: statuses and locks
+abbrev withEnded : ℕ → Set → Window → Window
+withEnded how m W = withHeld (withStatus W (withStatuses m how (W .status))) (released m (W .held))
+
+pub statuses-and-locks : (W : Window) {bs : List ℕ} → bs ≡ encode W → (m : Set) (how entries : ℕ) {changes locks : List ℕ} → NoneFrom entries (W .held)
+    → ((st pa : ℕ → ℕ) → take changesSize (drop changesAt bs) ≡ changeSection st pa → changes ≡ changeSection (withStatuses m how st) pa)
+    → ((held : ℕ → ℕ → ℕ) → NoneFrom entries held → take locksSize (drop locksAt (laidAt bs changesAt changesSize changes)) ≡ lockSection held → locks ≡ lockSection (released m held))
+    → laidAt (laidAt bs changesAt changesSize changes) locksAt locksSize locks ≡ encode (withEnded how m W)
+unfolding withStatus
+statuses-and-locks W e m how entries n f g =
+    locks-back (withStatus W (withStatuses m how (W .status))) (statuses-back W e (withStatuses m how (W .status)) (f (W .status) (W .parent))) (released m (W .held)) (g (W .held) n)
+
+-- all steps are the rules'
+all-ended : (how : ℕ) (m : Set) (W : Window) → withEnded how m (withTies (withPermits (withLog W (unowned m (W .log))) (permitsLeft m (W .permits))) (tiesLeft m (W .ties))) ≡ endAll how m W
+unfolding endAll withHeld withStatus withTies withPermits withLog withStatuses released rowWithout unowned isUnowned permitsLeft tiesLeft
+all-ended how m W = refl
+
+module _ (bs : List ℕ) (s : soundBytes bs ≡ true) where
+  no-locks : (entries : ℕ) → entries ≡ decode bs .entries → NoneFrom entries (decode bs .held)
+  unfolding NoneFrom
+  no-locks entries h e c l = held-no-entry (decode bs) (bytes-sound bs s .helds) e c (omega arith)
+
+  pub ended : (m : Set) (how entries permits ties : ℕ) {b1 b2 b3 b4 : List ℕ} → entries ≡ decode bs .entries → permits ≡ length (decode bs .permits) → ties ≡ length (decode bs .ties)
+      → b1 ≡ encode (withLog (decode bs) (unowned m (decode bs .log)))
+      → ((W : Window) → permits ≡ length (W .permits) → b1 ≡ encode W → b2 ≡ encode (withPermits W (permitsLeft m (W .permits))))
+      → ((W : Window) → ties ≡ length (W .ties) → b2 ≡ encode W → b3 ≡ encode (withTies W (tiesLeft m (W .ties))))
+      → ((W : Window) → NoneFrom entries (W .held) → b3 ≡ encode W → b4 ≡ encode (withEnded how m W))
+      → b4 ≡ encode (endAll how m (decode bs))
+  unfolding withLog withPermits withTies
+  ended m how entries permits ties x y z e f g h = h _ (no-locks entries x) (g _ z (f _ y e)) ∙ ap encode (all-ended how m (decode bs))
+
+  -- UNDONE
+  -- the values before fit
+  before-fits : (k : ℕ) → getD (decode bs .log) k noRecord .before < 2 ^ 32
+  before-fits k = lt-of _ (2 ^ 32) (all-getD (λ r. ltb r.before (2 ^ 32)) (decode bs .log) k noRecord
+      (all-weaken (recordSound (decode bs .entries) (live (decode bs)) (decode bs .held)) (λ r. ltb r.before (2 ^ 32)) (λ r h. record-parts (decode bs .entries) (live (decode bs)) (decode bs .held) r h .2) (decode bs .log) (bytes-sound bs s .records)) refl)
+
+  -- the values are those of a window as sound as before
+  pub undo-sound : (m : Set) → Sound limits (withValue (decode bs) (undo m (decode bs .log) (decode bs .value)))
+  undo-sound m = let k = bytes-sound bs s in
+      value-sound limits (decode bs) (undo m (decode bs .log) (decode bs .value)) (undo-values (decode bs .entries) (live (decode bs)) (decode bs .held) m (decode bs .log) (decode bs .value) (k .records) (k .values)) k
+
+  module _ (room : length bs ≡ windowSize) (copy : List ℕ) (c : copy ≡ patch (replicate valuesSize 0) 0 (take valuesSize (drop valuesAt bs))) where
+    -- the values in a copy
+    value-copy : copy ≡ take valuesSize (drop valuesAt bs)
+    unfolding part
+    value-copy = copied valuesSize (take valuesSize (drop valuesAt bs)) copy (length-part bs valuesAt valuesSize (omega arith)) c
+
+    pub copy-size : length copy ≡ valuesSize
+    unfolding part
+    copy-size = ap length value-copy ∙ length-part bs valuesAt valuesSize (omega arith)
+
+    pub undone : (m : Set) (count : ℕ) {values out : List ℕ} → count ≡ length (decode bs .log)
+        → ((v : ℕ → ℕ) (l : List LogRecord) → length l ≡ count → ((k : ℕ) → getD l k noRecord .before < 2 ^ 32) → copy ≡ valueSection v → take logSize (drop logAt bs) ≡ logSection l → values ≡ valueSection (undo m l v))
+        → out ≡ patch bs valuesAt values → (out ≡ encode (withValue (decode bs) (undo m (decode bs .log) (decode bs .value)))) × (soundBytes out ≡ true)
+    unfolding patch valueSection
+    undone m count {values} {out} n f h = (q, rw q (encode-sound _ (undo-sound m)))
+      where
+        x : ℕ → ℕ
+        x = undo m (decode bs .log) (decode bs .value)
+
+        is : values ≡ valueSection x
+        is = f (decode bs .value) (decode bs .log) (sym n) before-fits (value-copy ∙ values-known bs s) (log-known bs s)
+
+        q : out ≡ encode (withValue (decode bs) x)
+        q = h ∙ ap (λ k. laidAt bs valuesAt k values) (ap length is ∙ length-table valuesSize 0 (valueByte x)) ∙ values-back (decode bs) (sym (bytes-again bs s)) x is

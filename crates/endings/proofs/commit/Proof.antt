@@ -1,0 +1,95 @@
+-- `endings::commit` meets its contract. Assumes nothing.
+use mathlib.Core.Path.{refl}
+use native.Mathlib.Omega.{arith}
+use borrow.Author.Needs.{needs}
+use Rattle.rules.specs.Effects.{commitChange, effect}
+use Rattle.rules.proofs.BaseLaws.{not-true, not-false}
+use Rattle.sets.specs.Members.{members}
+use Rattle.layout.proofs.MemoryLaws.{bytes-sound}
+use Rattle.reads.proofs.ReadLaws.{change-fits}
+use Rattle.endings.proofs.CallLaws.{ties-size, commit-known, ended-so, ended-else, group-read, commit-waits, commit-done}
+use Rattle.endings.proofs.commit.Statement.{statement}
+use Rattle.endings.proofs.commit.Tie as tie
+
+-- it is committed
+returns : tie.Need-returns
+unfolding effect commitChange
+returns c =
+    let s = c .before .before .before .before .before in
+    let status = c .before .before .status in
+    ended-so (s .args .w .now) (s .pre .1 .0) (s .args .change) (status .result) (status .ensures) 4 5 _ (c .before .if1 .taken) (c .done .result) (c .done .ensures)
+
+-- it is aborted
+returns-2 : tie.Need-returns-2
+unfolding effect commitChange
+returns-2 c =
+    let s = c .before .before .before .before .before .before in
+    let status = c .before .before .before .status in
+    ended-else (s .args .w .now) (s .pre .1 .0) (s .args .change) (status .result) (status .ensures) 4 5 _ (c .before .before .if1 .left) (c .before .if2 .taken) (c .refused .result) (c .refused .ensures)
+
+cast-group : tie.Need-cast-group
+cast-group c =
+    let s = c .before .before .before .before .before .before .before .before .before in
+    let w = s .args .w .now in
+    record { fits = change-fits _ (bytes-sound w (s .pre .1 .0)) (s .args .change) (commit-known w (s .pre .1 .0) (s .args .change) (s .pre .1 .1)) }
+
+group-requires : tie.Need-group-requires
+group-requires c κs = let s = c .before .before .before .before .before .before .before .before .before in omega (arith, ties-size (s .args .w .now) (s .pre .0), c .before .before .ties .ensures .1)
+
+-- something holds it up
+returns-3 : tie.Need-returns-3
+returns-3 c =
+    let s = c .before .before .before .before .before .before .before .before .before .before .before .before .before .before .before in
+    let w = s .args .w .now in
+    let status = c .before .before .before .before .before .before .before .before .before .before .before .before .status in
+    let ties = c .before .before .before .before .before .before .before .before .ties in
+    let group = c .before .before .before .before .before .group in
+    let blockers = c .before .before .before .blockers in
+    let empty = c .before .before .is-empty in
+    commit-waits w (s .pre .1 .0) (s .args .change) (status .result) (s .pre .1 .1) (status .ensures) (c .before .before .before .before .before .before .before .before .before .before .before .if1 .left) (c .before .before .before .before .before .before .before .before .before .before .if2 .left)
+    (members (group .result)) (group-read w (s .pre .1 .0) (s .args .change) (ties .result) (ties .ensures .0) (members (group .result)) (group .ensures))
+    (members (blockers .result)) (blockers .ensures) (empty .result) (empty .ensures) (not-true _ (c .before .if3 .taken)) _ refl (c .lowest .ensures)
+
+-- nothing does
+returns-4 : tie.Need-returns-4
+returns-4 c =
+    let s = c .before .before .before .before .before .before .before .before .before .before .before .before .before .before .before .before .before .before .before .before in
+    let w = s .args .w .now in
+    let status = c .before .before .before .before .before .before .before .before .before .before .before .before .before .before .before .before .before .status in
+    let ties = c .before .before .before .before .before .before .before .before .before .before .before .before .before .ties in
+    let group = c .before .before .before .before .before .before .before .before .before .before .group in
+    let blockers = c .before .before .before .before .before .before .before .before .blockers in
+    let empty = c .before .before .before .before .before .before .before .is-empty in
+    let count = c .before .count in
+    commit-done w (s .pre .1 .0) (s .args .change) (status .result) (s .pre .1 .1) (status .ensures) (c .before .before .before .before .before .before .before .before .before .before .before .before .before .before .before .before .if1 .left) (c .before .before .before .before .before .before .before .before .before .before .before .before .before .before .before .if2 .left)
+    (members (group .result)) (group-read w (s .pre .1 .0) (s .args .change) (ties .result) (ties .ensures .0) (members (group .result)) (group .ensures))
+    (members (blockers .result)) (blockers .ensures) (empty .result) (empty .ensures) (not-false _ (c .before .before .before .before .before .before .if3 .left))
+    (count .result) (count .ensures) (c .done2 .result) (c .done2 .ensures) _ (c .before .before .before .before .end-all .ensures)
+
+pub commit-spec : {M : Type 1} → statement M
+commit-spec =
+    tie.close
+    (tie.spec
+    (λ c κs. search needs)
+    (λ c κs. search needs)
+    (λ c. search needs)
+    returns
+    (λ c κs. search needs)
+    (λ c. search needs)
+    returns-2
+    (λ c κs. search needs)
+    (λ c. search needs)
+    (λ c. search needs)
+    (λ c. search needs)
+    cast-group
+    group-requires
+    (λ c κs. search needs)
+    (λ c κs. search needs)
+    (λ c κs. search needs)
+    (λ c. search needs)
+    returns-3
+    (λ c κs. search needs)
+    (λ c κs. search needs)
+    (λ c κs. search needs)
+    (λ c. search needs)
+    returns-4)

@@ -1,0 +1,28 @@
+-- `endings::drop_ties` meets its contract. Assumes nothing.
+use borrow.Author.Needs.{needs}
+use Rattle.sets.specs.Members.{members}
+use Rattle.endings.proofs.BackLaws.{ties-left}
+use Rattle.endings.proofs.drop_ties.Statement.{statement}
+use Rattle.endings.proofs.drop_ties.Tie as tie
+
+returns : tie.Need-returns
+returns c =
+    let a = c .before .before .before .before .before .before .before .before .before .args in
+    let left = c .before .before .before .before .before .before .drop-ended in
+    λ W n e. ties-left W e (members (a .ended)) (a .count) (left .result) n (left .ensures .1) (c .before .before .store-figure .ensures)
+
+pub drop-ties-spec : {M : Type 1} → statement M
+drop-ties-spec =
+    tie.close
+    (tie.spec
+    (λ c. search needs)
+    (λ c. search needs)
+    (λ c. search needs)
+    (λ c κs. search needs)
+    (λ c. search needs)
+    (λ c. search needs)
+    (λ c. search needs)
+    (λ c. search needs)
+    (λ c κs. search needs)
+    (λ c. search needs)
+    returns)

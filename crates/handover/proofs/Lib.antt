@@ -1,0 +1,6 @@
+-- What is proved of a delegate. Other crates cite a file X here as Rattle.handover.proofs.X.
+pub mod CheckLaws
+pub mod TableLaws
+pub mod OverLaws
+pub mod JudgeLaws
+pub mod DelegateLaws

@@ -1,0 +1,94 @@
+-- The two tables copied over a window's, its log handed over and its figure of permits stored: the window handed over. Assumes nothing.
+use mathlib.Core.Path.{_≡_, refl, sym, _∙_, ap}
+use mathlib.Core.List.{List, _++_, append-assoc}
+use Prim.Native.Nat.{ℕ, _+_, _≤_, _<_}
+use native.Mathlib.Omega.{arith}
+use lib.ListN.{length, take, drop, set, length-append, length-map}
+use lib.Seq.{drop-drop}
+use Rattle.rules.specs.Sets.{Set}
+use Rattle.rules.specs.Window.{PermitRecord, Window, withHeld, withLog, withPermits}
+use Rattle.rules.specs.Effects.{moveLog, handOver}
+use Rattle.layout.specs.Codec.{headAt, headSize, locksAt, locksSize, permitsAt, permitsSize, logAt, logSize, windowSize, figures, headSection, lockSection, permitSection, logSection, lay, encode}
+use Rattle.layout.proofs.CodecLaws.{length-encode}
+use Rattle.layout.proofs.PartLaws.{head-part, log-part}
+use Rattle.layout.proofs.PutLaws.{laidAt, head-put, locks-put, permits-put, log-put}
+use Rattle.cells.specs.Part.{part, patch}
+use Rattle.cells.proofs.PartLaws.{length-part, take-patch-end, drop-patch}
+use Rattle.handover.specs.Delegated.{tablesOf, AreTables}
+use Rattle.handover.proofs.TableLaws.{length-lent, length-locks, length-permits}
+
+-- TWO LISTS written one after the other
+patch-both : (l : List ℕ) (at : ℕ) (xs ys : List ℕ) → at ≤ length l → patch l at (xs ++ ys) ≡ patch (patch l at xs) (at + length xs) ys
+unfolding patch
+patch-both l at xs ys h =
+    ap (λ n. take at l ++ ((xs ++ ys) ++ drop n (drop at l))) (length-append xs ys)
+    ∙ ap (λ r. take at l ++ ((xs ++ ys) ++ r)) (sym (drop-drop (length ys) (length xs) (drop at l)))
+    ∙ ap (λ r. take at l ++ r) (append-assoc xs ys (drop (length ys) (drop (length xs) (drop at l))))
+    ∙ sym (append-assoc (take at l) xs (ys ++ drop (length ys) (drop (length xs) (drop at l))))
+    ∙ ap (λ r. (take at l ++ xs) ++ (ys ++ drop (length ys) r)) (drop-drop (length xs) at l ∙ sym (drop-patch l at xs (at + length xs) (omega arith) h))
+    ∙ ap (λ r. r ++ (ys ++ drop (length ys) (drop (at + length xs) (patch l at xs)))) (sym (take-patch-end l at xs (at + length xs) refl h))
+
+-- the two tables of a window, of which the second begins where the first ends
+tables-put : (W : Window) (held : ℕ → ℕ → ℕ) (ps : List PermitRecord) → patch (encode W) locksAt (lockSection held ++ permitSection ps) ≡ lay (figures W) (withPermits (withHeld W held) ps)
+unfolding patch encode
+tables-put W held ps =
+    patch-both (encode W) locksAt (lockSection held) (permitSection ps) (omega (arith, length-encode W))
+    ∙ ap (λ n. laidAt (laidAt (encode W) locksAt n (lockSection held)) (locksAt + n) (length (permitSection ps)) (permitSection ps)) (length-locks held)
+    ∙ ap (λ n. laidAt (laidAt (encode W) locksAt locksSize (lockSection held)) permitsAt n (permitSection ps)) (length-permits ps)
+    ∙ ap (λ l. laidAt l permitsAt permitsSize (permitSection ps)) (locks-put (figures W) W held)
+    ∙ permits-put (figures W) (withHeld W held) ps
+
+-- LENGTHS on the way: after the copy, and after the log was lent
+module _ (o1 : List ℕ) (size : length o1 ≡ windowSize) where
+  pub log-part-size : length (take logSize (drop logAt o1)) ≡ logSize
+  unfolding part
+  log-part-size = length-part o1 logAt logSize (omega arith)
+
+  module _ (o2 : List ℕ) (same : length o2 ≡ length (take logSize (drop logAt o1))) where
+    pub log-lent-size : length (laidAt o1 logAt logSize o2) ≡ windowSize
+    log-lent-size = length-lent o1 logAt logSize o2 (omega arith) same ∙ size
+
+    pub head-part-size : length (take headSize (drop headAt (laidAt o1 logAt logSize o2))) ≡ headSize
+    unfolding part
+    head-part-size = length-part (laidAt o1 logAt logSize o2) headAt headSize (omega (arith, log-lent-size))
+
+    pub head-lent-size : (o3 : List ℕ) → length o3 ≡ length (take headSize (drop headAt (laidAt o1 logAt logSize o2))) → length (laidAt (laidAt o1 logAt logSize o2) headAt headSize o3) ≡ windowSize
+    head-lent-size o3 e = length-lent (laidAt o1 logAt logSize o2) headAt headSize o3 (omega (arith, log-lent-size)) e ∙ log-lent-size
+
+-- the figures of the window handed over: only the permits may be fewer
+figures-handed : (W : Window) (from to : ℕ) (on : Set) (n : ℕ) → n ≡ length (handOver W from to on .permits) → set (figures W) 3 n ≡ figures (handOver W from to on)
+unfolding figures handOver moveLog
+figures-handed W from to on n e = rw (e, length-map) refl
+
+-- TAKEN OVER: o1, o2 and o3 are what the copy, the hand-over of the log and the store of the figure leave
+module _ (W : Window) (from to : ℕ) (on : Set) where
+  -- the locks and permits of the window handed over
+  moved : Window
+  moved = withPermits (withHeld W (handOver W from to on .held)) (handOver W from to on .permits)
+
+  log-kept : take logSize (drop logAt (lay (figures W) moved)) ≡ logSection W.log
+  unfolding moved withPermits withHeld
+  log-kept = log-part (figures W) moved
+
+  all-moved : (n : ℕ) → n ≡ length (handOver W from to on .permits) → lay (set (figures W) 3 n) (withLog moved (moveLog from to on W.log)) ≡ encode (handOver W from to on)
+  unfolding moved encode lay withLog withPermits withHeld handOver
+  all-moved n e = rw (figures-handed W from to on n e) refl
+
+  some-figures : 3 < length (figures W)
+  unfolding figures
+  some-figures = omega arith
+
+  pub taken-over : (n : ℕ) (bs ts o1 o2 o3 : List ℕ) → encode W ≡ bs → AreTables (handOver W from to on) n ts
+      → o1 ≡ patch bs locksAt ts
+      → (take logSize (drop logAt o1) ≡ logSection W.log → o2 ≡ logSection (moveLog from to on W.log))
+      → ((fs : List ℕ) → take headSize (drop headAt (laidAt o1 logAt logSize o2)) ≡ headSection fs → 3 < length fs → o3 ≡ headSection (set fs 3 n))
+      → laidAt (laidAt o1 logAt logSize o2) headAt headSize o3 ≡ encode (handOver W from to on)
+  unfolding tablesOf moved
+  taken-over n bs ts o1 o2 o3 is h e f g =
+      let fs = figures W in
+      let l = moveLog from to on W.log in
+      let b1 : o1 ≡ lay fs moved = e ∙ ap (patch bs locksAt) (h .table-bytes) ∙ ap (λ b. patch b locksAt (tablesOf (handOver W from to on))) (sym is) ∙ tables-put W (handOver W from to on .held) (handOver W from to on .permits) in
+      let x : o2 ≡ logSection l = f (ap (λ b. take logSize (drop logAt b)) b1 ∙ log-kept) in
+      let b2 : laidAt o1 logAt logSize o2 ≡ lay fs (withLog moved l) = ap (laidAt o1 logAt logSize) x ∙ ap (λ b. laidAt b logAt logSize (logSection l)) b1 ∙ log-put fs moved l in
+      let y : o3 ≡ headSection (set fs 3 n) = g fs (ap (λ b. take headSize (drop headAt b)) b2 ∙ head-part fs (withLog moved l)) some-figures in
+      ap (laidAt (laidAt o1 logAt logSize o2) headAt headSize) y ∙ ap (λ b. laidAt b headAt headSize (headSection (set fs 3 n))) b2 ∙ head-put fs (withLog moved l) (set fs 3 n) ∙ all-moved n (h .permit-count)

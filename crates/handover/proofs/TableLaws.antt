@@ -1,0 +1,107 @@
+-- The locks and the permits side by side: each cut out and put back, and those of a window that are handed over. Assumes nothing.
+use mathlib.Core.Path.{_≡_, refl, sym, _∙_, fun-ext, ap}
+use mathlib.Core.Bool.{Bool, true, false}
+use mathlib.Core.List.{List, _++_, append-nil}
+use Prim.Native.Nat.{ℕ, _+_, _≤_}
+use native.Mathlib.Omega.{arith}
+use lib.ListN.{length, take, drop, length-append, length-take, length-drop, drop-of-length-le}
+use lib.Seq.{take-at, take-all, drop-at}
+use Rattle.rules.specs.Sets.{Set, only}
+use Rattle.rules.specs.Window.{PermitRecord, Window, withHeld, withPermits}
+use Rattle.rules.specs.Effects.{moveHeld, movePermits, handOver}
+use Rattle.rules.proofs.SoundParts.{held-no-entry}
+use Rattle.layout.specs.Codec.{locksSize, permitsSize, lockSection, permitSection, decode}
+use Rattle.layout.specs.Memory.{soundBytes}
+use Rattle.layout.proofs.MemoryLaws.{bytes-sound}
+use Rattle.layout.proofs.SectionLaws.{length-table}
+use Rattle.layout.proofs.PutLaws.{laidAt}
+use Rattle.cells.specs.Part.{part}
+use Rattle.cells.proofs.PartLaws.{length-part}
+use Rattle.sets.specs.Entries.{onEntries}
+use Rattle.rows.specs.Rows.{Holds}
+use Rattle.locks.specs.Held.{NoneFrom, everyEntry}
+use Rattle.handover.specs.Delegated.{tablesSize, tablesOf, AreTables}
+
+-- the entries of which locks are handed over, by the flag
+pub on-every : (all : Bool) (entry : ℕ) → all ≡ true → everyEntry ≡ onEntries all entry
+unfolding everyEntry onEntries
+on-every all entry e = rw e (fun-ext (λ x. refl))
+
+pub on-one : (all : Bool) (entry : ℕ) → all ≡ false → only entry ≡ onEntries all entry
+unfolding only onEntries
+on-one all entry e = rw e (fun-ext (λ x. refl))
+
+-- LENGTHS: of the sections
+pub length-locks : (held : ℕ → ℕ → ℕ) → length (lockSection held) ≡ locksSize
+unfolding lockSection
+length-locks held = length-table locksSize 0 _
+
+pub length-permits : (ps : List PermitRecord) → length (permitSection ps) ≡ permitsSize
+unfolding permitSection
+length-permits ps = length-table permitsSize 0 _
+
+-- of bytes of which a part was lent
+pub length-lent : (l : List ℕ) (at n : ℕ) (xs : List ℕ) → at + n ≤ length l → length xs ≡ length (take n (drop at l)) → length (laidAt l at n xs) ≡ length l
+unfolding part
+length-lent l at n xs h e = let q = e ∙ length-part l at n h in simp (length-append, length-take, length-drop) (omega arith)
+
+-- of the tables of which the locks were lent, and then the permits
+module _ (bytes xs : List ℕ) (size : length bytes ≡ tablesSize) (same : length xs ≡ length (take locksSize (drop 0 bytes))) where
+  locks-lent : length (laidAt bytes 0 locksSize xs) ≡ tablesSize
+  locks-lent = length-lent bytes 0 locksSize xs (omega arith) same ∙ size
+
+  pub permits-lent : length (take permitsSize (drop locksSize (laidAt bytes 0 locksSize xs))) ≡ permitsSize
+  unfolding part
+  permits-lent = length-part (laidAt bytes 0 locksSize xs) locksSize permitsSize (omega (arith, locks-lent))
+
+  pub both-lent : (ys : List ℕ) → length ys ≡ length (take permitsSize (drop locksSize (laidAt bytes 0 locksSize xs)))
+      → length (laidAt (laidAt bytes 0 locksSize xs) locksSize permitsSize ys) ≡ length bytes
+  both-lent ys e = length-lent (laidAt bytes 0 locksSize xs) locksSize permitsSize ys (omega (arith, locks-lent)) e ∙ locks-lent ∙ sym size
+
+-- no lock of a sound window is on an entry that there is not
+pub none-from : (bs : List ℕ) → soundBytes bs ≡ true → (n : ℕ) → n ≡ decode bs .entries → NoneFrom n (decode bs .held)
+unfolding NoneFrom
+none-from bs s n e x c h = held-no-entry (decode bs) (bytes-sound bs s .helds) x c (omega arith)
+
+-- EACH TABLE cut out
+module _ (W : Window) where
+  pub locks-cut : take locksSize (tablesOf W) ≡ lockSection W.held
+  unfolding tablesOf
+  locks-cut = take-at (lockSection W.held) (permitSection W.permits) locksSize (length-locks W.held)
+
+  permits-rest : drop locksSize (tablesOf W) ≡ permitSection W.permits
+  unfolding tablesOf
+  permits-rest = drop-at (lockSection W.held) (permitSection W.permits) locksSize (length-locks W.held)
+
+  pub permits-cut : take permitsSize (drop locksSize (tablesOf W)) ≡ permitSection W.permits
+  permits-cut = ap (take permitsSize) permits-rest ∙ take-all permitsSize (permitSection W.permits) (omega (arith, length-permits W.permits))
+
+  -- and put back
+  locks-back : (x : ℕ → ℕ → ℕ) → laidAt (tablesOf W) 0 locksSize (lockSection x) ≡ tablesOf (withHeld W x)
+  unfolding tablesOf withHeld
+  locks-back x = ap (λ r. lockSection x ++ r) permits-rest
+
+  permits-back : (x : List PermitRecord) → laidAt (tablesOf W) locksSize permitsSize (permitSection x) ≡ tablesOf (withPermits W x)
+  unfolding tablesOf withPermits
+  permits-back x =
+      ap (λ l. l ++ (permitSection x ++ drop permitsSize (drop locksSize (tablesOf W)))) locks-cut
+      ∙ ap (λ l. lockSection W.held ++ (permitSection x ++ l)) (ap (drop permitsSize) permits-rest ∙ drop-of-length-le (permitSection W.permits) {i = permitsSize} (omega (arith, length-permits W.permits)))
+      ∙ ap (λ l. lockSection W.held ++ l) (append-nil (permitSection x))
+
+-- HANDED OVER, one after the other
+pub tables-handed : (W : Window) (from to : ℕ) (on : Set) (bytes xs ys : List ℕ) (n : ℕ) → bytes ≡ tablesOf W
+    → (take locksSize bytes ≡ lockSection W.held → xs ≡ lockSection (moveHeld from to on W.held))
+    → (take permitsSize (drop locksSize (laidAt bytes 0 locksSize xs)) ≡ permitSection W.permits → Holds permitSection (movePermits from to on W.permits) n ys)
+    → AreTables (handOver W from to on) n (laidAt (laidAt bytes 0 locksSize xs) locksSize permitsSize ys)
+unfolding withHeld withPermits handOver tablesOf
+tables-handed W from to on bytes xs ys n e f g =
+    let x = f (ap (take locksSize) e ∙ locks-cut W) in
+    let b1 : laidAt bytes 0 locksSize xs ≡ tablesOf (withHeld W (moveHeld from to on W.held)) =
+    ap (λ l. laidAt bytes 0 locksSize l) x ∙ ap (λ l. laidAt l 0 locksSize (lockSection (moveHeld from to on W.held))) e ∙ locks-back W (moveHeld from to on W.held) in
+    let y = g (ap (λ l. take permitsSize (drop locksSize l)) b1 ∙ permits-cut (withHeld W (moveHeld from to on W.held))) in
+    record {
+      permit-count = y .count;
+      table-bytes = ap (λ l. laidAt (laidAt bytes 0 locksSize xs) locksSize permitsSize l) (y .bytes)
+          ∙ ap (λ l. laidAt l locksSize permitsSize (permitSection (movePermits from to on W.permits))) b1
+          ∙ permits-back (withHeld W (moveHeld from to on W.held)) (movePermits from to on W.permits);
+    }

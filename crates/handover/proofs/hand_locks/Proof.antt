@@ -1,0 +1,23 @@
+-- `handover::hand_locks` meets its contract. Assumes nothing.
+use mathlib.Core.Path.{_∙_, ap}
+use borrow.Author.Needs.{needs}
+use Rattle.rules.specs.Effects.{moveHeld}
+use Rattle.layout.specs.Codec.{lockSection}
+use Rattle.handover.proofs.TableLaws.{on-every, on-one}
+use Rattle.handover.proofs.hand_locks.Statement.{statement}
+use Rattle.handover.proofs.hand_locks.Tie as tie
+
+returns : tie.Need-returns
+returns c = λ held modes none is.
+    let a = c .before .before .before .before .before .before .args in
+    c .before .before .hand-over-all .ensures held modes none is ∙ ap (λ on. lockSection (moveHeld (a .from) (a .to) on held)) (on-every (a .every) (a .entry) (c .before .before .before .before .if1 .taken))
+
+returns-2 : tie.Need-returns-2
+returns-2 c = λ held modes none is.
+    let a = c .before .before .before .before .before .before .args in
+    c .before .before .hand-over .ensures held modes is ∙ ap (λ on. lockSection (moveHeld (a .from) (a .to) on held)) (on-one (a .every) (a .entry) (c .before .before .before .before .if1 .left))
+
+pub hand-locks-spec : {M : Type 1} → statement M
+hand-locks-spec =
+    tie.close
+    (tie.spec (λ c κs. search needs) (λ c κs. search needs) (λ c. search needs) returns (λ c. search needs) returns-2)

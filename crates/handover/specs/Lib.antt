@@ -1,0 +1,2 @@
+-- The call delegate: what the functions' contracts say.
+pub mod Delegated

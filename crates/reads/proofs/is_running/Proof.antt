@@ -1,0 +1,10 @@
+use Rattle.reads.proofs.ReadLaws.{running-read}
+use borrow.Author.Needs.{needs}
+use Rattle.reads.proofs.is_running.Statement.{statement}
+use Rattle.reads.proofs.is_running.Tie as tie
+
+returns : tie.Need-returns
+returns c = running-read _ _ _ (c .status .ensures)
+
+pub is-running-spec : {M : Type 1} → statement M
+is-running-spec = tie.close (tie.spec (λ c κs. search needs) returns)

@@ -1,0 +1,22 @@
+use Rattle.reads.proofs.ReadLaws.{changes-known, no-parent}
+use borrow.Author.Needs.{needs}
+use Rattle.reads.proofs.parent.Statement.{statement}
+use Rattle.reads.proofs.parent.Tie as tie
+
+returns : tie.Need-returns
+returns c = no-parent (c .before .before .args .w .now) (c .before .before .args .c) (c .if1 .taken)
+
+returns-2 : tie.Need-returns-2
+returns-2 c = c .parent .ensures _ _ (changes-known (c .before .before .before .before .args .w .now) (c .before .before .before .before .pre .1))
+
+pub parent-spec : {M : Type 1} → statement M
+parent-spec =
+    tie.close
+    (tie.spec
+    returns
+    (λ c. search needs)
+    (λ c. search needs)
+    (λ c. search needs)
+    (λ c. search needs)
+    (λ c κs. search needs)
+    returns-2)

@@ -1,0 +1,22 @@
+use Rattle.reads.proofs.ReadLaws.{values-known, value-fits, no-value}
+use borrow.Author.Needs.{needs}
+use Rattle.reads.proofs.value.Statement.{statement}
+use Rattle.reads.proofs.value.Tie as tie
+
+returns : tie.Need-returns
+returns c = no-value (c .before .before .args .w .now) (c .before .before .args .e) (c .if1 .taken)
+
+returns-2 : tie.Need-returns-2
+returns-2 c = c .value .ensures _ (values-known (c .before .before .before .before .args .w .now) (c .before .before .before .before .pre .1)) (value-fits (c .before .before .before .before .args .w .now) (c .before .before .before .before .pre .1) _)
+
+pub value-spec : {M : Type 1} → statement M
+value-spec =
+    tie.close
+    (tie.spec
+    returns
+    (λ c. search needs)
+    (λ c. search needs)
+    (λ c. search needs)
+    (λ c. search needs)
+    (λ c κs. search needs)
+    returns-2)

@@ -1,0 +1,2 @@
+-- Refusals that several calls share.
+pub mod Shared

@@ -1,0 +1,62 @@
+-- From a call's refusals and effect to its step, and from the step to the call on lent memory. Assumes nothing.
+use mathlib.Core.Path.{_≡_, refl, sym, _∙_, ap}
+use mathlib.Core.Logic.{_≢_}
+use mathlib.Core.Bool.{true, false}
+use mathlib.Core.List.{List, _++_}
+use Prim.Native.Nat.{ℕ, zero, suc}
+use lib.ListN.{take, drop}
+use Rattle.rules.specs.Window.{limits, Window}
+use Rattle.rules.specs.Calls.{Call, Outcome, Reply as RuleReply, done, unchanged}
+use Rattle.rules.specs.Effects.{effect}
+use Rattle.rules.specs.Refusals.{checks, firstFailed, settle, step}
+use Rattle.rules.specs.Events.{isOpen}
+use Rattle.layout.specs.Codec.{windowSize, decode, encode}
+use Rattle.layout.specs.Memory.{soundBytes, soundMemory, windowOf, layInto, handBack, perform}
+use Rattle.layout.proofs.MemoryLaws.{bytes-again, perform-sound, perform-unsound}
+use Rattle.replies.specs.declared.Reply.{Reply}
+use Rattle.replies.specs.Gives.{Gives, written}
+
+-- ON A WINDOW'S BYTES
+module _ (bs : List ℕ) (s : soundBytes bs ≡ true) where
+  -- an outcome that leaves the window
+  pub left : (a k : ℕ) (r : Reply) → r .answer ≡ a → r .number ≡ k → Gives (written (unchanged a k (decode bs))) r bs
+  unfolding written unchanged
+  left a k r e q = record { answer = e; number = q; bytes = sym (bytes-again bs s) }
+
+  -- done, and nothing changed
+  pub looked : (k : ℕ) (r : Reply) → (r .answer ≡ 0) × (r .number ≡ k) → Gives (written (done k (decode bs))) r bs
+  unfolding written done
+  looked k r e = record { answer = e .0; number = e .1; bytes = sym (bytes-again bs s) }
+
+  -- a refusal that applies
+  pub turned-back : (call : Call) (code : ℕ) (r : Reply) → code ≡ firstFailed (checks limits (decode bs) call) → code ≢ 0 → (r .answer ≡ code) × (r .number ≡ 0)
+      → Gives (written (step limits (decode bs) call)) r bs
+  unfolding step settle
+  turned-back call code r e n q = rw (sym e) (go code n (q .0))
+    where
+      go : (a : ℕ) → a ≢ 0 → r .answer ≡ a → Gives (written (settle a (decode bs) (effect (decode bs) call))) r bs
+      go zero n p = absurd (n refl)
+      go (suc a) n p = left (suc a) 0 r p (q .1)
+
+-- no refusal applies
+pub let-through : (W : Window) (call : Call) (code : ℕ) {r : Reply} {after : List ℕ} → code ≡ firstFailed (checks limits W call) → code ≡ 0
+    → (firstFailed (checks limits W call) ≡ 0 → Gives (written (effect W call)) r after) → Gives (written (step limits W call)) r after
+unfolding step settle
+let-through W call code {r} {after} e z f = let q = sym e ∙ z in rw q (f q)
+
+-- ON LENT MEMORY
+module _ (mem : List ℕ) (call : Call) where
+  -- memory that is not a sound window
+  pub unsound : soundMemory mem ≡ false → isOpen call ≡ false → (r : Reply) → (r .answer ≡ 1) × (r .number ≡ 0) → Gives (perform mem call) r mem
+  unfolding handBack
+  unsound h o r e = rw (perform-unsound mem call h o) (record { answer = e .0; number = e .1; bytes = refl })
+
+  -- the window at its front, lent and handed back
+  pub on-memory : soundMemory mem ≡ true → (r : Reply) (after : List ℕ) → Gives (written (step limits (windowOf mem) call)) r after
+      → Gives (perform mem call) r (take 0 mem ++ (after ++ drop windowSize (drop 0 mem)))
+  unfolding written layInto
+  on-memory h r after g = rw (perform-sound mem call h) (record {
+    answer = g .answer;
+    number = g .number;
+    bytes = ap (λ l. l ++ drop windowSize mem) (g .bytes);
+  })

@@ -1,0 +1,2 @@
+-- What a function gives, held to the rules.
+pub mod Gives

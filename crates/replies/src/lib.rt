@@ -1,0 +1,22 @@
+// What a call gives: an answer and a second number.
+ghost use mathlib.Core.Path.{_≡_};
+
+#[repr(C)]
+pub struct Reply {
+    pub answer: u32,
+    pub number: u32,
+}
+
+// Answer 0 is done, with a second number.
+pub fn done(number: u32) -> Reply
+    ensures { λ r. ⌜ (r .answer ≡ 0) × (r .number ≡ number) ⌝ }
+{
+    Reply { answer: 0, number }
+}
+
+// Another answer, with second number 0.
+pub fn refused(answer: u32) -> Reply
+    ensures { λ r. ⌜ (r .answer ≡ answer) × (r .number ≡ 0) ⌝ }
+{
+    Reply { answer, number: 0 }
+}

@@ -1,0 +1,29 @@
+-- `steps::complete` meets its contract. Assumes nothing.
+use mathlib.Core.Path.{sym, _∙_}
+use Rattle.layout.specs.Codec.{decode}
+use Rattle.replies.proofs.GiveLaws.{turned-back, let-through}
+use Rattle.rules.specs.Calls.{Complete}
+use borrow.Author.Needs.{needs}
+use Rattle.steps.proofs.complete.Statement.{statement}
+use Rattle.steps.proofs.complete.Tie as tie
+
+returns : tie.Need-returns
+returns c = turned-back (c .before .before .before .before .before .args .w .now) (c .before .before .before .before .before .pre .1) (Complete (c .before .before .before .before .before .args .change)) _ _ (c .before .before .complete .ensures) (c .before .if1 .taken) (c .refused .ensures)
+
+complete-requires-2 : tie.Need-complete-requires-2
+complete-requires-2 c κs = (c .before .before .before .before .before .pre .0, (c .before .before .before .before .before .pre .1, sym (c .before .before .complete .ensures) ∙ c .before .if1 .left))
+
+returns-2 : tie.Need-returns-2
+returns-2 c = let-through (decode (c .before .before .before .before .before .before .before .before .args .w .now)) (Complete (c .before .before .before .before .before .before .before .before .args .change)) _ (c .before .before .before .before .before .complete .ensures) (c .before .before .before .before .if1 .left) (λ z. c .before .before .complete2 .ensures)
+
+pub complete-spec : {M : Type 1} → statement M
+complete-spec =
+    tie.close
+    (tie.spec
+    (λ c κs. search needs)
+    (λ c κs. search needs)
+    (λ c. search needs)
+    returns
+    complete-requires-2
+    (λ c. search needs)
+    returns-2)

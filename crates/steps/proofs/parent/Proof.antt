@@ -1,0 +1,26 @@
+-- `steps::parent` meets its contract. Assumes nothing.
+use Rattle.layout.specs.Codec.{decode}
+use Rattle.replies.proofs.GiveLaws.{turned-back, let-through}
+use Rattle.steps.proofs.LookLaws.{parent-gives}
+use Rattle.rules.specs.Calls.{Parent}
+use borrow.Author.Needs.{needs}
+use Rattle.steps.proofs.parent.Statement.{statement}
+use Rattle.steps.proofs.parent.Tie as tie
+
+returns : tie.Need-returns
+returns c = turned-back (c .before .before .before .before .args .w .now) (c .before .before .before .before .pre .1) (Parent (c .before .before .before .before .args .change)) _ _ (c .before .before .change .ensures .parent) (c .before .if1 .taken) (c .refused .ensures)
+
+returns-2 : tie.Need-returns-2
+returns-2 c = let-through (decode (c .before .before .before .before .before .args .w .now)) (Parent (c .before .before .before .before .before .args .change)) _ (c .before .before .before .change .ensures .parent) (c .before .before .if1 .left) (λ z. parent-gives (c .before .before .before .before .before .args .w .now) (c .before .before .before .before .before .pre .1) _ _ (c .done .ensures) (c .before .before .before .before .before .args .change) (c .before .parent .ensures))
+
+pub parent-spec : {M : Type 1} → statement M
+parent-spec =
+    tie.close
+    (tie.spec
+    (λ c κs. search needs)
+    (λ c κs. search needs)
+    returns
+    (λ c κs. search needs)
+    (λ c. search needs)
+    (λ c κs. search needs)
+    returns-2)
