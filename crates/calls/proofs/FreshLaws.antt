@@ -1,0 +1,96 @@
+-- The bytes of a fresh window: zeros, but for the number of entries. Assumes nothing.
+use mathlib.Core.Path.{_≡_, refl, sym, _∙_, ap}
+use mathlib.Core.Bool.{Bool, true, false, _||_}
+use mathlib.Core.List.{List, [], _∷_, _++_, append-nil}
+use Prim.Native.Nat.{ℕ, zero, suc, _+_, _-_, _<_, _≤_, _^_, _/_, _%_}
+use native.Mathlib.Omega.{arith}
+use native.Mathlib.Nat.{zero-div, zero-mod}
+use lib.Dec.{ltb, eqb}
+use lib.ListN.{length, getD, set, take, drop, replicate, length-replicate, replicate-append-replicate, drop-of-length-le}
+use Rattle.rules.specs.Base.{table, all, exceeds}
+use Rattle.rules.specs.Window.{fresh}
+use Rattle.rules.proofs.BaseLaws.{eqb-eq, eqb-other}
+use Rattle.rules.proofs.ListLaws.{all-getD}
+use Rattle.layout.specs.Codec.{headAt, headSize, windowSize, byte, pack, headByte, valueByte, changeByte, lineByte, lockByte, permitBytes, permitByte, tieBytes, tieByte, recordBytes, logByte, headSection, figures, lay, encode}
+use Rattle.layout.proofs.SectionLaws.{Section, section, sections, layOut, total, encode-sections}
+use Rattle.layout.proofs.PartLaws.{head-part}
+use Rattle.layout.proofs.PutLaws.{laidAt, head-put}
+use Rattle.cells.specs.Part.{patch}
+
+-- sections of zeros
+abbrev AllZero : List Section → Type 0
+AllZero [] = Unit {0}
+AllZero (s ∷ l) = ((i : ℕ) → s .content i ≡ 0) × AllZero l
+
+table-zero : (f : ℕ → ℕ) → ((i : ℕ) → f i ≡ 0) → (k i : ℕ) → table k i f ≡ replicate k 0
+unfolding table
+table-zero f h zero i = refl
+table-zero f h (suc k) i = λ j. h i j ∷ table-zero f h k (suc i) j
+
+layOut-zero : (l : List Section) → AllZero l → layOut l ≡ replicate (total l) 0
+unfolding layOut
+layOut-zero [] z = refl
+layOut-zero (s ∷ l) z = (λ j. table-zero (s .content) (z .0) (s .size) 0 j ++ layOut-zero l (z .1) j) ∙ replicate-append-replicate (s .size) (total l) 0
+
+byte-zero : (k : ℕ) → byte k 0 ≡ 0
+unfolding byte
+byte-zero k = rw (zero-div (256 ^ k))
+
+pack-none : (n : ℕ) (p : ℕ → Bool) → ((b : ℕ) → p b ≡ false) → pack n p ≡ 0
+unfolding pack
+pack-none zero p h = refl
+pack-none (suc n) p h = rw (h 0, pack-none n (λ j. p (suc j)) (λ j. h (suc j)))
+
+-- nothing in any place
+none : (l : List ℕ) → all (λ x. eqb x 0) l ≡ true → (i : ℕ) → getD l i 0 ≡ 0
+none l h i = eqb-eq (getD l i 0) 0 (all-getD (λ x. eqb x 0) l i 0 h refl)
+
+no-figure : (k : ℕ) → getD (figures (fresh 0)) k 0 ≡ 0
+unfolding figures fresh all
+no-figure k = none (figures (fresh 0)) refl k
+
+-- a window of no entries is all zeros
+no-entries : AllZero (sections (figures (fresh 0)) (fresh 0))
+unfolding sections section fresh headByte valueByte changeByte lineByte lockByte permitByte permitBytes tieByte tieBytes logByte recordBytes
+no-entries = (
+  λ i. rw (no-figure (i / 2)) (byte-zero (i % 2)),
+  (
+    λ i. byte-zero (i % 4),
+    (
+      λ i. unfold all in none (0 ∷ 0 ∷ []) refl (i % 4),
+      (
+        λ i. refl,
+        (
+          λ i. pack-none 8 _ (λ b. eqb-other 0 (suc (i % 64 / 32)) (λ e. omega arith)),
+          (
+            λ i. unfold all in none (0 ∷ 0 ∷ 0 ∷ 0 ∷ []) refl (i % 4),
+            (
+              λ i. unfold all in none (0 ∷ 0 ∷ 0 ∷ 0 ∷ []) refl (i % 4),
+              (
+                λ i. unfold all byte in none (0 ∷ 0 ∷ byte 0 0 ∷ byte 1 0 ∷ byte 2 0 ∷ byte 3 0 ∷ []) refl (i % 6),
+                tt,
+              ),
+            ),
+          ),
+        ),
+      ),
+    ),
+  ),
+)
+
+blank : (n : ℕ) → n ≡ windowSize → replicate n 0 ≡ encode (fresh 0)
+unfolding sections section
+blank n e = ap (λ k. replicate k 0) e ∙ sym (encode-sections (fresh 0) ∙ layOut-zero (sections (figures (fresh 0)) (fresh 0)) no-entries)
+
+-- cleared, and the number of entries stored
+pub made-fresh : (bs : List ℕ) → length bs ≡ windowSize → (n : ℕ) (cleared head : List ℕ) → cleared ≡ patch bs 0 (replicate (length bs - 0) 0)
+    → ((fs : List ℕ) → take headSize (drop headAt cleared) ≡ headSection fs → 0 < length fs → head ≡ headSection (set fs 0 n)) → laidAt cleared headAt headSize head ≡ encode (fresh n)
+unfolding patch
+made-fresh bs size n cleared head e f = go cleared whole f
+  where
+    whole : cleared ≡ encode (fresh 0)
+    whole = e ∙ ap (λ l. replicate (length bs - 0) 0 ++ l) (drop-of-length-le bs {i = length (replicate (length bs - 0) 0)} (omega (arith, length-replicate {A = ℕ} (length bs - 0) 0))) ∙ append-nil (replicate (length bs - 0) 0) ∙ blank (length bs - 0) (omega arith)
+
+    go : (l : List ℕ) → l ≡ encode (fresh 0) → ((fs : List ℕ) → take headSize (drop headAt l) ≡ headSection fs → 0 < length fs → head ≡ headSection (set fs 0 n)) → laidAt l headAt headSize head ≡ encode (fresh n)
+    go l q g = let h = g (figures (fresh 0)) (ap (λ r. take headSize (drop headAt r)) q ∙ unfold encode in head-part (figures (fresh 0)) (fresh 0)) (unfold figures in omega arith) in
+        rw (q, h) (unfold encode in head-put (figures (fresh 0)) (fresh 0) (set (figures (fresh 0)) 0 n) ∙ unfold lay figures fresh in refl)

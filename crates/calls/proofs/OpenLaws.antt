@@ -1,0 +1,61 @@
+-- What open does on lent memory. Assumes nothing.
+use mathlib.Core.Path.{_≡_, refl, sym, _∙_, ap}
+use mathlib.Core.Bool.{Bool, true, false, not, cond, _||_, false≢true}
+use mathlib.Core.List.{List, _++_}
+use Prim.Native.Nat.{ℕ, zero, suc, _<_, _≤_}
+use native.Mathlib.Omega.{arith}
+use lib.Dec.{leb, ltb}
+use lib.ListN.{length, take, drop}
+use Rattle.rules.specs.Base.{exceeds, outside}
+use Rattle.rules.specs.Window.{limits, fresh}
+use Rattle.rules.specs.Calls.{Open, done, unchanged}
+use Rattle.rules.specs.Effects.{effect}
+use Rattle.rules.specs.Refusals.{_if_, checks, firstFailed, settle, step}
+use Rattle.rules.proofs.BaseLaws.{Below, under, over, below, no-true, both-ways, le-of, leb-true, lt-of, ltb-true, within-of, over-false}
+use Rattle.layout.specs.Codec.{windowSize, encode}
+use Rattle.layout.specs.Memory.{long, handBack, perform}
+use Rattle.layout.proofs.MemoryLaws.{perform-short, perform-still, open-answered, open-numbered, opened-bytes}
+use Rattle.replies.specs.declared.Reply.{Reply}
+use Rattle.replies.specs.Gives.{Gives}
+
+-- a figure above a bound, by clauses and as a comparison
+exceeds-ltb : (m n : ℕ) → exceeds m n ≡ ltb n m
+exceeds-ltb m n = both-ways _ _ (up (below n m)) (λ e. down (exceeds m n) refl (lt-of n m e))
+  where
+    up : {b : Bool} → Below n m b → exceeds m n ≡ true → b ≡ true
+    up (under h) e = refl
+    up (over h) e = absurd (false≢true (sym (over-false m n h) ∙ e))
+
+    down : (b : Bool) → exceeds m n ≡ b → n < m → b ≡ true
+    down true q h = refl
+    down false q h = absurd (omega (arith, within-of m n (ap not q)))
+
+module _ (mem : List ℕ) (n : ℕ) where
+  -- what the rules answer
+  ruled : step limits (fresh 0) (Open n) .answer ≡ cond (outside 1 256 n) 2 0
+  unfolding step checks _if_ firstFailed settle effect done unchanged outside limits
+  ruled = rw (exceeds-ltb n 256) (go (ltb n 1 || ltb 256 n))
+    where
+      go : (b : Bool) → settle (cond b 2 0) (fresh 0) (done 0 (fresh n)) .answer ≡ cond b 2 0
+      go true = refl
+      go false = refl
+
+  pub open-short : length mem < windowSize → (r : Reply) → (r .answer ≡ 1) × (r .number ≡ 0) → Gives (perform mem (Open n)) r mem
+  unfolding long handBack
+  open-short h r e = rw (perform-short mem (Open n) (no-true (leb windowSize (length mem)) (λ q. omega (arith, le-of windowSize (length mem) q)))) (record { answer = e .0; number = e .1; bytes = refl })
+
+  module _ (room : windowSize ≤ length mem) where
+    is-long : long mem ≡ true
+    unfolding long
+    is-long = leb-true windowSize (length mem) room
+
+    answered : perform mem (Open n) .answer ≡ cond (outside 1 256 n) 2 0
+    answered = open-answered mem (fresh 0) n is-long ∙ ruled
+
+    pub open-refused : outside 1 256 n ≡ true → (r : Reply) → (r .answer ≡ 2) × (r .number ≡ 0) → Gives (perform mem (Open n)) r mem
+    open-refused o r e = let a : perform mem (Open n) .answer ≡ 2 = answered ∙ ap (λ b. cond b 2 0) o in
+        record { answer = e .0 ∙ sym a; number = e .1 ∙ sym (open-numbered mem n); bytes = sym (perform-still mem (Open n) .same (λ z. omega (arith, a, z))) }
+
+    pub open-done : outside 1 256 n ≡ false → (w : List ℕ) → w ≡ encode (fresh n) → (r : Reply) → (r .answer ≡ 0) × (r .number ≡ 0) → Gives (perform mem (Open n)) r (take 0 mem ++ (w ++ drop windowSize (drop 0 mem)))
+    open-done o w q r e = let a : perform mem (Open n) .answer ≡ 0 = answered ∙ ap (λ b. cond b 2 0) o in
+        record { answer = e .0 ∙ sym a; number = e .1 ∙ sym (open-numbered mem n); bytes = ap (λ l. l ++ drop windowSize mem) q ∙ sym (opened-bytes mem n a .bytes) }

@@ -1,0 +1,37 @@
+-- `calls::read` meets its contract. Assumes nothing.
+use mathlib.Core.Path.{refl, sym, _∙_}
+use Rattle.rules.specs.Calls.{Read}
+use Rattle.rules.specs.Events.{actionOf, isOpening, isOpen}
+use Rattle.rules.proofs.BaseLaws.{not-true, not-false}
+use Rattle.replies.proofs.GiveLaws.{unsound}
+use Rattle.calls.proofs.LentLaws.{lent-room, lent-size, lent-sound, looked-at}
+use borrow.Author.Needs.{needs}
+use Rattle.calls.proofs.read.Statement.{statement}
+use Rattle.calls.proofs.read.Tie as tie
+
+returns : tie.Need-returns
+returns c = unsound (c .before .before .before .before .before .args .memory .now) (Read (c .before .before .before .before .before .args .change) (c .before .before .before .before .before .args .entry)) (sym (c .before .before .sound-memory .ensures) ∙ not-true _ (c .before .if1 .taken)) (unfold isOpen actionOf isOpening in refl) _ (c .refused .ensures)
+
+part-read-end : tie.Need-part-read-end
+part-read-end c = lent-room (c .before .before .before .before .before .args .memory .now) (sym (c .before .before .sound-memory .ensures) ∙ not-false _ (c .before .if1 .left))
+
+read-requires : tie.Need-read-requires
+read-requires c κs = (lent-size (c .before .before .before .before .before .before .args .memory .now) (sym (c .before .before .before .sound-memory .ensures) ∙ not-false _ (c .before .before .if1 .left)), lent-sound (c .before .before .before .before .before .before .args .memory .now) (sym (c .before .before .before .sound-memory .ensures) ∙ not-false _ (c .before .before .if1 .left)))
+
+returns-2 : tie.Need-returns-2
+returns-2 c = looked-at (c .before .before .before .before .before .before .before .args .memory .now) (Read (c .before .before .before .before .before .before .before .args .change) (c .before .before .before .before .before .before .before .args .entry)) (sym (c .before .before .before .before .sound-memory .ensures) ∙ not-false _ (c .before .before .before .if1 .left)) _ (c .read .ensures)
+
+pub read-spec : {M : Type 1} → statement M
+read-spec =
+    tie.close
+    (tie.spec
+    (λ c κs. search needs)
+    (λ c κs. search needs)
+    (λ c. search needs)
+    returns
+    (λ c. search needs)
+    (λ c. search needs)
+    part-read-end
+    read-requires
+    (λ c. search needs)
+    returns-2)

@@ -1,0 +1,3 @@
+-- Demand 3 of lists of calls made through the exported functions.
+pub mod Contracts
+pub mod Demand

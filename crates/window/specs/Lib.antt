@@ -1,0 +1,2 @@
+-- Lists of calls as a program makes them.
+pub mod Seen
