@@ -1,4 +1,5 @@
 //! A window and its soundness, written from document 01; its bytes, from docs/WINDOW.md.
+use std::collections::HashSet;
 
 pub const SIZE: usize = 37_952;
 pub const VALUES: usize = 64;
@@ -7,6 +8,8 @@ pub const LOCKS: usize = 3_136;
 pub const PERMITS: usize = 19_520;
 pub const TIES: usize = 23_616;
 pub const LOG: usize = 25_664;
+
+static ZEROS: [u8; SIZE] = [0; SIZE];
 
 #[derive(Clone, PartialEq, Eq, PartialOrd, Ord)]
 pub struct Permit {
@@ -30,13 +33,16 @@ pub struct Record {
     pub before: u32,
 }
 
-/// A window. Locks are (entry, change, mode); a change c has its status and parent at c - 1.
+/// Entry, change, mode.
+pub type Lock = (u8, u8, u8);
+
+/// A window. A change c has its status and parent at c - 1.
 #[derive(Clone, Default)]
 pub struct Window {
     pub entries: usize,
     pub values: Vec<u32>,
     pub changes: Vec<(u8, u8)>,
-    pub locks: Vec<(u8, u8, u8)>,
+    pub locks: Vec<Lock>,
     pub log: Vec<Record>,
     pub permits: Vec<Permit>,
     pub ties: Vec<Tie>,
@@ -92,7 +98,7 @@ pub fn window(m: &[u8]) -> Option<Window> {
     if entries < 1 || entries > 256 || given > 255 || records > 2_048 || permits > 1_024 || ties > 512 {
         return None;
     }
-    let zero = |from: usize, to: usize| m[from..to].iter().all(|b| *b == 0);
+    let zero = |from: usize, to: usize| m[from..to] == ZEROS[from..to];
     if !(zero(10, VALUES)
         && zero(VALUES + 4 * entries, CHANGES + 4)
         && zero(CHANGES + 4 * (given + 1), LOCKS)
@@ -115,9 +121,8 @@ pub fn window(m: &[u8]) -> Option<Window> {
         }
         w.changes.push((m[at], m[at + 1]));
     }
-    for e in 0..entries {
-        let row = &m[LOCKS + 64 * e..LOCKS + 64 * e + 64];
-        for (i, byte) in row.iter().enumerate() {
+    for e in (0..entries).filter(|e| !zero(LOCKS + 64 * e, LOCKS + 64 * e + 64)) {
+        for (i, byte) in m[LOCKS + 64 * e..LOCKS + 64 * e + 64].iter().enumerate() {
             for bit in 0..8 {
                 if byte >> bit & 1 == 1 {
                     w.locks.push((e as u8, (i % 32 * 8 + bit) as u8, (i / 32 + 1) as u8));
@@ -145,7 +150,7 @@ impl Window {
         c >= 1 && (c as usize) <= self.changes.len() && (1..=3).contains(&self.changes[c as usize - 1].0)
     }
 
-    fn held(&self, e: u8, c: u8) -> u8 {
+    pub fn held(&self, e: u8, c: u8) -> u8 {
         self.locks.iter().filter(|l| l.0 == e && l.1 == c).map(|l| l.2).max().unwrap_or(0)
     }
 
@@ -162,7 +167,9 @@ impl Window {
     }
 
     fn log_sound(&self) -> bool {
-        self.log.iter().all(|r| self.live(r.owner) && (r.entry as usize) < self.entries && self.held(r.entry, r.owner) == 2)
+        let written: HashSet<(u8, u8)> = self.locks.iter().filter(|l| l.2 == 2).map(|l| (l.0, l.1)).collect();
+        let fine = |r: &Record| (r.entry as usize) < self.entries && written.contains(&(r.entry, r.owner));
+        self.log.iter().all(|r| self.live(r.owner) && fine(r))
     }
 
     fn permits_sound(&self) -> bool {
@@ -189,7 +196,7 @@ impl Window {
     }
 
     /// No path of arrows returns to its group: a depth-first walk over groups.
-    fn arrows_sound(&self) -> bool {
+    pub fn arrows_sound(&self) -> bool {
         let mut group: Vec<usize> = (0..256).collect();
         for t in self.ties.iter().filter(|t| t.kind == 3) {
             let (a, b) = (group[t.leader as usize], group[t.follower as usize]);
@@ -212,23 +219,22 @@ impl Window {
         (0..256).all(|g| walk(g, &to, &mut mark))
     }
 
-    fn permitted(&self, giver: u8, taker: u8, e: u8, mode: u8) -> bool {
+    pub fn permitted(&self, giver: u8, taker: u8, e: u8, mode: u8) -> bool {
         let contains = |operations: u8| operations == 3 || operations == mode;
         let mine = |p: &&Permit| p.entry == e && p.giver == giver;
         self.permits.iter().filter(mine).any(|p| (p.taker == taker || p.taker == 0) && contains(p.operations))
     }
 
     /// Each clashing pair has a permit from one of the two to the other, or to anybody, that contains the taker's held mode.
-    fn pairs_sound(&self) -> bool {
-        for (i, a) in self.locks.iter().enumerate() {
-            for b in self.locks[i + 1..].iter().filter(|b| b.0 == a.0) {
-                let clash = a.2 == 2 || b.2 == 2;
-                if clash && !self.permitted(a.1, b.1, a.0, b.2) && !self.permitted(b.1, a.1, a.0, a.2) {
-                    return false;
-                }
-            }
-        }
-        true
+    pub fn pairs_sound(&self) -> bool {
+        let fine = |a: &Lock, b: &Lock| {
+            let clash = a.2 == 2 || b.2 == 2;
+            !clash || self.permitted(a.1, b.1, a.0, b.2) || self.permitted(b.1, a.1, a.0, a.2)
+        };
+        let mut locks = self.locks.clone();
+        locks.sort();
+        let mut entries = locks.chunk_by(|a, b| a.0 == b.0);
+        entries.all(|here| here.iter().enumerate().all(|(i, a)| here[i + 1..].iter().all(|b| fine(a, b))))
     }
 
     pub fn sound(&self) -> bool {

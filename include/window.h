@@ -1,0 +1,176 @@
+/*
+ * The change window: transactions ("changes") over up to 256 pool entries, in memory that the caller lends.
+ *
+ * Every call takes the lent memory first:
+ *   window  the memory, not null; its first WINDOW_SIZE bytes are the window
+ *   length  how many bytes are lent; those past the window are neither read nor changed
+ * and gives an answer and a second number. The number is 0 where nothing is said of it.
+ * A call answered otherwise than WINDOW_DONE has changed no byte. Where several answers apply, the lowest is given.
+ */
+#ifndef WINDOW_H
+#define WINDOW_H
+
+#include <stddef.h>
+#include <stdint.h>
+
+#ifdef __cplusplus
+extern "C" {
+#endif
+
+/* The bytes of a window, whatever it holds. */
+#define WINDOW_SIZE 37952
+
+typedef struct window_reply {
+    uint32_t answer;
+    uint32_t number;
+} window_reply;
+
+enum window_answer {
+    WINDOW_DONE = 0,
+    WINDOW_NOT_SOUND = 1,    /* the memory is shorter than a window or, in every call but open, not a sound window */
+    WINDOW_BAD_ENTRIES = 2,  /* the number of entries is not 1 to 256 */
+    WINDOW_NO_CHANGE = 3,    /* a change number is 0 or was never given */
+    WINDOW_NO_ENTRY = 4,     /* an entry number is not below the number of entries */
+    WINDOW_BAD_OPTION = 5,   /* a mode, operations or kind is not one of its values */
+    WINDOW_SAME_CHANGE = 6,  /* the two changes are the same */
+    WINDOW_BAD_STATUS = 7,   /* a change's status does not suit */
+    WINDOW_NO_LOCK = 8,      /* a read has no lock on the entry, or a write no write lock */
+    WINDOW_CYCLE = 9,        /* the tie would let a path of wait and fall ties return to its group */
+    WINDOW_CLASH = 10,       /* after the delegate two locks would clash without a permit */
+    WINDOW_FULL = 11,        /* no room: 255 changes, 2,048 log records, 1,024 permits, 512 ties */
+    WINDOW_BLOCKED = 20,     /* the lock or the commit has to wait; try again */
+    WINDOW_ENDED = 21        /* a commit of an aborted change, or an abort of a committed one */
+};
+
+enum window_status {
+    WINDOW_STATUS_INITIATED = 1,
+    WINDOW_STATUS_RUNNING = 2,
+    WINDOW_STATUS_COMPLETED = 3,
+    WINDOW_STATUS_COMMITTED = 4,
+    WINDOW_STATUS_ABORTED = 5
+};
+
+/* Modes of a lock; united with | they are the operations of a permit. */
+enum window_mode {
+    WINDOW_MODE_READ = 1,
+    WINDOW_MODE_WRITE = 2
+};
+
+enum window_tie {
+    WINDOW_TIE_WAIT = 1,  /* the follower commits after the leader has ended */
+    WINDOW_TIE_FALL = 2,  /* the follower commits after the leader has, and is aborted with it */
+    WINDOW_TIE_GROUP = 3  /* the two end together */
+};
+
+#define WINDOW_ANYBODY 0         /* a permit's taker: any change */
+#define WINDOW_EVERY_ENTRY 65535 /* a delegate's entry: all of them */
+
+/*
+ * A fresh window, whatever the memory held.
+ *   entries  how many entries it has, 1 to 256; all values are 0
+ */
+window_reply window_open(uint8_t *window, size_t length, uint32_t entries);
+
+/*
+ * A new change; number: its number, from 1 up.
+ *   parent  0 for none, or the running change that it belongs to
+ */
+window_reply window_initiate(uint8_t *window, size_t length, uint32_t parent);
+
+/*
+ * The change runs.
+ *   change  an initiated change
+ */
+window_reply window_begin(uint8_t *window, size_t length, uint32_t change);
+
+/*
+ * The change has done its work and may be committed.
+ *   change  a running change
+ */
+window_reply window_complete(uint8_t *window, size_t length, uint32_t change);
+
+/*
+ * Locks an entry, or answers WINDOW_BLOCKED.
+ *   change  the running change that wants the lock
+ *   entry   the entry to lock
+ *   mode    WINDOW_MODE_READ, or WINDOW_MODE_WRITE, which covers reading
+ */
+window_reply window_lock(uint8_t *window, size_t length, uint32_t change, uint32_t entry, uint32_t mode);
+
+/*
+ * Reads an entry; number: its value.
+ *   change  a running change that holds a lock on the entry
+ *   entry   the entry to read
+ */
+window_reply window_read(uint8_t *window, size_t length, uint32_t change, uint32_t entry);
+
+/*
+ * Writes an entry and logs the value before.
+ *   change  a running change that holds the write lock on the entry
+ *   entry   the entry to write
+ *   value   the new value
+ */
+window_reply window_write(uint8_t *window, size_t length, uint32_t change, uint32_t entry, uint32_t value);
+
+/*
+ * Lets another change lock an entry beside the giver's own lock.
+ *   giver       the live change that permits
+ *   taker       the live change that is permitted, or WINDOW_ANYBODY
+ *   entry       the entry it is permitted on
+ *   operations  WINDOW_MODE_READ, WINDOW_MODE_WRITE or both united; added to those permitted before
+ */
+window_reply window_permit(uint8_t *window, size_t length, uint32_t giver, uint32_t taker, uint32_t entry,
+                           uint32_t operations);
+
+/*
+ * Hands over log records, locks and given permits.
+ *   from   the live change that hands over
+ *   to     the live change that receives
+ *   entry  the entry handed over, or WINDOW_EVERY_ENTRY
+ */
+window_reply window_delegate(uint8_t *window, size_t length, uint32_t from, uint32_t to, uint32_t entry);
+
+/*
+ * Ties two changes.
+ *   kind      WINDOW_TIE_WAIT, WINDOW_TIE_FALL or WINDOW_TIE_GROUP
+ *   leader    the live change that goes first; in a group either of the two
+ *   follower  the live change that goes after
+ */
+window_reply window_depend(uint8_t *window, size_t length, uint32_t kind, uint32_t leader, uint32_t follower);
+
+/*
+ * Commits the change with its whole group; number: how many changes this call ended.
+ * WINDOW_BLOCKED where a member is not completed or a leader has not ended; number: the lowest of those.
+ *   change  the change to commit; one that is committed gives 0
+ */
+window_reply window_commit(uint8_t *window, size_t length, uint32_t change);
+
+/*
+ * Aborts the change with all that must fall with it and undoes their writes; number: how many changes this call ended.
+ *   change  the change to abort; one that is aborted gives 0
+ */
+window_reply window_abort(uint8_t *window, size_t length, uint32_t change);
+
+/*
+ * Number: the status of a change.
+ *   change  any change
+ */
+window_reply window_status(uint8_t *window, size_t length, uint32_t change);
+
+/*
+ * Number: the parent of a change.
+ *   change  any change
+ */
+window_reply window_parent(uint8_t *window, size_t length, uint32_t change);
+
+/*
+ * Number: the value of an entry.
+ *   entry  the entry to look at; no lock is needed
+ */
+window_reply window_value(uint8_t *window, size_t length, uint32_t entry);
+
+#ifdef __cplusplus
+}
+#endif
+
+#endif
