@@ -1,17 +1,14 @@
-// What a call does when it is not refused, on the bytes of a sound window. A number that is not refused fits a byte.
+// What a call that changes a change or a lock does when it is not refused, on the bytes of a sound window. A number that is not refused fits a byte.
 use layout::Changes;
 use layout::Entries;
 use layout::Header;
 use layout::Line;
 use layout::Locks;
-use layout::Log;
 use layout::Permits;
 use layout::Ties;
-use layout::Window;
 use places::store_figure;
 use places::store_parent;
 use places::store_status;
-use places::store_value;
 use replies::Reply;
 use replies::done;
 use replies::refused;
@@ -20,7 +17,7 @@ ghost use mathlib.Core.Bool.{true, false};
 ghost use lib.ListN.{length};
 ghost use Rattle.rules.specs.Base.{put};
 ghost use Rattle.rules.specs.Window.{limits, withStatus, noChange};
-ghost use Rattle.rules.specs.Calls.{Initiate, Begin, Complete, Lock, Write, Permit, Depend, done as isDone};
+ghost use Rattle.rules.specs.Calls.{Initiate, Begin, Complete, Lock, done as isDone};
 ghost use Rattle.rules.specs.Effects.{effect, grantable as isGrantable};
 ghost use Rattle.rules.specs.Refusals.{checks, firstFailed};
 ghost use Rattle.layout.specs.Codec.{windowSize, decode};
@@ -107,65 +104,5 @@ pub fn lock(w: &mut [u8], change: u32, entry: u32, mode: u32) -> Reply
         change as u8,
         mode as u8,
     );
-    done(0)
-}
-
-// The old value goes into the log, then the new one is stored.
-pub fn write(w: &mut [u8], change: u32, entry: u32, value: u32) -> Reply
-    requires { ⌜ length (now w) ≡ windowSize ⌝ }
-    requires { ⌜ soundBytes (now w) ≡ true ⌝ }
-    requires { ⌜ firstFailed (checks limits (decode (now w)) (Write change entry value)) ≡ 0 ⌝ }
-    ensures { λ r. ⌜ Gives (written (effect (decode (now (w .entry))) (Write change entry value))) r (now (w .exit)) ⌝ }
-{
-    let before = reads::value(w, entry);
-    let count = reads::records(w);
-    log::append(
-        &mut w[Log::AT..Window::SIZE],
-        count,
-        change as u8,
-        entry as u8,
-        before,
-    );
-    store_value(&mut w[Entries::AT..Changes::AT], entry as u8, value);
-    store_figure(&mut w[Header::AT..Entries::AT], 2, (count + 1) as u16);
-    done(0)
-}
-
-// The permit is entered, or united with the one that stands.
-pub fn permit(w: &mut [u8], giver: u32, taker: u32, entry: u32, operations: u32) -> Reply
-    requires { ⌜ length (now w) ≡ windowSize ⌝ }
-    requires { ⌜ soundBytes (now w) ≡ true ⌝ }
-    requires { ⌜ firstFailed (checks limits (decode (now w)) (Permit giver taker entry operations)) ≡ 0 ⌝ }
-    ensures { λ r. ⌜ Gives (written (effect (decode (now (w .entry))) (Permit giver taker entry operations))) r (now (w .exit)) ⌝ }
-{
-    let before = reads::permits(w);
-    let count = permits::add(
-        &mut w[Permits::AT..Ties::AT],
-        before,
-        giver as u8,
-        taker as u8,
-        entry as u8,
-        operations as u8,
-    );
-    store_figure(&mut w[Header::AT..Entries::AT], 3, count as u16);
-    done(0)
-}
-
-// The tie is entered, unless it stands.
-pub fn depend(w: &mut [u8], kind: u32, leader: u32, follower: u32) -> Reply
-    requires { ⌜ length (now w) ≡ windowSize ⌝ }
-    requires { ⌜ soundBytes (now w) ≡ true ⌝ }
-    requires { ⌜ firstFailed (checks limits (decode (now w)) (Depend kind leader follower)) ≡ 0 ⌝ }
-    ensures { λ r. ⌜ Gives (written (effect (decode (now (w .entry))) (Depend kind leader follower))) r (now (w .exit)) ⌝ }
-{
-    let before = reads::ties(w);
-    let count = ties::add(
-        &mut w[Ties::AT..Log::AT],
-        before,
-        kind as u8,
-        leader as u8,
-        follower as u8,
-    );
-    store_figure(&mut w[Header::AT..Entries::AT], 4, count as u16);
     done(0)
 }

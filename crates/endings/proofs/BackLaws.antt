@@ -7,7 +7,7 @@ use lib.ListN.{length, take, drop, set}
 use Rattle.rules.specs.Sets.{Set}
 use Rattle.rules.specs.Window.{LogRecord, PermitRecord, TieRecord, Window, withValue, withStatus, withHeld, withLog, withPermits, withTies}
 use Rattle.rules.proofs.ListLaws.{length-keep}
-use Rattle.layout.specs.Codec.{headAt, headSize, valuesAt, valuesSize, changesAt, changesSize, locksAt, locksSize, permitsAt, permitsSize, tiesAt, tiesSize, logAt, logSize, figures, headSection, valueSection, changeSection, lockSection, permitSection, tieSection, logSection, lay, encode}
+use Rattle.layout.specs.Codec.{headAt, headSize, valuesAt, valuesSize, changesAt, changesSize, locksAt, locksSize, permitsAt, permitsSize, tiesAt, tiesSize, logAt, logSize, figures, valueSection, changeSection, lockSection, permitSection, tieSection, logSection, lay, encode}
 use Rattle.layout.proofs.PartLaws.{changes-part, locks-part, permits-part, ties-part, log-part}
 use Rattle.layout.proofs.LentLaws.{lent, FigureStored, head-lent}
 use Rattle.layout.proofs.PutLaws.{laidAt, withChanges, values-put, changes-put, locks-put, permits-put, ties-put, log-put}

@@ -3,7 +3,7 @@ use mathlib.Core.Path.{_≡_, refl, sym, _∙_, ap, fun-ext}
 use mathlib.Core.Logic.{⊎-elim, _≢_}
 use mathlib.Core.Bool.{Bool, true, false, not, cond, _&&_, _||_}
 use mathlib.Core.List.{List}
-use Prim.Native.Nat.{ℕ, suc, _≤_, _<_}
+use Prim.Native.Nat.{ℕ, suc, _≤_}
 use native.Mathlib.Omega.{arith}
 use lib.Dec.{ltb, eqb}
 use lib.ListN.{length, take, drop}
@@ -14,15 +14,14 @@ use Rattle.rules.specs.Ties.{isArrow, grouped, falling, groupOf, endSet}
 use Rattle.rules.specs.Calls.{Commit, Abort, Outcome, done, unchanged}
 use Rattle.rules.specs.Effects.{endAll, undo, size, commitBlockers, commitGroup, commitChange, abortAll, abortChange, effect}
 use Rattle.rules.specs.Refusals.{_if_, checks, firstFailed}
-use Rattle.rules.proofs.BaseLaws.{and-left, and-right, or-cases, or-false-right, both-ways, and-both, not-true, not-false, no-true, eqb-eq, eqb-same, eqb-other, lt-of, ge-of, within-of, Below, under, over, below}
+use Rattle.rules.proofs.BaseLaws.{and-left, and-right, or-cases, both-ways, and-both, not-true, not-false, no-true, eqb-eq, eqb-same, eqb-other, lt-of, Below, under, over, below}
 use Rattle.rules.proofs.ListLaws.{find}
 use Rattle.rules.proofs.SoundParts.{status-none, live-below, live-of}
-use Rattle.rules.proofs.SoundStep.{passed, codes, group-live, fall-live}
-use Rattle.layout.specs.Codec.{changesAt, changesSize, tiesAt, tiesSize, windowSize, figures, changeSection, tieSection, decode, encode}
+use Rattle.rules.proofs.SoundStep.{group-live, fall-live}
+use Rattle.layout.specs.Codec.{changesAt, changesSize, tiesAt, tiesSize, windowSize, changeSection, tieSection, decode, encode}
 use Rattle.layout.specs.Memory.{soundBytes}
-use Rattle.layout.proofs.PartLaws.{ties-part}
 use Rattle.layout.proofs.SoundCodec.{sound-again}
-use Rattle.layout.proofs.MemoryLaws.{bytes-sound, part-of}
+use Rattle.layout.proofs.MemoryLaws.{bytes-sound}
 use Rattle.cells.specs.Part.{part}
 use Rattle.cells.proofs.PartLaws.{length-part}
 use Rattle.sets.proofs.BoundLaws.{any-bound, lowest-bound, count-bound}
@@ -32,7 +31,7 @@ use Rattle.graph.proofs.WindowLaws.{sound-ends, blockers-leaders}
 use Rattle.reads.proofs.ReadLaws.{changes-known, ties-known, given-most}
 use Rattle.replies.specs.declared.Reply.{Reply}
 use Rattle.replies.specs.Gives.{Gives, written}
-use Rattle.replies.proofs.GiveLaws.{left, looked}
+use Rattle.replies.proofs.GiveLaws.{left, looked, unrefused}
 use Rattle.endings.proofs.EndLaws.{undo-sound}
 
 -- the bytes of the section of ties
@@ -47,11 +46,11 @@ module _ (bs : List ℕ) (s : soundBytes bs ≡ true) where
 
   pub commit-known : (c : ℕ) → firstFailed (checks limits (decode bs) (Commit c)) ≡ 0 → noChange (decode bs) c ≡ false
   unfolding checks _if_
-  commit-known c q = passed (checks limits (decode bs) (Commit c)) (codes limits (decode bs) (Commit c)) q .0
+  commit-known c q = unrefused (decode bs) (Commit c) q .0
 
   pub abort-known : (c : ℕ) → firstFailed (checks limits (decode bs) (Abort c)) ≡ 0 → noChange (decode bs) c ≡ false
   unfolding checks _if_
-  abort-known c q = passed (checks limits (decode bs) (Abort c)) (codes limits (decode bs) (Abort c)) q .0
+  abort-known c q = unrefused (decode bs) (Abort c) q .0
 
   -- BY STATUS
   module _ (c st : ℕ) (e : st ≡ decode bs .status c) where

@@ -14,11 +14,10 @@ use Rattle.rules.proofs.BaseLaws.{lt-of}
 use Rattle.rules.proofs.ListLaws.{all-weaken, all-getD}
 use Rattle.rules.proofs.SoundParts.{Sound, record-parts, held-no-entry}
 use Rattle.rules.proofs.SoundPlain.{undo-values, value-sound}
-use Rattle.layout.specs.Codec.{valuesAt, valuesSize, changesAt, changesSize, locksAt, locksSize, logAt, logSize, windowSize, noRecord, figures, valueByte, valueSection, changeSection, lockSection, logSection, decode, encode}
+use Rattle.layout.specs.Codec.{valuesAt, valuesSize, changesAt, changesSize, locksAt, locksSize, logAt, logSize, windowSize, noRecord, valueByte, valueSection, changeSection, lockSection, logSection, decode, encode}
 use Rattle.layout.specs.Memory.{soundBytes}
-use Rattle.layout.proofs.MemoryLaws.{bytes-sound, bytes-again, encode-sound, part-of}
+use Rattle.layout.proofs.MemoryLaws.{bytes-sound, bytes-again, encode-sound}
 use Rattle.layout.proofs.SectionLaws.{length-table}
-use Rattle.layout.proofs.PartLaws.{log-part}
 use Rattle.layout.proofs.PutLaws.{laidAt}
 use Rattle.cells.specs.Part.{part, patch}
 use Rattle.cells.proofs.PartLaws.{length-part}

@@ -2,8 +2,9 @@
 use mathlib.Core.Path.{_≡_, refl, sym, _∙_, ap, ap₂}
 use mathlib.Core.Bool.{true}
 use mathlib.Core.List.{List, _++_}
-use Prim.Native.Nat.{ℕ}
+use Prim.Native.Nat.{ℕ, _+_, _≤_}
 use native.Mathlib.Omega.{arith}
+use lib.Dec.{lit≤}
 use lib.ListN.{length, take, drop, replicate}
 use lib.Seq.{take-add, drop-drop}
 use Rattle.rules.specs.Sets.{Set}
@@ -26,7 +27,10 @@ use Rattle.reads.proofs.ReadLaws.{locks-known}
 use Rattle.handover.specs.Delegated.{tablesSize, tablesOf, AreTables}
 use Rattle.handover.proofs.TableLaws.{locks-cut, permits-cut}
 
--- COPIED OUT
+-- COPIED OUT: there is room for them
+pub copy-fits : {n m : ℕ} → tablesSize ≡ n → tablesSize ≡ m → 0 + n ≤ m
+copy-fits e q = rw (sym e, sym q) (lit≤ tt)
+
 module _ (bs : List ℕ) (s : soundBytes bs ≡ true) where
   tables-known : take tablesSize (drop locksAt bs) ≡ tablesOf (decode bs)
   unfolding tablesOf

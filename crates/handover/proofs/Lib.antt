@@ -1,5 +1,4 @@
 -- What is proved of a delegate. Other crates cite a file X here as Rattle.handover.proofs.X.
-pub mod CheckLaws
 pub mod TableLaws
 pub mod OverLaws
 pub mod JudgeLaws

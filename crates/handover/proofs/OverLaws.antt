@@ -3,6 +3,7 @@ use mathlib.Core.Path.{_≡_, refl, sym, _∙_, ap}
 use mathlib.Core.List.{List, _++_, append-assoc}
 use Prim.Native.Nat.{ℕ, _+_, _≤_, _<_}
 use native.Mathlib.Omega.{arith}
+use lib.Dec.{lit≤}
 use lib.ListN.{length, take, drop, set, length-append, length-map}
 use lib.Seq.{drop-drop}
 use Rattle.rules.specs.Sets.{Set}
@@ -12,10 +13,10 @@ use Rattle.layout.specs.Codec.{headAt, headSize, locksAt, locksSize, permitsAt,
 use Rattle.layout.proofs.CodecLaws.{length-encode}
 use Rattle.layout.proofs.PartLaws.{head-part, log-part}
 use Rattle.layout.proofs.PutLaws.{laidAt, head-put, locks-put, permits-put, log-put}
-use Rattle.cells.specs.Part.{part, patch}
-use Rattle.cells.proofs.PartLaws.{length-part, take-patch-end, drop-patch}
-use Rattle.handover.specs.Delegated.{tablesOf, AreTables}
-use Rattle.handover.proofs.TableLaws.{length-lent, length-locks, length-permits}
+use Rattle.cells.specs.Part.{patch}
+use Rattle.cells.proofs.PartLaws.{take-patch-end, drop-patch}
+use Rattle.handover.specs.Delegated.{tablesSize, tablesOf, AreTables}
+use Rattle.handover.proofs.TableLaws.{length-locks, length-permits}
 
 -- TWO LISTS written one after the other
 patch-both : (l : List ℕ) (at : ℕ) (xs ys : List ℕ) → at ≤ length l → patch l at (xs ++ ys) ≡ patch (patch l at xs) (at + length xs) ys
@@ -38,22 +39,9 @@ tables-put W held ps =
     ∙ ap (λ l. laidAt l permitsAt permitsSize (permitSection ps)) (locks-put (figures W) W held)
     ∙ permits-put (figures W) (withHeld W held) ps
 
--- LENGTHS on the way: after the copy, and after the log was lent
-module _ (o1 : List ℕ) (size : length o1 ≡ windowSize) where
-  pub log-part-size : length (take logSize (drop logAt o1)) ≡ logSize
-  unfolding part
-  log-part-size = length-part o1 logAt logSize (omega arith)
-
-  module _ (o2 : List ℕ) (same : length o2 ≡ length (take logSize (drop logAt o1))) where
-    pub log-lent-size : length (laidAt o1 logAt logSize o2) ≡ windowSize
-    log-lent-size = length-lent o1 logAt logSize o2 (omega arith) same ∙ size
-
-    pub head-part-size : length (take headSize (drop headAt (laidAt o1 logAt logSize o2))) ≡ headSize
-    unfolding part
-    head-part-size = length-part (laidAt o1 logAt logSize o2) headAt headSize (omega (arith, log-lent-size))
-
-    pub head-lent-size : (o3 : List ℕ) → length o3 ≡ length (take headSize (drop headAt (laidAt o1 logAt logSize o2))) → length (laidAt (laidAt o1 logAt logSize o2) headAt headSize o3) ≡ windowSize
-    head-lent-size o3 e = length-lent (laidAt o1 logAt logSize o2) headAt headSize o3 (omega (arith, log-lent-size)) e ∙ log-lent-size
+-- they have room in a window's bytes
+pub tables-fit : {n m : ℕ} → n ≡ tablesSize → m ≡ windowSize → locksAt + n ≤ m
+tables-fit e q = rw (e, q) (lit≤ tt)
 
 -- the figures of the window handed over: only the permits may be fewer
 figures-handed : (W : Window) (from to : ℕ) (on : Set) (n : ℕ) → n ≡ length (handOver W from to on .permits) → set (figures W) 3 n ≡ figures (handOver W from to on)

@@ -1,10 +1,10 @@
 -- The locks and the permits side by side: each cut out and put back, and those of a window that are handed over. Assumes nothing.
-use mathlib.Core.Path.{_≡_, refl, sym, _∙_, fun-ext, ap}
+use mathlib.Core.Path.{_≡_, refl, _∙_, fun-ext, ap}
 use mathlib.Core.Bool.{Bool, true, false}
 use mathlib.Core.List.{List, _++_, append-nil}
-use Prim.Native.Nat.{ℕ, _+_, _≤_}
+use Prim.Native.Nat.{ℕ}
 use native.Mathlib.Omega.{arith}
-use lib.ListN.{length, take, drop, length-append, length-take, length-drop, drop-of-length-le}
+use lib.ListN.{length, take, drop, drop-of-length-le}
 use lib.Seq.{take-at, take-all, drop-at}
 use Rattle.rules.specs.Sets.{Set, only}
 use Rattle.rules.specs.Window.{PermitRecord, Window, withHeld, withPermits}
@@ -15,12 +15,10 @@ use Rattle.layout.specs.Memory.{soundBytes}
 use Rattle.layout.proofs.MemoryLaws.{bytes-sound}
 use Rattle.layout.proofs.SectionLaws.{length-table}
 use Rattle.layout.proofs.PutLaws.{laidAt}
-use Rattle.cells.specs.Part.{part}
-use Rattle.cells.proofs.PartLaws.{length-part}
 use Rattle.sets.specs.Entries.{onEntries}
 use Rattle.rows.specs.Rows.{Holds}
 use Rattle.locks.specs.Held.{NoneFrom, everyEntry}
-use Rattle.handover.specs.Delegated.{tablesSize, tablesOf, AreTables}
+use Rattle.handover.specs.Delegated.{tablesOf, AreTables}
 
 -- the entries of which locks are handed over, by the flag
 pub on-every : (all : Bool) (entry : ℕ) → all ≡ true → everyEntry ≡ onEntries all entry
@@ -39,24 +37,6 @@ length-locks held = length-table locksSize 0 _
 pub length-permits : (ps : List PermitRecord) → length (permitSection ps) ≡ permitsSize
 unfolding permitSection
 length-permits ps = length-table permitsSize 0 _
-
--- of bytes of which a part was lent
-pub length-lent : (l : List ℕ) (at n : ℕ) (xs : List ℕ) → at + n ≤ length l → length xs ≡ length (take n (drop at l)) → length (laidAt l at n xs) ≡ length l
-unfolding part
-length-lent l at n xs h e = let q = e ∙ length-part l at n h in simp (length-append, length-take, length-drop) (omega arith)
-
--- of the tables of which the locks were lent, and then the permits
-module _ (bytes xs : List ℕ) (size : length bytes ≡ tablesSize) (same : length xs ≡ length (take locksSize (drop 0 bytes))) where
-  locks-lent : length (laidAt bytes 0 locksSize xs) ≡ tablesSize
-  locks-lent = length-lent bytes 0 locksSize xs (omega arith) same ∙ size
-
-  pub permits-lent : length (take permitsSize (drop locksSize (laidAt bytes 0 locksSize xs))) ≡ permitsSize
-  unfolding part
-  permits-lent = length-part (laidAt bytes 0 locksSize xs) locksSize permitsSize (omega (arith, locks-lent))
-
-  pub both-lent : (ys : List ℕ) → length ys ≡ length (take permitsSize (drop locksSize (laidAt bytes 0 locksSize xs)))
-      → length (laidAt (laidAt bytes 0 locksSize xs) locksSize permitsSize ys) ≡ length bytes
-  both-lent ys e = length-lent (laidAt bytes 0 locksSize xs) locksSize permitsSize ys (omega (arith, locks-lent)) e ∙ locks-lent ∙ sym size
 
 -- no lock of a sound window is on an entry that there is not
 pub none-from : (bs : List ℕ) → soundBytes bs ≡ true → (n : ℕ) → n ≡ decode bs .entries → NoneFrom n (decode bs .held)

@@ -7,9 +7,7 @@ use layout::Log;
 use layout::Permits;
 use layout::Ties;
 use places::store_figure;
-use reads::is_live;
-use reads::no_change;
-use reads::no_entry;
+use refusals::EVERY;
 use replies::Reply;
 use replies::done;
 use replies::refused;
@@ -21,44 +19,17 @@ ghost use Rattle.rules.specs.Window.{limits, Window, live};
 ghost use Rattle.rules.specs.Locks.{clashesPermitted};
 ghost use Rattle.rules.specs.Calls.{Delegate};
 ghost use Rattle.rules.specs.Effects.{moveHeld, handOver};
-ghost use Rattle.rules.specs.Refusals.{firstFailed, step};
+ghost use Rattle.rules.specs.Refusals.{step};
 ghost use Rattle.layout.specs.Codec.{locksSize, permitsSize, windowSize, lockSection, decode, encode};
 ghost use Rattle.layout.specs.Memory.{soundBytes};
 ghost use Rattle.sets.specs.Entries.{onEntries};
 ghost use Rattle.locks.specs.Held.{Modes, NoneFrom};
 ghost use Rattle.clashes.specs.Holds.{Holds};
 ghost use Rattle.replies.specs.Gives.{Gives, written};
-ghost use Rattle.handover.specs.Delegated.{firstChecks, tablesSize, tablesOf, AreTables};
-
-// For the entry: every entry.
-const EVERY: u32 = 65535;
+ghost use Rattle.handover.specs.Delegated.{tablesSize, tablesOf, AreTables};
 
 // The bytes of the locks and of the permits, which lie side by side.
 const TABLES: usize = Locks::SIZE + Permits::SIZE;
-
-// The first refusal that the window as it stands shows, 0 if none.
-fn refusal(w: &[u8], from: u32, to: u32, entry: u32) -> u32
-    requires { ⌜ length (now w) ≡ windowSize ⌝ }
-    requires { ⌜ soundBytes (now w) ≡ true ⌝ }
-    ensures { λ r. ⌜ r ≡ firstFailed (firstChecks (decode (now (w .entry))) from to entry) ⌝ }
-{
-    if no_change(w, from) {
-        return 3;
-    }
-    if no_change(w, to) {
-        return 3;
-    }
-    if (entry != EVERY) & no_entry(w, entry) {
-        return 4;
-    }
-    if from == to {
-        return 6;
-    }
-    if !(is_live(w, from) & is_live(w, to)) {
-        return 7;
-    }
-    0
-}
 
 // The locks of one change go over to another: those on every entry, or the one on an entry.
 fn hand_locks(locks: &mut [u8], entries: usize, from: u8, to: u8, every: bool, entry: u8)
@@ -154,7 +125,7 @@ pub fn delegate(w: &mut [u8], from: u32, to: u32, entry: u32) -> Reply
     requires { ⌜ soundBytes (now w) ≡ true ⌝ }
     ensures { λ r. ⌜ Gives (written (step limits (decode (now (w .entry))) (Delegate from to entry))) r (now (w .exit)) ⌝ }
 {
-    let code = refusal(w, from, to, entry);
+    let code = refusals::delegate(w, from, to, entry);
     if code != 0 {
         return refused(code);
     }

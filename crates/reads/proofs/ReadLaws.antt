@@ -1,6 +1,6 @@
 -- What the sections of sound bytes say of the window that they are: its figures, places and tests. Assumes nothing.
-use mathlib.Core.Path.{_≡_, refl, sym, _∙_, ap}
-use mathlib.Core.Bool.{Bool, true, false, not, cond, _&&_, _||_}
+use mathlib.Core.Path.{_≡_, refl, sym, ap}
+use mathlib.Core.Bool.{Bool, true, false, not, _&&_, _||_}
 use mathlib.Core.List.{List}
 use Prim.Native.Nat.{ℕ, suc, _≤_, _<_, _^_}
 use native.Mathlib.Omega.{arith}
@@ -11,11 +11,11 @@ use Rattle.rules.specs.Window.{limits, Window, noChange, noEntry, live, running
 use Rattle.rules.specs.Sound.{valueSound}
 use Rattle.rules.proofs.BaseLaws.{and-left, or-false-right, ge-of, gt-of, both-ways, le-of, lt-of, leb-true, ltb-true, within-of}
 use Rattle.rules.proofs.SoundParts.{Sound, held-most}
-use Rattle.layout.specs.Codec.{headAt, headSize, valuesAt, valuesSize, changesAt, changesSize, locksAt, locksSize, permitsAt, permitsSize, tiesAt, tiesSize, logAt, logSize, figures, headSection, valueSection, changeSection, lockSection, permitSection, tieSection, logSection, decode}
+use Rattle.layout.specs.Codec.{headAt, headSize, valuesAt, valuesSize, changesAt, changesSize, locksAt, locksSize, permitsAt, permitsSize, tiesAt, tiesSize, logAt, logSize, figures, headSection, valueSection, changeSection, lockSection, permitSection, tieSection, logSection, lay, decode, encode}
 use Rattle.layout.specs.Memory.{soundBytes}
 use Rattle.layout.proofs.PartLaws.{head-part, values-part, changes-part, locks-part, permits-part, ties-part, log-part}
 use Rattle.layout.proofs.SoundCodec.{decode-blank}
-use Rattle.layout.proofs.MemoryLaws.{bytes-sound, part-of}
+use Rattle.layout.proofs.MemoryLaws.{bytes-sound, bytes-again, part-of}
 use Rattle.locks.specs.Held.{Modes}
 
 -- numbers that a sound window has
@@ -38,6 +38,10 @@ module _ (W : Window) (k : Sound limits W) where
 
 -- the window of sound bytes, and the sections that they have
 module _ (bs : List ℕ) (s : soundBytes bs ≡ true) where
+  pub laid-known : bs ≡ lay (figures (decode bs)) (decode bs)
+  unfolding encode
+  laid-known = sym (bytes-again bs s)
+
   pub head-known : take headSize (drop headAt bs) ≡ headSection (figures (decode bs))
   head-known = part-of bs s headAt headSize (head-part (figures (decode bs)) (decode bs))
 

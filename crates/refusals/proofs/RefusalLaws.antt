@@ -10,14 +10,11 @@ use lib.ListN.{take, drop}
 use Rattle.rules.specs.Base.{exceeds, outside, all}
 use Rattle.rules.specs.Window.{limits, Window, noChange, noEntry}
 use Rattle.rules.specs.Ties.{makeTie, addTie, acyclic}
-use Rattle.rules.specs.Calls.{Permit, Depend}
+use Rattle.rules.specs.Calls.{Permit, Delegate, Depend}
+use Rattle.rules.specs.Effects.{every}
 use Rattle.rules.specs.Refusals.{Check, _if_, checks, firstFailed}
 use Rattle.rules.proofs.BaseLaws.{eqb-same, eqb-other, ltb-true, ltb-false, ge-of, gt-of, over-false, within-of, no-true, not-true, not-false, or-false-right}
 use Rattle.rules.proofs.SoundStep.{Passed, passed}
-use Rattle.layout.specs.Codec.{permitsAt, permitsSize, tiesAt, tiesSize, figures, permitSection, tieSection, decode}
-use Rattle.layout.specs.Memory.{soundBytes}
-use Rattle.layout.proofs.PartLaws.{permits-part, ties-part}
-use Rattle.layout.proofs.MemoryLaws.{bytes-sound, part-of}
 use Rattle.refusals.specs.Shared.{ChangeRefusal}
 
 -- checks made in order give a number: t is the code's test
@@ -63,6 +60,11 @@ module _ {x y : ℕ} (e : x ≡ y) (n : ℕ) where
 pub unless-none : (x : ℕ) {t b : Bool} → t ≡ b → not (eqb x 0 || t) ≡ not (eqb x 0 || b)
 unless-none x e = rw e
 
+-- of an entry x that may be every entry
+pub unless-every : (x : ℕ) {t b : Bool} → t ≡ b → not (eqb x 65535) && t ≡ not (eqb x every) && b
+unfolding every
+unless-every x e = rw e
+
 -- a test of two changes
 pub neither : {t b u d : Bool} → t ≡ b → u ≡ d → not (t && u) ≡ not (b && d)
 neither e q = rw (e, q)
@@ -88,13 +90,13 @@ stopped (suc n) (k ∷ l) r e h = go (k .fails) e (λ q. stopped n l r q h)
     go false q f = f q
 
 -- none does, and the others decide
-went-on : (n : ℕ) (l : List Check) (r : ℕ) → Passed (take n l) → r ≡ firstFailed (drop n l) → r ≡ firstFailed l
+pub went-on : (n : ℕ) (l : List Check) (r : ℕ) → Passed (take n l) → r ≡ firstFailed (drop n l) → r ≡ firstFailed l
 unfolding firstFailed
 went-on zero l r p q = q
 went-on (suc n) [] r p q = q
 went-on (suc n) (k ∷ l) r p q = rw (p .0) (went-on n l r (p .1) q)
 
--- PERMIT AND DEPEND
+-- PERMIT, DELEGATE AND DEPEND
 -- a change that there is
 numbered : (W : Window) (c : ℕ) → noChange W c ≡ false → c ≤ W .given
 unfolding noChange
@@ -112,6 +114,11 @@ module _ (W : Window) (g t e o r : ℕ) (q : r ≡ firstFailed (take 5 (checks l
 
   pub permit-rest : {s : ℕ} → Checked (drop 5 (checks limits W (Permit g t e o))) s → s ≡ firstFailed (checks limits W (Permit g t e o))
   permit-rest k = went-on 5 (checks limits W (Permit g t e o)) _ permit-passed (first k)
+
+-- no check of a delegate before the last fails
+pub delegate-passed : (W : Window) (f t e : ℕ) → firstFailed (take 5 (checks limits W (Delegate f t e))) ≡ 0 → Passed (take 5 (checks limits W (Delegate f t e)))
+unfolding checks all _if_
+delegate-passed W f t e z = passed (take 5 (checks limits W (Delegate f t e))) refl z
 
 -- no number of a tie is
 module _ (W : Window) (k l f r : ℕ) (q : r ≡ firstFailed (take 4 (checks limits W (Depend k l f)))) (z : r ≡ 0) where

@@ -18,11 +18,14 @@ ghost use Rattle.rules.specs.Base.{exceeds, outside as isOutside};
 ghost use Rattle.rules.specs.Window.{limits};
 ghost use Rattle.rules.specs.Locks.{makePermit, addPermit};
 ghost use Rattle.rules.specs.Ties.{makeTie, addTie, acyclic};
-ghost use Rattle.rules.specs.Calls.{Initiate, Begin, Complete, Lock, Read, Write, Permit, Depend, Value};
+ghost use Rattle.rules.specs.Calls.{Initiate, Begin, Complete, Lock, Read, Write, Permit, Delegate, Depend, Value};
 ghost use Rattle.rules.specs.Refusals.{checks, firstFailed};
 ghost use Rattle.layout.specs.Codec.{windowSize, decode};
 ghost use Rattle.layout.specs.Memory.{soundBytes};
 ghost use Rattle.refusals.specs.Shared.{ChangeRefusal};
+
+// For a delegate's entry: every entry.
+pub const EVERY: u32 = 65535;
 
 // Commit, abort, status and parent.
 pub fn change(w: &[u8], change: u32) -> u32
@@ -222,6 +225,30 @@ pub fn permit(w: &[u8], giver: u32, taker: u32, entry: u32, operations: u32) -> 
     }
     if !permit_fits(w, giver, taker, entry) {
         return 11;
+    }
+    0
+}
+
+// Delegate, but for its last check: refusal 10 is judged on what the hand-over would leave.
+pub fn delegate(w: &[u8], from: u32, to: u32, entry: u32) -> u32
+    requires { ⌜ length (now w) ≡ windowSize ⌝ }
+    requires { ⌜ soundBytes (now w) ≡ true ⌝ }
+    ensures { λ r. ⌜ r ≡ firstFailed (take 5 (checks limits (decode (now (w .entry))) (Delegate from to entry))) ⌝ }
+{
+    if no_change(w, from) {
+        return 3;
+    }
+    if no_change(w, to) {
+        return 3;
+    }
+    if (entry != EVERY) & no_entry(w, entry) {
+        return 4;
+    }
+    if from == to {
+        return 6;
+    }
+    if !(is_live(w, from) & is_live(w, to)) {
+        return 7;
     }
     0
 }

@@ -6,10 +6,11 @@ use mathlib.Core.List.{List, _++_}
 use Prim.Native.Nat.{ℕ, zero, suc}
 use lib.ListN.{take, drop}
 use Rattle.rules.specs.Window.{limits, Window}
-use Rattle.rules.specs.Calls.{Call, Outcome, Reply as RuleReply, done, unchanged}
+use Rattle.rules.specs.Calls.{Call, done, unchanged}
 use Rattle.rules.specs.Effects.{effect}
 use Rattle.rules.specs.Refusals.{checks, firstFailed, settle, step}
 use Rattle.rules.specs.Events.{isOpen}
+use Rattle.rules.proofs.SoundStep.{Passed, passed, codes}
 use Rattle.layout.specs.Codec.{windowSize, decode, encode}
 use Rattle.layout.specs.Memory.{soundBytes, soundMemory, windowOf, layInto, handBack, perform}
 use Rattle.layout.proofs.MemoryLaws.{bytes-again, perform-sound, perform-unsound}
@@ -17,6 +18,11 @@ use Rattle.replies.specs.declared.Reply.{Reply}
 use Rattle.replies.specs.Gives.{Gives, written}
 
 -- ON A WINDOW'S BYTES
+-- done, with the bytes of a window left behind
+pub given-done : (k : ℕ) (W : Window) (r : Reply) (after : List ℕ) → (r .answer ≡ 0) × (r .number ≡ k) → after ≡ encode W → Gives (written (done k W)) r after
+unfolding written done
+given-done k W r after q e = record { answer = q .0; number = q .1; bytes = e }
+
 module _ (bs : List ℕ) (s : soundBytes bs ≡ true) where
   -- an outcome that leaves the window
   pub left : (a k : ℕ) (r : Reply) → r .answer ≡ a → r .number ≡ k → Gives (written (unchanged a k (decode bs))) r bs
@@ -38,7 +44,11 @@ module _ (bs : List ℕ) (s : soundBytes bs ≡ true) where
       go zero n p = absurd (n refl)
       go (suc a) n p = left (suc a) 0 r p (q .1)
 
--- no refusal applies
+-- no refusal applies: each check is passed
+pub unrefused : (W : Window) (call : Call) → firstFailed (checks limits W call) ≡ 0 → Passed (checks limits W call)
+unrefused W call = passed (checks limits W call) (codes limits W call)
+
+-- and the step is the effect
 pub let-through : (W : Window) (call : Call) (code : ℕ) {r : Reply} {after : List ℕ} → code ≡ firstFailed (checks limits W call) → code ≡ 0
     → (firstFailed (checks limits W call) ≡ 0 → Gives (written (effect W call)) r after) → Gives (written (step limits W call)) r after
 unfolding step settle

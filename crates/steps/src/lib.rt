@@ -87,7 +87,7 @@ pub fn write(w: &mut [u8], change: u32, entry: u32, value: u32) -> Reply
     if code != 0 {
         return refused(code);
     }
-    effects::write(w, change, entry, value)
+    records::write(w, change, entry, value)
 }
 
 // A permit, or one united with that which stands.
@@ -100,7 +100,7 @@ pub fn permit(w: &mut [u8], giver: u32, taker: u32, entry: u32, operations: u32)
     if code != 0 {
         return refused(code);
     }
-    effects::permit(w, giver, taker, entry, operations)
+    records::permit(w, giver, taker, entry, operations)
 }
 
 // A tie, unless it stands.
@@ -113,7 +113,7 @@ pub fn depend(w: &mut [u8], kind: u32, leader: u32, follower: u32) -> Reply
     if code != 0 {
         return refused(code);
     }
-    effects::depend(w, kind, leader, follower)
+    records::depend(w, kind, leader, follower)
 }
 
 // The whole group becomes committed, unless something blocks it.

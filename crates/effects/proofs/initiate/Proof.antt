@@ -19,9 +19,13 @@ cast-store-parent-2 : tie.Need-cast-store-parent-2
 cast-store-parent-2 c = let s = c .before .before .before .before .before .before .before .before in record { fits = initiate-known (s .args .w .now) (s .pre .1 .0) (s .args .parent) (s .pre .1 .1) _ (c .before .before .before .before .before .given .ensures .0) .1 }
 
 returns : tie.Need-returns
-returns c = let s = c .before .before .before .before .before .before .before .before .before .before .before .before .before .before .before .before in
-    initiate-given (s .args .w .now) (s .pre .1 .0) (c .done .result) _ (s .args .parent) (c .before .before .before .before .before .before .before .before .before .before .before .before .before .given .ensures .0) _ _ _
-    (c .before .before .before .before .before .before .before .before .before .before .before .store-status .ensures) (c .before .before .before .before .before .before .before .store-parent .ensures) (c .before .before .before .store-figure .ensures) (c .done .ensures)
+returns c =
+    let d = c .before .before .before .before .before .before .before .before .before .before .before .before .before .before .before .before in
+    let n = c .before .before .before .before .before .before .before .before .before .before .before .before .before .given in
+    let s = c .before .before .before .before .before .before .before .before .before .before .before .store-status in
+    let p = c .before .before .before .before .before .before .before .store-parent in
+    let k = c .before .before .before .store-figure in
+    initiate-given (d .args .w .now) (d .pre .1 .0) (c .done .result) (n .result) (d .args .parent) (n .ensures .0) (s .last .0) (p .last .0) (k .last .0) (s .ensures) (p .ensures) (k .ensures) (c .done .ensures)
 
 pub initiate-spec : {M : Type 1} → statement M
 initiate-spec =

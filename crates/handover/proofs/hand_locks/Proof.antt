@@ -1,6 +1,5 @@
 -- `handover::hand_locks` meets its contract. Assumes nothing.
 use mathlib.Core.Path.{_∙_, ap}
-use borrow.Author.Needs.{needs}
 use Rattle.rules.specs.Effects.{moveHeld}
 use Rattle.layout.specs.Codec.{lockSection}
 use Rattle.handover.proofs.TableLaws.{on-every, on-one}
@@ -20,4 +19,10 @@ returns-2 c = λ held modes none is.
 pub hand-locks-spec : {M : Type 1} → statement M
 hand-locks-spec =
     tie.close
-    (tie.spec (λ c κs. search needs) (λ c κs. search needs) (λ c. search needs) returns (λ c. search needs) returns-2)
+    (tie.spec
+    (λ c κs. (c .before .before .before .pre .0, c .before .before .before .pre .1))
+    (λ c κs. c .before .before .before .pre .0)
+    (λ c. c .before .before .hand-over-all .kept .0)
+    returns
+    (λ c. c .before .before .hand-over .kept .0)
+    returns-2)

@@ -1,21 +1,52 @@
 -- `handover::hand_over` meets its contract: the copy handed over is judged, and taken over where each clashing pair has its permit. Assumes nothing.
 use mathlib.Core.Path.{refl, sym, _∙_}
+use Prim.Native.Nat.{ℕ}
 use native.Mathlib.Omega.{arith}
-use borrow.Author.Needs.{needs}
+use native.Mathlib.Nat.{le-of-eq, le-trans}
+use lib.Dec.{lit≤}
+use lib.ListN.{length-replicate}
 use Rattle.rules.specs.Effects.{handOver}
 use Rattle.rules.proofs.BaseLaws.{not-true, not-false}
 use Rattle.layout.specs.Codec.{decode}
 use Rattle.layout.proofs.MemoryLaws.{bytes-sound}
-use Rattle.cells.specs.Part.{part}
-use Rattle.cells.proofs.PartLaws.{length-part}
 use Rattle.sets.specs.Entries.{onEntries}
-use Rattle.handover.proofs.JudgeLaws.{copied-out, handed-tables}
+use Rattle.handover.specs.Delegated.{tablesSize}
+use Rattle.handover.proofs.JudgeLaws.{copy-fits, copied-out, handed-tables}
 use Rattle.handover.proofs.hand_over.Statement.{statement}
 use Rattle.handover.proofs.hand_over.Tie as tie
 
+part-copy-in-end : tie.Need-part-copy-in-end
+part-copy-in-end c = le-trans (lit≤ tt) (le-of-eq (sym (c .before .before .pre .0)))
+
+slice-aggregate-copy-in : tie.Need-slice-aggregate-copy-in
+slice-aggregate-copy-in c = sym (length-replicate {A = ℕ} tablesSize 0)
+
 copy-in-requires : tie.Need-copy-in-requires
-unfolding part
-copy-in-requires c κs = omega (arith, length-part (c .before .before .before .before .args .w .now) 3136 20480 (omega (arith, c .before .before .before .before .pre .0)))
+copy-in-requires c κs = copy-fits (c .before .copy-in-arg .given .1) (slice-aggregate-copy-in c)
+
+slice-aggregate-hand-tables : tie.Need-slice-aggregate-hand-tables
+slice-aggregate-hand-tables c = slice-aggregate-copy-in (c .before .before .before .before) ∙ sym (c .before .before .before .copy-in .kept .1 .0)
+
+hand-tables-requires : tie.Need-hand-tables-requires
+hand-tables-requires c κs = (c .before .before .before .before .before .before .before .before .pre .0, (c .before .before .before .before .before .before .before .before .pre .1 .0, sym (slice-aggregate-hand-tables c)))
+
+slice-aggregate-permitted : tie.Need-slice-aggregate-permitted
+slice-aggregate-permitted c = slice-aggregate-hand-tables (c .before .before .before .before) ∙ sym (c .before .before .before .hand-tables .kept .1 .0)
+
+permitted-requires : tie.Need-permitted-requires
+permitted-requires c κs = (c .before .before .before .before .before .before .before .before .before .before .before .before .pre .0, (c .before .before .before .before .before .before .before .before .before .before .before .before .pre .1 .0, (sym (slice-aggregate-permitted c), omega (arith, c .before .before .before .hand-tables .ensures .0))))
+
+same-length : tie.Need-same-length
+same-length c = refl
+
+slice-aggregate-take-over : tie.Need-slice-aggregate-take-over
+slice-aggregate-take-over c = slice-aggregate-permitted (c .before .before .before .before)
+
+take-over-requires : tie.Need-take-over-requires
+take-over-requires c κs = (c .before .before .before .before .before .before .before .before .before .before .before .before .before .before .before .before .pre .0, (c .before .before .before .before .before .before .before .before .before .before .before .before .before .before .before .before .pre .1 .0, (sym (slice-aggregate-take-over c), c .before .before .before .before .before .before .before .hand-tables .ensures .0)))
+
+same-length-2 : tie.Need-same-length-2
+same-length-2 c = c .before .before .take-over .kept .0
 
 returns : tie.Need-returns
 returns c =
@@ -39,18 +70,18 @@ pub hand-over-spec : {M : Type 1} → statement M
 hand-over-spec =
     tie.close
     (tie.spec
-    (λ c. search needs)
-    (λ c. search needs)
-    (λ c. search needs)
-    (λ c. search needs)
+    (λ c. lit≤ tt)
+    (λ c. lit≤ tt)
+    part-copy-in-end
+    slice-aggregate-copy-in
     copy-in-requires
-    (λ c. search needs)
-    (λ c κs. search needs)
-    (λ c. search needs)
-    (λ c κs. search needs)
-    (λ c. search needs)
+    slice-aggregate-hand-tables
+    hand-tables-requires
+    slice-aggregate-permitted
+    permitted-requires
+    same-length
     returns
-    (λ c. search needs)
-    (λ c κs. search needs)
-    (λ c. search needs)
+    slice-aggregate-take-over
+    take-over-requires
+    same-length-2
     returns-2)

@@ -1,23 +1,35 @@
 -- `handover::hand_tables` meets its contract: the locks are handed over, then the permits. Assumes nothing.
-use mathlib.Core.Path.{sym}
-use borrow.Author.Needs.{needs}
+use mathlib.Core.Path.{sym, _∙_}
+use native.Mathlib.Nat.{le-of-eq, le-trans}
+use lib.Dec.{lit≤}
 use Rattle.layout.specs.Codec.{decode}
 use Rattle.layout.proofs.MemoryLaws.{bytes-sound}
 use Rattle.sets.specs.Entries.{onEntries}
 use Rattle.reads.proofs.ReadLaws.{modes-known}
-use Rattle.handover.proofs.TableLaws.{permits-lent, both-lent, none-from, tables-handed}
+use Rattle.handover.proofs.TableLaws.{none-from, tables-handed}
 use Rattle.handover.proofs.hand_tables.Statement.{statement}
 use Rattle.handover.proofs.hand_tables.Tie as tie
 
+entries-requires : tie.Need-entries-requires
+entries-requires c κs = (c .before .before .pre .0, c .before .before .pre .1 .0)
+
+permits-requires : tie.Need-permits-requires
+permits-requires c κs = (c .before .before .before .pre .0, c .before .before .before .pre .1 .0)
+
+part-hand-locks-end : tie.Need-part-hand-locks-end
+part-hand-locks-end c = le-trans (lit≤ tt) (le-of-eq (sym (c .before .before .before .before .pre .1 .1)))
+
+hand-locks-requires : tie.Need-hand-locks-requires
+hand-locks-requires c κs = (c .hand-locks-arg .given .2, c .before .before .entries .ensures .1)
+
+part-hand-over-end : tie.Need-part-hand-over-end
+part-hand-over-end c = le-of-eq (sym (c .before .tables .given .1 ∙ c .before .before .before .before .before .before .before .before .pre .1 .1))
+
 hand-over-requires : tie.Need-hand-over-requires
-hand-over-requires c κs =
-    let s = c .before .before .before .before .before .before .before .before .before in
-    (permits-lent (s .args .tables .now) (c .before .before .before .hand-locks .last .0) (s .pre .1 .1) (c .before .before .before .hand-locks .kept .0), c .before .before .before .before .before .permits .ensures .1)
+hand-over-requires c κs = (c .hand-over-arg .given .2, c .before .before .before .before .before .permits .ensures .1)
 
 same-length : tie.Need-same-length
-same-length c =
-    let s = c .before .before .before .before .before .before .before .before .before .before .before .before in
-    both-lent (s .args .tables .now) (c .before .before .before .before .before .before .hand-locks .last .0) (s .pre .1 .1) (c .before .before .before .before .before .before .hand-locks .kept .0) (c .before .before .hand-over .last .0) (c .before .before .hand-over .kept .0)
+same-length c = c .before .tables2 .given .1 ∙ c .before .before .before .before .before .tables .given .1
 
 returns : tie.Need-returns
 returns c = (
@@ -35,15 +47,15 @@ pub hand-tables-spec : {M : Type 1} → statement M
 hand-tables-spec =
     tie.close
     (tie.spec
-    (λ c κs. search needs)
-    (λ c κs. search needs)
-    (λ c. search needs)
-    (λ c. search needs)
-    (λ c. search needs)
-    (λ c κs. search needs)
-    (λ c. search needs)
-    (λ c. search needs)
-    (λ c. search needs)
+    entries-requires
+    permits-requires
+    (λ c. lit≤ tt)
+    (λ c. lit≤ tt)
+    part-hand-locks-end
+    hand-locks-requires
+    (λ c. lit≤ tt)
+    (λ c. lit≤ tt)
+    part-hand-over-end
     hand-over-requires
     same-length
     returns)

@@ -1,8 +1,23 @@
 -- `handover::permitted` meets its contract. Assumes nothing.
-use borrow.Author.Needs.{needs}
+use mathlib.Core.Path.{sym}
+use native.Mathlib.Omega.{arith}
+use native.Mathlib.Nat.{le-of-eq, le-trans}
+use lib.Dec.{lit≤}
 use Rattle.handover.proofs.JudgeLaws.{with-entries}
 use Rattle.handover.proofs.permitted.Statement.{statement}
 use Rattle.handover.proofs.permitted.Tie as tie
+
+entries-requires : tie.Need-entries-requires
+entries-requires c κs = (c .before .before .pre .0, c .before .before .pre .1 .0)
+
+part-all-permitted-end : tie.Need-part-all-permitted-end
+part-all-permitted-end c = le-trans (lit≤ tt) (le-of-eq (sym (c .before .before .before .pre .1 .1 .0)))
+
+part-all-permitted-end-2 : tie.Need-part-all-permitted-end-2
+part-all-permitted-end-2 c = le-of-eq (sym (c .before .before .before .before .pre .1 .1 .0))
+
+all-permitted-requires : tie.Need-all-permitted-requires
+all-permitted-requires c κs = (sym (c .before .all-permitted-arg .given .1), (sym (c .all-permitted-arg2 .given .1), (omega arith, c .before .before .before .before .before .pre .1 .1 .1)))
 
 returns : tie.Need-returns
 returns c = λ W h. c .all-permitted .ensures W (with-entries h (c .before .before .before .entries .ensures .0))
@@ -11,12 +26,12 @@ pub permitted-spec : {M : Type 1} → statement M
 permitted-spec =
     tie.close
     (tie.spec
-    (λ c κs. search needs)
-    (λ c. search needs)
-    (λ c. search needs)
-    (λ c. search needs)
-    (λ c. search needs)
-    (λ c. search needs)
-    (λ c. search needs)
-    (λ c κs. search needs)
+    entries-requires
+    (λ c. lit≤ tt)
+    (λ c. lit≤ tt)
+    part-all-permitted-end
+    (λ c. lit≤ tt)
+    (λ c. lit≤ tt)
+    part-all-permitted-end-2
+    all-permitted-requires
     returns)

@@ -1,0 +1,58 @@
+-- What is known of the arguments of a call that is not refused: each number fits a byte. Assumes nothing.
+use mathlib.Core.Path.{_≡_, ap}
+use mathlib.Core.Bool.{true, false, not}
+use mathlib.Core.List.{List}
+use Prim.Native.Nat.{ℕ, suc, _+_, _≤_, _<_}
+use native.Mathlib.Omega.{arith}
+use lib.ListN.{length}
+use Rattle.rules.specs.Base.{exceeds}
+use Rattle.rules.specs.Window.{limits}
+use Rattle.rules.specs.Locks.{makePermit, addPermit}
+use Rattle.rules.specs.Ties.{makeTie, addTie}
+use Rattle.rules.specs.Calls.{Write, Permit, Depend}
+use Rattle.rules.specs.Refusals.{_if_, checks, firstFailed}
+use Rattle.rules.proofs.BaseLaws.{ge-of, within-of}
+use Rattle.rules.proofs.SoundParts.{inside-of}
+use Rattle.layout.specs.Codec.{windowSize, decode}
+use Rattle.layout.specs.Memory.{soundBytes}
+use Rattle.layout.proofs.MemoryLaws.{bytes-sound}
+use Rattle.replies.proofs.GiveLaws.{unrefused}
+use Rattle.reads.proofs.ReadLaws.{given-most, change-fits, entry-fits}
+
+-- a part that ends within a window ends within bytes of a window's length
+pub ends-within : {n m : ℕ} → n ≤ windowSize → m ≡ windowSize → n ≤ m
+ends-within h e = rw e h
+
+-- a log that has room for a record, by the count that is read
+pub room-counted : {n m : ℕ} → n ≡ m → m < 2048 → (n < 2048) × (n + 1 ≤ 2048)
+room-counted e h = (omega arith, omega arith)
+
+module _ (bs : List ℕ) (s : soundBytes bs ≡ true) where
+  pub write-known : (c e v : ℕ) → firstFailed (checks limits (decode bs) (Write c e v)) ≡ 0 → (c < 256) × (e < 256) × (length (decode bs .log) < 2048)
+  unfolding checks _if_ limits
+  write-known c e v q = let k = unrefused (decode bs) (Write c e v) q in (
+    change-fits (decode bs) (bytes-sound bs s) c (k .0),
+    entry-fits (decode bs) (bytes-sound bs s) e (k .1 .0),
+    within-of (suc (length (decode bs .log))) 2048 (ap not (k .1 .1 .1 .1 .0)),
+  )
+
+  pub permit-known : (g t e o : ℕ) → firstFailed (checks limits (decode bs) (Permit g t e o)) ≡ 0
+      → (g < 256) × (t < 256) × (e < 256) × (o < 256) × (exceeds (length (addPermit (makePermit g t e o) (decode bs .permits))) (limits .permits) ≡ false)
+  unfolding checks _if_
+  permit-known g t e o q = let k = unrefused (decode bs) (Permit g t e o) q in (
+    change-fits (decode bs) (bytes-sound bs s) g (k .0),
+    omega (arith, given-most (decode bs) (bytes-sound bs s), ge-of (decode bs .given) t (k .1 .0)),
+    entry-fits (decode bs) (bytes-sound bs s) e (k .1 .1 .0),
+    omega (arith, inside-of 1 3 o (k .1 .1 .1 .0)),
+    k .1 .1 .1 .1 .1 .1 .1 .0,
+  )
+
+  pub depend-known : (k l f : ℕ) → firstFailed (checks limits (decode bs) (Depend k l f)) ≡ 0
+      → (k < 256) × (l < 256) × (f < 256) × (exceeds (length (addTie (makeTie k l f) (decode bs .ties))) (limits .ties) ≡ false)
+  unfolding checks _if_
+  depend-known r l f q = let k = unrefused (decode bs) (Depend r l f) q in (
+    omega (arith, inside-of 1 3 r (k .1 .1 .0)),
+    change-fits (decode bs) (bytes-sound bs s) l (k .0),
+    change-fits (decode bs) (bytes-sound bs s) f (k .1 .0),
+    k .1 .1 .1 .1 .1 .1 .0,
+  )

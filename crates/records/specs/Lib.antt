@@ -1,0 +1,2 @@
+-- A window with a record more.
+pub mod Logged

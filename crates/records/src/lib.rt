@@ -1,0 +1,88 @@
+// What a call that enters a record in a table does when it is not refused, on the bytes of a sound window. A number that is not refused fits a byte.
+use layout::Changes;
+use layout::Entries;
+use layout::Header;
+use layout::Log;
+use layout::Permits;
+use layout::Ties;
+use layout::Window;
+use places::store_figure;
+use places::store_value;
+use replies::Reply;
+use replies::done;
+ghost use mathlib.Core.Path.{_≡_};
+ghost use mathlib.Core.Bool.{true};
+ghost use Prim.Native.Nat.{_<_};
+ghost use lib.ListN.{length};
+ghost use Rattle.rules.specs.Window.{limits};
+ghost use Rattle.rules.specs.Calls.{Write, Permit, Depend};
+ghost use Rattle.rules.specs.Effects.{effect};
+ghost use Rattle.rules.specs.Refusals.{checks, firstFailed};
+ghost use Rattle.layout.specs.Codec.{windowSize, decode, encode};
+ghost use Rattle.layout.specs.Memory.{soundBytes};
+ghost use Rattle.records.specs.Logged.{withRecord};
+ghost use Rattle.replies.specs.Gives.{Gives, written};
+
+// A record goes to the end of the log, and is counted.
+fn log_record(w: &mut [u8], change: u8, entry: u8, before: u32)
+    requires { ⌜ length (now w) ≡ windowSize ⌝ }
+    requires { ⌜ soundBytes (now w) ≡ true ⌝ }
+    requires { ⌜ length (decode (now w) .log) < 2048 ⌝ }
+    ensures { λ r. ⌜ now (w .exit) ≡ encode (withRecord (decode (now (w .entry))) change entry before) ⌝ }
+{
+    let count = reads::records(w);
+    log::append(&mut w[Log::AT..Window::SIZE], count, change, entry, before);
+    store_figure(&mut w[Header::AT..Entries::AT], 2, (count + 1) as u16);
+}
+
+// The old value goes into the log, then the new one is stored.
+pub fn write(w: &mut [u8], change: u32, entry: u32, value: u32) -> Reply
+    requires { ⌜ length (now w) ≡ windowSize ⌝ }
+    requires { ⌜ soundBytes (now w) ≡ true ⌝ }
+    requires { ⌜ firstFailed (checks limits (decode (now w)) (Write change entry value)) ≡ 0 ⌝ }
+    ensures { λ r. ⌜ Gives (written (effect (decode (now (w .entry))) (Write change entry value))) r (now (w .exit)) ⌝ }
+{
+    let before = reads::value(w, entry);
+    log_record(w, change as u8, entry as u8, before);
+    store_value(&mut w[Entries::AT..Changes::AT], entry as u8, value);
+    done(0)
+}
+
+// The permit is entered, or united with the one that stands.
+pub fn permit(w: &mut [u8], giver: u32, taker: u32, entry: u32, operations: u32) -> Reply
+    requires { ⌜ length (now w) ≡ windowSize ⌝ }
+    requires { ⌜ soundBytes (now w) ≡ true ⌝ }
+    requires { ⌜ firstFailed (checks limits (decode (now w)) (Permit giver taker entry operations)) ≡ 0 ⌝ }
+    ensures { λ r. ⌜ Gives (written (effect (decode (now (w .entry))) (Permit giver taker entry operations))) r (now (w .exit)) ⌝ }
+{
+    let before = reads::permits(w);
+    let count = permits::add(
+        &mut w[Permits::AT..Ties::AT],
+        before,
+        giver as u8,
+        taker as u8,
+        entry as u8,
+        operations as u8,
+    );
+    store_figure(&mut w[Header::AT..Entries::AT], 3, count as u16);
+    done(0)
+}
+
+// The tie is entered, unless it stands.
+pub fn depend(w: &mut [u8], kind: u32, leader: u32, follower: u32) -> Reply
+    requires { ⌜ length (now w) ≡ windowSize ⌝ }
+    requires { ⌜ soundBytes (now w) ≡ true ⌝ }
+    requires { ⌜ firstFailed (checks limits (decode (now w)) (Depend kind leader follower)) ≡ 0 ⌝ }
+    ensures { λ r. ⌜ Gives (written (effect (decode (now (w .entry))) (Depend kind leader follower))) r (now (w .exit)) ⌝ }
+{
+    let before = reads::ties(w);
+    let count = ties::add(
+        &mut w[Ties::AT..Log::AT],
+        before,
+        kind as u8,
+        leader as u8,
+        follower as u8,
+    );
+    store_figure(&mut w[Header::AT..Entries::AT], 4, count as u16);
+    done(0)
+}
