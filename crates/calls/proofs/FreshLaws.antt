@@ -1,13 +1,13 @@
 -- The bytes of a fresh window: zeros, but for the number of entries. Assumes nothing.
 use mathlib.Core.Path.{_≡_, refl, sym, _∙_, ap}
-use mathlib.Core.Bool.{Bool, true, false, _||_}
+use mathlib.Core.Bool.{Bool, true, false}
 use mathlib.Core.List.{List, [], _∷_, _++_, append-nil}
-use Prim.Native.Nat.{ℕ, zero, suc, _+_, _-_, _<_, _≤_, _^_, _/_, _%_}
+use Prim.Native.Nat.{ℕ, zero, suc, _-_, _<_, _^_, _/_, _%_}
 use native.Mathlib.Omega.{arith}
-use native.Mathlib.Nat.{zero-div, zero-mod}
-use lib.Dec.{ltb, eqb}
+use native.Mathlib.Nat.{zero-div}
+use lib.Dec.{eqb}
 use lib.ListN.{length, getD, set, take, drop, replicate, length-replicate, replicate-append-replicate, drop-of-length-le}
-use Rattle.rules.specs.Base.{table, all, exceeds}
+use Rattle.rules.specs.Base.{table, all}
 use Rattle.rules.specs.Window.{fresh}
 use Rattle.rules.proofs.BaseLaws.{eqb-eq, eqb-other}
 use Rattle.rules.proofs.ListLaws.{all-getD}

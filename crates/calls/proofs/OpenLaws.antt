@@ -2,7 +2,7 @@
 use mathlib.Core.Path.{_≡_, refl, sym, _∙_, ap}
 use mathlib.Core.Bool.{Bool, true, false, not, cond, _||_, false≢true}
 use mathlib.Core.List.{List, _++_}
-use Prim.Native.Nat.{ℕ, zero, suc, _<_, _≤_}
+use Prim.Native.Nat.{ℕ, _<_, _≤_}
 use native.Mathlib.Omega.{arith}
 use lib.Dec.{leb, ltb}
 use lib.ListN.{length, take, drop}
@@ -11,7 +11,7 @@ use Rattle.rules.specs.Window.{limits, fresh}
 use Rattle.rules.specs.Calls.{Open, done, unchanged}
 use Rattle.rules.specs.Effects.{effect}
 use Rattle.rules.specs.Refusals.{_if_, checks, firstFailed, settle, step}
-use Rattle.rules.proofs.BaseLaws.{Below, under, over, below, no-true, both-ways, le-of, leb-true, lt-of, ltb-true, within-of, over-false}
+use Rattle.rules.proofs.BaseLaws.{Below, under, over, below, no-true, both-ways, le-of, leb-true, lt-of, within-of, over-false}
 use Rattle.layout.specs.Codec.{windowSize, encode}
 use Rattle.layout.specs.Memory.{long, handBack, perform}
 use Rattle.layout.proofs.MemoryLaws.{perform-short, perform-still, open-answered, open-numbered, opened-bytes}

@@ -2,13 +2,13 @@
 use mathlib.Core.Path.{_≡_, refl, sym, _∙_, ap}
 use mathlib.Core.Bool.{Bool, true, false, _||_, false≢true}
 use mathlib.Core.List.{List}
-use Prim.Native.Nat.{ℕ, _+_, _-_, _*_, _≤_, _<_}
+use Prim.Native.Nat.{ℕ, _+_, _*_, _≤_, _<_}
 use native.Mathlib.Numerals.{add-one}
 use native.Mathlib.Decide.{decLt}
 use native.Mathlib.Omega.{arith}
 use lib.ListN.{length, getD, take, drop}
 use lib.Seq.{getD-take, getD-drop}
-use Rattle.rules.specs.Base.{anyBelow, rising, order}
+use Rattle.rules.specs.Base.{anyBelow, rising}
 use Rattle.rules.specs.Window.{PermitRecord, permitKey}
 use Rattle.rules.specs.Locks.{makePermit}
 use Rattle.rules.proofs.BaseLaws.{both-ways, any-intro, any-elim, Same, same, other, same?}

@@ -1,7 +1,7 @@
 -- A section of a window's bytes lent to a function and handed back, with any figures in the header; and a figure stored after it. Assumes nothing.
 use mathlib.Core.Path.{_≡_, _∙_, ap}
 use mathlib.Core.List.{List, _++_}
-use Prim.Native.Nat.{ℕ, _≤_, _<_}
+use Prim.Native.Nat.{ℕ, _<_}
 use lib.ListN.{length, take, drop, set}
 use Rattle.rules.specs.Window.{LogRecord, PermitRecord, TieRecord, Window, withValue, withHeld, withLog, withPermits, withTies}
 use Rattle.layout.specs.Codec.{headAt, headSize, valuesAt, valuesSize, changesAt, changesSize, locksAt, locksSize, permitsAt, permitsSize, tiesAt, tiesSize, logAt, logSize, figures, headSection, valueSection, changeSection, lockSection, permitSection, tieSection, logSection, lay, encode}

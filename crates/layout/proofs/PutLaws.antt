@@ -1,12 +1,12 @@
 -- A section of a window's bytes put in the place of another, in the form in which a lent part comes back. Assumes nothing.
-use mathlib.Core.Path.{_≡_, refl, sym, _∙_, ap}
+use mathlib.Core.Path.{_≡_, _∙_, ap}
 use mathlib.Core.List.{List, _++_}
-use Prim.Native.Nat.{ℕ, _+_, _<_}
+use Prim.Native.Nat.{ℕ, _<_}
 use native.Mathlib.Omega.{arith}
 use lib.ListN.{length, take, drop}
 use lib.Seq.{drop-drop}
 use Rattle.rules.specs.Base.{table}
-use Rattle.rules.specs.Window.{LogRecord, PermitRecord, TieRecord, Window, withValue, withStatus, withHeld, withLog, withPermits, withTies}
+use Rattle.rules.specs.Window.{LogRecord, PermitRecord, TieRecord, Window, withValue, withHeld, withLog, withPermits, withTies}
 use Rattle.layout.specs.Codec.{headAt, headSize, valuesAt, valuesSize, changesAt, changesSize, locksAt, locksSize, permitsAt, permitsSize, tiesAt, tiesSize, logAt, logSize, headByte, valueByte, changeByte, lockByte, permitByte, tieByte, logByte, headSection, valueSection, changeSection, lockSection, permitSection, tieSection, logSection, lay}
 use Rattle.layout.proofs.SectionLaws.{Section, section, layOut, sections, lay-sections, offset, nth, replaced, layOut-put}
 

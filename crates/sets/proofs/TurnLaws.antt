@@ -1,8 +1,8 @@
 -- A walk that asks the same test of 0, 1, 2, … and stops where it fails. Assumes nothing.
 use mathlib.Core.Path.{_≡_, refl, sym, _∙_, ap}
 use mathlib.Core.Logic.{_↔_}
-use mathlib.Core.Bool.{Bool, true, false, not, _&&_, false≢true}
-use Prim.Native.Nat.{ℕ, suc, _+_, _<_}
+use mathlib.Core.Bool.{Bool, true, false, not, false≢true}
+use Prim.Native.Nat.{ℕ, _+_, _<_}
 use native.Mathlib.Numerals.{add-one}
 use Rattle.rules.specs.Base.{allBelow}
 use Rattle.rules.proofs.BaseLaws.{and-both, no-true, not-true, not-false, allBelow-at}

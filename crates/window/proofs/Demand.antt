@@ -10,7 +10,6 @@ use Rattle.rules.specs.Events.{Event}
 use Rattle.rules.specs.Lists.{remember, event, history, status, highest, liveGroups, walks, Kept, AllCompleted, Demand3After}
 use Rattle.layout.specs.Memory.{perform}
 use Rattle.layout.proofs.Demand.{bytes-kept}
-use Rattle.replies.specs.declared.Reply.{Reply}
 use Rattle.replies.specs.Gives.{Gives}
 use Rattle.window.specs.Seen.{Done, seenOf, seen}
 use Rattle.window.proofs.Contracts.{Made, made-gives}

@@ -1,6 +1,5 @@
 -- `sections::row` meets its contract: the set of what does not fit is empty. Assumes nothing.
 use mathlib.Core.Path.{_∙_}
-use mathlib.Core.Bool.{not}
 use Prim.Native.Nat.{_+_, _*_}
 use native.Mathlib.Omega.{arith}
 use Rattle.sets.proofs.Bytes.{loaded-full}
