@@ -1,0 +1,2 @@
+-- Laws of the calls that a script asks for.
+pub mod MakeLaws
