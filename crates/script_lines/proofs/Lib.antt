@@ -1,0 +1,4 @@
+-- Laws of a script's lines.
+pub mod PartLaws
+pub mod NameLaws
+pub mod LineLaws

@@ -1,0 +1,3 @@
+-- The lines of a script.
+pub mod Lines
+pub mod Apart
