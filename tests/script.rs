@@ -1,0 +1,242 @@
+//! The script program held to listings worked out by hand and to a model.
+//! script [--model-only] [PROGRAM]: all but the stress; script stress [PROGRAM]: the stress.
+//! PROGRAM is target/bin/script if it is not given. WINDOW_TEST_SEED sets the random scripts' seed.
+mod corners;
+mod garble;
+mod listing;
+mod model;
+mod perform;
+mod random;
+mod stress;
+
+use corners::Corner;
+use random::{Kind, Random, DENSE, MIXED, PERMITS, TIES, WRITES};
+use std::ffi::{c_int, c_ulong};
+use std::fs::{self, File};
+use std::io::{self, Write};
+use std::os::fd::AsRawFd;
+use std::process::{exit, Child, ChildStdin, Command, ExitStatus, Stdio};
+use std::time::Duration;
+
+const INPUT: &str = "target/script.input";
+const OUTPUT: &str = "target/script.output";
+
+/// How many random scripts there are, short and long.
+const SHORT: usize = 3_000;
+const LONG: usize = 60;
+
+/// The answers that a line can get.
+const ANSWERS: [usize; 15] = [0, 1, 2, 3, 4, 5, 6, 7, 8, 9, 10, 11, 20, 21, 30];
+
+/// Ends the test with what went wrong.
+pub fn fail(what: String) -> ! {
+    eprintln!("script: {what}");
+    exit(1)
+}
+
+/// A line that is short enough to show.
+fn shown(lines: &[&[u8]], at: usize) -> String {
+    match lines.get(at) {
+        None => "(none)".to_string(),
+        Some(line) if line.len() > 200 => format!("{}.. ({} bytes)", line[..200].escape_ascii(), line.len()),
+        Some(line) => line.escape_ascii().to_string(),
+    }
+}
+
+/// Ends the test at the first line that differs, with the script's line and what both print there.
+fn same(name: &str, script: &[u8], due: &[u8], who: &str, printed: &[u8]) {
+    if due == printed {
+        return;
+    }
+    fs::write(INPUT, script).expect("the input is written");
+    let [script, due, printed] = [script, due, printed].map(listing::lines);
+    let at = (0..).find(|i| due.get(*i) != printed.get(*i) || *i > due.len()).unwrap_or(0);
+    let line = if due.get(1) == Some(&&b"0,30,0"[..]) { 0 } else { at };
+    eprintln!("{name}, line {line}: {}", shown(&script, line));
+    eprintln!("due:         {}", shown(&due, at));
+    eprintln!("{who} prints: {}", shown(&printed, at));
+    if due == printed {
+        eprintln!("only a last newline differs");
+    }
+    fail(format!("{who} prints another listing; the script is in {INPUT}"))
+}
+
+extern "C" {
+    fn ioctl(file: c_int, request: c_ulong, ...) -> c_int;
+}
+
+/// Asks how many bytes wait in a pipe (Linux).
+const FIONREAD: c_ulong = 0x541b;
+
+/// Waits until a program has taken what is in its pipe; false if it ended before.
+fn taken(pipe: &ChildStdin, child: &mut Child) -> bool {
+    while matches!(child.try_wait(), Ok(None)) {
+        let mut left: c_int = 0;
+        // The call writes to the number lent to it alone.
+        if unsafe { ioctl(pipe.as_raw_fd(), FIONREAD, &mut left) } != 0 || left == 0 {
+            return true;
+        }
+        std::thread::sleep(Duration::from_micros(10));
+    }
+    false
+}
+
+/// The program under test; none if the model is tried alone.
+struct Runner {
+    program: Option<String>,
+}
+
+impl Runner {
+    fn judge(name: &str, script: &[u8], due: &[u8], status: io::Result<ExitStatus>) {
+        match status {
+            Ok(status) if status.success() => {}
+            other => fail(format!("{name}: the program ended with {other:?}; the script is in {INPUT}")),
+        }
+        same(name, script, due, "the program", &fs::read(OUTPUT).expect("the output"));
+    }
+
+    /// The program prints this when its input is a file.
+    fn hold_program(&self, name: &str, script: &[u8], due: &[u8]) {
+        let Some(program) = &self.program else { return };
+        fs::write(INPUT, script).expect("the input is written");
+        let (input, output) = (File::open(INPUT).expect("the input"), File::create(OUTPUT).expect("the output"));
+        Self::judge(name, script, due, Command::new(program).stdin(input).stdout(output).status());
+    }
+
+    /// The same when its input comes through a pipe in pieces of this many bytes.
+    fn hold_in_pieces(&self, name: &str, script: &[u8], due: &[u8], piece: usize) {
+        let Some(program) = &self.program else { return };
+        fs::write(INPUT, script).expect("the input is written");
+        let output = File::create(OUTPUT).expect("the output");
+        let child = Command::new(program).stdin(Stdio::piped()).stdout(output).spawn();
+        let mut child = child.unwrap_or_else(|error| fail(format!("{program}: {error}")));
+        let mut pipe = child.stdin.take().expect("a pipe");
+        for bytes in script.chunks(piece) {
+            // A program that has seen a broken first line may have ended.
+            if pipe.write_all(bytes).is_err() || !taken(&pipe, &mut child) {
+                break;
+            }
+        }
+        drop(pipe);
+        Self::judge(name, script, due, child.wait());
+    }
+
+    /// The model and the program print what was worked out by hand.
+    fn hold(&self, (name, script, due): &Corner) {
+        same(name, script, due, "the model", &listing::listing(script));
+        self.hold_program(name, script, due);
+    }
+}
+
+/// The scripts of examples/asset with the listings beside them: names, scripts, listings.
+fn models() -> Vec<Corner> {
+    let folder = fs::read_dir("examples/asset").expect("examples/asset");
+    let mut paths: Vec<_> = folder.map(|file| file.expect("a file").path()).collect();
+    paths.retain(|path| path.extension().is_some_and(|e| e == "csv"));
+    paths.sort();
+    let read = |path: &std::path::Path| fs::read(path).unwrap_or_else(|error| fail(format!("{path:?}: {error}")));
+    paths.iter().map(|path| (path.display().to_string(), read(path), read(&path.with_extension("out")))).collect()
+}
+
+fn hold_models(runner: &Runner) {
+    runner.hold(&corners::whole_case());
+    let models = models();
+    if models.is_empty() {
+        fail("no scripts in examples/asset".to_string());
+    }
+    models.iter().for_each(|model| runner.hold(model));
+    println!("the whole case and {} scripts of examples/asset print what was worked out", models.len());
+}
+
+fn hold_corners(runner: &Runner) {
+    let corners = corners::corners();
+    corners.iter().for_each(|corner| runner.hold(corner));
+    println!("{} corners print what was worked out", corners.len());
+}
+
+/// The models and some of the corners, the shorter ones, in pieces.
+fn hold_pieces(runner: &Runner) {
+    let mut scripts = models();
+    scripts.extend(corners::corners().into_iter().filter(|corner| corner.1.len() < 2_000).step_by(5));
+    for ((name, script, due), piece) in scripts.iter().zip([1, 2, 3, 7, 13, 64].into_iter().cycle()) {
+        runner.hold_in_pieces(name, script, due, piece);
+    }
+    println!("{} scripts print the same in pieces through a pipe", scripts.len());
+}
+
+/// How many lines of listings got which answer.
+#[derive(Default)]
+struct Tally {
+    answers: [usize; 31],
+}
+
+impl Tally {
+    fn count(&mut self, listing: &[u8]) {
+        for line in listing::lines(listing).iter().skip(1) {
+            let text = std::str::from_utf8(line).expect("text");
+            let answer: usize = text.split(',').nth(1).and_then(|a| a.parse().ok()).expect("an answer");
+            self.answers[answer] += 1;
+        }
+    }
+
+    /// Every answer came.
+    fn judge(&self) {
+        let lines: usize = self.answers.iter().sum();
+        println!("{lines} lines of random scripts, {} of them broken", self.answers[30]);
+        if let Some(answer) = ANSWERS.iter().find(|a| self.answers[**a] == 0) {
+            fail(format!("no line of a random script gets {answer}"));
+        }
+    }
+}
+
+/// Many short scripts, and long ones that fill tables.
+fn hold_random(runner: &Runner, r: &mut Random) {
+    let mut tally = Tally::default();
+    let mut hold = |name: String, script: Vec<u8>| {
+        let due = listing::listing(&script);
+        runner.hold_program(&name, &script, &due);
+        tally.count(&due);
+    };
+    for number in 0..SHORT {
+        let entries = r.pick(&[1, 2, 6, 256]);
+        let kind = Kind { entries, live: r.pick(&[2, 4, 6]), often: r.pick(&[MIXED, DENSE]) };
+        let length = 1 + r.below(30);
+        hold(format!("random script {number}"), garble::script(r, &kind, length));
+    }
+    for number in 0..LONG {
+        let entries = r.pick(&[1, 2, 6, 255, 256]);
+        let often = [MIXED, DENSE, DENSE, WRITES, PERMITS, TIES][number % 6];
+        let kind = Kind { entries, live: r.pick(&[4, 12, 255]), often };
+        // Some are longer than 65,536 bytes.
+        let length = if number % 12 == 0 { 6_000 } else { 2_000 };
+        hold(format!("long random script {number}"), garble::script(r, &kind, length));
+    }
+    tally.judge();
+}
+
+fn main() {
+    let mut arguments: Vec<String> = std::env::args().skip(1).collect();
+    let mut flag = |name: &str| {
+        let length = arguments.len();
+        arguments.retain(|a| a != name);
+        arguments.len() < length
+    };
+    let (alone, stressed) = (flag("--model-only"), flag("stress"));
+    let program = arguments.pop().unwrap_or("target/bin/script".to_string());
+    let seed = std::env::var("WINDOW_TEST_SEED").map_or(20_260_417, |v| v.parse().expect("a number"));
+    fs::create_dir_all("target").expect("target/");
+    if stressed {
+        return stress::stress(&program, &mut Random(seed));
+    }
+    let runner = Runner { program: Some(program).filter(|_| !alone) };
+    hold_models(&runner);
+    hold_corners(&runner);
+    println!("seed {seed}");
+    hold_random(&runner, &mut Random(seed));
+    if alone {
+        println!("the model alone: no program was run");
+    } else {
+        println!("{} random scripts print what the model prints", SHORT + LONG);
+        hold_pieces(&runner);
+    }
+}
