@@ -16,19 +16,19 @@ ghost use Rattle.script_lines.specs.Apart.{between, Next, Found};
 fn among_first(name: &[u8]) -> u32
     ensures { λ r. ⌜ r ≡ placeAmong 1 (take 5 names) (now (name .entry)) ⌝ }
 {
-    if text::same(name, &[b'o', b'p', b'e', b'n']) {
+    if text::same(name, b"open") {
         return 1;
     }
-    if text::same(name, &[b'i', b'n', b'i', b't', b'i', b'a', b't', b'e']) {
+    if text::same(name, b"initiate") {
         return 2;
     }
-    if text::same(name, &[b'b', b'e', b'g', b'i', b'n']) {
+    if text::same(name, b"begin") {
         return 3;
     }
-    if text::same(name, &[b'c', b'o', b'm', b'p', b'l', b'e', b't', b'e']) {
+    if text::same(name, b"complete") {
         return 4;
     }
-    if text::same(name, &[b'l', b'o', b'c', b'k']) {
+    if text::same(name, b"lock") {
         return 5;
     }
     0
@@ -38,19 +38,19 @@ fn among_first(name: &[u8]) -> u32
 fn among_middle(name: &[u8]) -> u32
     ensures { λ r. ⌜ r ≡ placeAmong 6 (take 5 (drop 5 names)) (now (name .entry)) ⌝ }
 {
-    if text::same(name, &[b'r', b'e', b'a', b'd']) {
+    if text::same(name, b"read") {
         return 6;
     }
-    if text::same(name, &[b'w', b'r', b'i', b't', b'e']) {
+    if text::same(name, b"write") {
         return 7;
     }
-    if text::same(name, &[b'p', b'e', b'r', b'm', b'i', b't']) {
+    if text::same(name, b"permit") {
         return 8;
     }
-    if text::same(name, &[b'd', b'e', b'l', b'e', b'g', b'a', b't', b'e']) {
+    if text::same(name, b"delegate") {
         return 9;
     }
-    if text::same(name, &[b'd', b'e', b'p', b'e', b'n', b'd']) {
+    if text::same(name, b"depend") {
         return 10;
     }
     0
@@ -60,19 +60,19 @@ fn among_middle(name: &[u8]) -> u32
 fn among_last(name: &[u8]) -> u32
     ensures { λ r. ⌜ r ≡ placeAmong 11 (drop 10 names) (now (name .entry)) ⌝ }
 {
-    if text::same(name, &[b'c', b'o', b'm', b'm', b'i', b't']) {
+    if text::same(name, b"commit") {
         return 11;
     }
-    if text::same(name, &[b'a', b'b', b'o', b'r', b't']) {
+    if text::same(name, b"abort") {
         return 12;
     }
-    if text::same(name, &[b's', b't', b'a', b't', b'u', b's']) {
+    if text::same(name, b"status") {
         return 13;
     }
-    if text::same(name, &[b'p', b'a', b'r', b'e', b'n', b't']) {
+    if text::same(name, b"parent") {
         return 14;
     }
-    if text::same(name, &[b'v', b'a', b'l', b'u', b'e']) {
+    if text::same(name, b"value") {
         return 15;
     }
     0
