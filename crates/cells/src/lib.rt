@@ -95,17 +95,32 @@ pub fn move_run(s: &mut [u8], from: usize, to: usize, n: usize)
     }
 }
 
-// Whether every byte from an index up to another is 0. No early way out: the or of the bytes.
+// Whether n bytes from an index on are 0. No early way out: the or of the bytes.
+fn run_zero(s: &[u8], at: usize, n: usize) -> bool
+    requires { ⌜ at + n ≤ length (now s) ⌝ }
+    ensures { λ r. ⌜ r ≡ allBelow n (zeroAt (now (s .entry)) at) ⌝ }
+{
+    let mut acc: u8 = 0;
+    let mut i = 0;
+    while i < n {
+        acc = acc | s[at + i];
+        i += 1;
+    }
+    acc == 0
+}
+
+// Whether every byte from an index up to another is 0: block by block, to the first that is not, and then the rest.
 pub fn all_zero(s: &[u8], from: usize, to: usize) -> bool
     requires { ⌜ from ≤ to ⌝ }
     requires { ⌜ to ≤ length (now s) ⌝ }
     ensures { λ r. ⌜ r ≡ allBelow (to - from) (zeroAt (now (s .entry)) from) ⌝ }
 {
-    let mut acc: u8 = 0;
     let mut i = from;
-    while i < to {
-        acc = acc | s[i];
-        i += 1;
+    while 256 <= to - i {
+        if !run_zero(s, i, 256) {
+            return false;
+        }
+        i += 256;
     }
-    acc == 0
+    run_zero(s, i, to - i)
 }
