@@ -1,24 +1,25 @@
--- A set's words and its 32 bytes: what a loop that gathers a word keeps, what is stored, and that it is read again. Assumes nothing.
+-- A set's words and its 32 bytes: what a loop that gathers a word keeps, what is stored word by word, and that it is read again. Assumes nothing.
 use mathlib.Core.Path.{_≡_, refl, sym, ap, ap₂, _∙_}
 use mathlib.Core.Bool.{false}
 use mathlib.Core.List.{List, [], _∷_, _++_}
-use Prim.Native.Nat.{ℕ, _+_, _-_, _*_, _/_, _%_, _^_, _≤_, _<_}
-use native.Mathlib.Nat.{mod-lt}
+use Prim.Native.Nat.{ℕ, zero, suc, _+_, _-_, _*_, _/_, _%_, _^_, _≤_, _<_}
+use native.Mathlib.Nat.{mod-lt, div-one, add-zero, add-suc, zero-lt-suc}
 use native.Mathlib.Decide.{decLt}
-use native.Mathlib.Numerals.{add-one}
+use native.Mathlib.Numerals.{towards-suc}
 use native.Mathlib.Omega.{arith}
+use borrow.Author.Count.{below-more}
 use borrow.Author.Tests.{le-leb, lt-leb}
 use lib.Bits.{bitOr}
 use lib.Dec.{ltb}
 use lib.ListN.{length, getD, set, take, drop, List·getD-append}
 use lib.Pow.{pow-pos}
-use lib.Seq.{paste, paste-suc, length-paste-head, length-take-le, getD-append-add, getD-take}
+use lib.Seq.{sets, sets-eq, paste, paste-zero, paste-suc, length-paste, length-paste-head, length-take-le, getD-append-add, getD-take}
 use Rattle.rules.specs.Sets.{Set}
 use Rattle.rules.proofs.BaseLaws.{ltb-true, ltb-false, and-false}
 use Rattle.layout.specs.Codec.{bit, pack, unpack}
 use Rattle.layout.proofs.SectionLaws.{length-table, getD-table0}
 use Rattle.layout.proofs.CodecLaws.{pack-most, unpack-pack}
-use Rattle.sets.specs.Members.{members, loaded, setByte, setBytes, stored}
+use Rattle.sets.specs.Members.{members, loaded, wordBytes, setByte, setBytes, stored}
 use Rattle.sets.specs.declared.ChangeSet.{ChangeSet}
 use Rattle.sets.proofs.Digits.{unpack-push-low, unpack-push-high, unpack-mod, unpack-shr, unpack-ext}
 use Rattle.sets.proofs.Words.{ofWords, by-words, each-of-4}
@@ -86,7 +87,7 @@ loaded-words bs at a b c d room ra rb rc rd k = go (decLt k 256)
 
 -- STORED
 -- byte i of a set is a part of one of its words
-pub byte-word : (s : ChangeSet) (i : ℕ) → getD (s .words) (i / 8) 0 / 2 ^ (8 * (i % 8)) % 256 ≡ setByte (members s) i
+byte-word : (s : ChangeSet) (i : ℕ) → getD (s .words) (i / 8) 0 / 2 ^ (8 * (i % 8)) % 256 ≡ setByte (members s) i
 unfolding setByte members
 byte-word s i = unpack-ext 8 (w / 2 ^ (8 * (i % 8)) % 2 ^ 8) (pack 8 (λ b. unpack (getD (s .words) ((i * 8 + b) / 64) 0) ((i * 8 + b) % 64))) (mod-lt _ (pow-pos 8)) (pack-most 8 _) digits
   where
@@ -109,11 +110,69 @@ byte-at : (s : Set) (i : ℕ) → i < 32 → getD (setBytes s) i 0 ≡ setByte s
 unfolding setBytes
 byte-at s i h = getD-table0 32 (setByte s) i 0 h
 
--- a turn of the loop that stores them
-pub store-byte : (s : Set) (d cur : List ℕ) (at i r : ℕ) → at + 32 ≤ length d → i < 32 → cur ≡ paste d at (setBytes s) i → r ≡ setByte s i
-    → set cur (at + i) r ≡ paste d at (setBytes s) (i + 1)
-store-byte s d cur at i r room h e q =
-    rw (e, q, ← byte-at s i h, add-one) (paste-suc d at (setBytes s) i 0 (omega arith) (omega (arith, length-bytes s)))
+-- a run of stores goes on with a copy
+paste-run : (d : List ℕ) (at : ℕ) (s : List ℕ) (j : ℕ) (xs : List ℕ) → at + j + length xs ≤ length d → j + length xs ≤ length s
+    → ((i : ℕ) → i < length xs → getD xs i 0 ≡ getD s (j + i) 0) → sets (paste d at s j) (at + j) xs ≡ paste d at s (j + length xs)
+paste-run d at s j [] hd hs e = ap (λ (k : ℕ). paste d at s k) (sym (add-zero j))
+paste-run d at s j (x ∷ xs) hd hs e =
+    let hd′ : at + j + suc (length xs) ≤ length d = hd in
+    let hs′ : j + suc (length xs) ≤ length s = hs in
+    let first : x ≡ getD s j 0 = e zero (zero-lt-suc (length xs)) ∙ ap (λ (k : ℕ). getD s k 0) (add-zero j) in
+    let more : suc j + length xs ≡ j + suc (length xs) = omega arith in
+    ap (λ (r : List ℕ). sets r (suc (at + j)) xs) (ap (set (paste d at s j) (at + j)) first ∙ paste-suc d at s j 0 (omega arith) (omega arith))
+    ∙ ap (λ (k : ℕ). sets (paste d at s (suc j)) k xs) (sym (add-suc at j))
+    ∙ paste-run d at s (suc j) xs (omega arith) (omega arith)
+    (λ i l. let m : suc i < suc (length xs) = omega arith in let q : j + suc i ≡ suc j + i = omega arith in e (suc i) m ∙ ap (λ (k : ℕ). getD s k 0) q)
+    ∙ ap (λ (k : ℕ). paste d at s k) more
+
+-- eight stores, as straight-line code leaves them
+pub eight-stores : (l : List ℕ) (at a b c d e f g h : ℕ) → at + 8 ≤ length l
+    → set (set (set (set (set (set (set (set l at a) (at + 1) b) (at + 2) c) (at + 3) d) (at + 4) e) (at + 5) f) (at + 6) g) (at + 7) h
+    ≡ paste l at (a ∷ b ∷ c ∷ d ∷ e ∷ f ∷ g ∷ h ∷ []) 8
+eight-stores l at a b c d e f g h r = one-by-one ∙ sets-eq (a ∷ b ∷ c ∷ d ∷ e ∷ f ∷ g ∷ h ∷ []) l at r
+  where
+    one-by-one : set (set (set (set (set (set (set (set l at a) (at + 1) b) (at + 2) c) (at + 3) d) (at + 4) e) (at + 5) f) (at + 6) g) (at + 7) h
+        ≡ sets l at (a ∷ b ∷ c ∷ d ∷ e ∷ f ∷ g ∷ h ∷ [])
+    one-by-one = simp towards-suc refl
+
+-- the bytes of a word: how many, stored one by one, and each
+length-word : (w : ℕ) → length (wordBytes w) ≡ 8
+unfolding wordBytes
+length-word w = refl
+
+word-sets : (w : ℕ) (l : List ℕ) (at : ℕ) → at + 8 ≤ length l → sets l at (wordBytes w) ≡ paste l at (wordBytes w) 8
+unfolding wordBytes
+word-sets w l at h = sets-eq (wordBytes w) l at h
+
+word-byte : (w i : ℕ) → i < 8 → getD (wordBytes w) i 0 ≡ w / 2 ^ (8 * i) % 256
+unfolding wordBytes
+word-byte w =
+    let P : ℕ → Type 0 = λ i. getD (wordBytes w) i 0 ≡ w / 2 ^ (8 * i) % 256 in
+    below-more P 7 (below-more P 6 (below-more P 5 (below-more P 4 (each-of-4 P (ap (λ (x : ℕ). x % 256) (sym (div-one w))) refl refl refl) refl) refl) refl) refl
+
+-- a word of the set, stored after those before it
+word-step : (s : ChangeSet) (d cur out : List ℕ) (at n p : ℕ) → at + 32 ≤ length d → n < 4 → p ≡ at + 8 * n
+    → cur ≡ paste d at (setBytes (members s)) (8 * n) → out ≡ paste cur p (wordBytes (getD (s .words) n 0)) 8 → out ≡ paste d at (setBytes (members s)) (8 * n + 8)
+word-step s d cur out at n p room h ep ec eo =
+    eo ∙ sym (word-sets w cur p (omega (arith, same))) ∙ ap₂ (λ (l : List ℕ) (q : ℕ). sets l q (wordBytes w)) ec ep
+    ∙ paste-run d at b (8 * n) (wordBytes w) (omega (arith, length-word w)) (omega (arith, length-word w, length-bytes (members s))) each
+    ∙ ap (λ (m : ℕ). paste d at b (8 * n + m)) (length-word w)
+  where
+    w : ℕ
+    w = getD (s .words) n 0
+
+    b : List ℕ
+    b = setBytes (members s)
+
+    same : length cur ≡ length d
+    same = ap length ec ∙ length-paste d at b (8 * n) (omega arith) (omega (arith, length-bytes (members s)))
+
+    each : (i : ℕ) → i < length (wordBytes w) → getD (wordBytes w) i 0 ≡ getD b (8 * n + i) 0
+    each i l =
+        let k : i < 8 = omega (arith, length-word w) in
+        let x : n ≡ (8 * n + i) / 8 = omega arith in
+        let y : i ≡ (8 * n + i) % 8 = omega arith in
+        word-byte w i k ∙ ap₂ (λ (u v : ℕ). getD (s .words) u 0 / 2 ^ (8 * v) % 256) x y ∙ byte-word s (8 * n + i) ∙ sym (byte-at (members s) (8 * n + i) (omega arith))
 
 -- where there is room they stand there, and nothing else has changed; elsewhere nothing has
 pub stored-full : (s : Set) (bs : List ℕ) (at : ℕ) → at + 32 ≤ length bs → stored s bs at ≡ paste bs at (setBytes s) 32
@@ -124,6 +183,16 @@ stored-full s bs at h = rw (le-leb (at + 32) (length bs) h)
 pub stored-short : (s : Set) (bs : List ℕ) (at : ℕ) → length bs < at + 32 → stored s bs at ≡ bs
 unfolding stored
 stored-short s bs at h = rw (lt-leb (at + 32) (length bs) h)
+
+-- the four words, one after the other
+pub stored-words : (s : ChangeSet) (d l m n o : List ℕ) (at : ℕ) → at + 32 ≤ length d
+    → l ≡ paste d at (wordBytes (getD (s .words) 0 0)) 8 → m ≡ paste l (at + 8) (wordBytes (getD (s .words) 1 0)) 8
+    → n ≡ paste m (at + 16) (wordBytes (getD (s .words) 2 0)) 8 → o ≡ paste n (at + 24) (wordBytes (getD (s .words) 3 0)) 8 → o ≡ stored (members s) d at
+stored-words s d l m n o at room el em en eo =
+    let a = word-step s d d l at 0 at room (omega arith) (omega arith) (paste-zero d at (setBytes (members s))) el in
+    let b = word-step s d l m at 1 (at + 8) room (omega arith) (omega arith) a em in
+    let c = word-step s d m n at 2 (at + 16) room (omega arith) (omega arith) b en in
+    word-step s d n o at 3 (at + 24) room (omega arith) (omega arith) c eo ∙ sym (stored-full (members s) d at room)
 
 -- READ AGAIN
 getD-paste : (d s : List ℕ) (at n i : ℕ) → at ≤ length d → n ≤ length s → i < n → getD (paste d at s n) (at + i) 0 ≡ getD s i 0

@@ -5,6 +5,8 @@ pub mod Digits
 pub mod BoundLaws
 -- walks that ask a test of one number after the other
 pub mod TurnLaws
+-- walks over the members of a set, the lowest first
+pub mod WalkLaws
 -- four words as a set
 pub mod Words
 -- what callers want of the members

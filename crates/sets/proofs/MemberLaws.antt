@@ -1,24 +1,41 @@
 -- What callers want of sets of four words: nothing past 255, and words that are settled by the members. Assumes nothing.
 use mathlib.Core.Path.{_≡_, refl, sym, ap, _∙_}
 use mathlib.Core.Bool.{Bool, Bool·beq, true, false, _&&_, _||_, and-true, and-false, or-false, or-comm}
-use mathlib.Core.List.{List}
+use mathlib.Core.List.{List, [], _∷_}
 use Prim.Native.Nat.{ℕ, _+_, _*_, _/_, _^_, _≤_, _<_}
 use native.Mathlib.Decide.{decLt}
 use native.Mathlib.Omega.{arith}
+use borrow.Author.Tests.{ne-eqb}
 use lib.Dec.{eqb}
 use lib.ListN.{length, getD, List·getD-eq-default}
 use lib.Seq.{ext-getD}
 use Rattle.rules.specs.Base.{allBelow}
 use Rattle.rules.specs.Sets.{Set}
 use Rattle.rules.proofs.BaseLaws.{allBelow-intro, allBelow-at, eqb-sym}
+use Rattle.layout.specs.Codec.{unpack}
 use Rattle.sets.specs.Members.{members, agree}
 use Rattle.sets.specs.declared.ChangeSet.{ChangeSet}
 use Rattle.sets.proofs.Digits.{unpack-ext}
-use Rattle.sets.proofs.Words.{place, word-zero}
+use Rattle.sets.proofs.Words.{ofWords, place, by-words, each-of-4, word-zero}
 
 -- no number from 256 on is a member
 pub members-above : (s : ChangeSet) → length (s .words) ≡ 4 → (k : ℕ) → 256 ≤ k → members s k ≡ false
 members-above s len k h = word-zero s k (List·getD-eq-default (s .words) 0 {n = k / 64} (omega arith))
+
+-- four words that hold one number
+pub single-words : (c a b d e : ℕ) → c < 256
+    → ((j : ℕ) → j < 64 → unpack a j ≡ eqb (64 * 0 + j) c)
+    → ((j : ℕ) → j < 64 → unpack b j ≡ eqb (64 * 1 + j) c)
+    → ((j : ℕ) → j < 64 → unpack d j ≡ eqb (64 * 2 + j) c)
+    → ((j : ℕ) → j < 64 → unpack e j ≡ eqb (64 * 3 + j) c)
+    → (k : ℕ) → members (ofWords (a ∷ b ∷ d ∷ e ∷ [])) k ≡ eqb k c
+single-words c a b d e h wa wb wd we k = go (decLt k 256)
+  where
+    go : Dec (k < 256) → members (ofWords (a ∷ b ∷ d ∷ e ∷ [])) k ≡ eqb k c
+    go (yes l) =
+        by-words (ofWords (a ∷ b ∷ d ∷ e ∷ [])) (λ k. eqb k c)
+        (each-of-4 (λ (i : ℕ). (j : ℕ) → j < 64 → unpack (getD (a ∷ b ∷ d ∷ e ∷ []) i 0) j ≡ eqb (64 * i + j) c) wa wb wd we) k l
+    go (no n) = members-above (ofWords (a ∷ b ∷ d ∷ e ∷ [])) refl k (omega arith) ∙ sym (ne-eqb k c (λ q. n (omega arith)))
 
 -- sets that agree below 256 agree everywhere
 pub members-all : (s t : ChangeSet) → length (s .words) ≡ 4 → length (t .words) ≡ 4 → ((k : ℕ) → k < 256 → members s k ≡ members t k) → (k : ℕ) → members s k ≡ members t k

@@ -1,6 +1,6 @@
--- Four words read as the members of a set: a word replaced, two sets joined word by word, the lowest member, how many there are. Assumes nothing.
+-- Four words read as the members of a set: the words of one number, two sets joined word by word, the lowest member, how many there are. Assumes nothing.
 use mathlib.Core.Path.{_≡_, refl, sym, ap, ap₂, _∙_}
-use mathlib.Core.Bool.{Bool, true, false, not, _&&_, _||_}
+use mathlib.Core.Bool.{Bool, true, false, not, _&&_}
 use mathlib.Core.List.{List, [], _∷_}
 use Prim.Native.Nat.{ℕ, zero, suc, _+_, _-_, _*_, _/_, _%_, _^_, _<_}
 use native.Mathlib.Nat.{mod-eq-of-lt, one-mul}
@@ -11,14 +11,13 @@ use borrow.Author.Tests.{eq-eqb, ne-eqb}
 use lib.Bits.{bitAnd, bitOr, bitXor, or-add-and, xor-add-and, and-le-l, and-le-r}
 use lib.Count.{ones, ones-step, ones-le, trailingZeros}
 use lib.Dec.{eqb}
-use lib.ListN.{length, getD, set, List·getD-eq-default}
+use lib.ListN.{length, getD, List·getD-eq-default}
 use lib.Pow.{pow-lt}
-use lib.Seq.{getD-set-same, getD-set-other}
 use Rattle.rules.specs.Base.{countBelow}
 use Rattle.layout.specs.Codec.{bit, unpack}
 use Rattle.sets.specs.Members.{members}
 use Rattle.sets.specs.declared.ChangeSet.{ChangeSet}
-use Rattle.sets.proofs.Digits.{Digit, none, one, digit, unpack-first, unpack-next, unpack-zero, unpack-power, unpack-or, unpack-and, unpack-not, trailing-hit, trailing-below}
+use Rattle.sets.proofs.Digits.{Digit, none, one, digit, unpack-first, unpack-next, unpack-zero, unpack-power, unpack-and, unpack-not, trailing-hit, trailing-below}
 use Rattle.sets.proofs.BoundLaws.{count-ext, count-add, count-first}
 
 -- the set of these words
@@ -56,21 +55,6 @@ pub word-zero : (s : ChangeSet) (k : ℕ) → getD (s .words) (k / 64) 0 ≡ 0 �
 unfolding members
 word-zero s k e = ap (λ (x : ℕ). unpack x (k % 64)) e ∙ unpack-zero (k % 64)
 
--- the word that holds c is replaced: P of 'this is c' and the old digit
-pub put-word : (P : Bool → Bool → Bool) → ((b : Bool) → P false b ≡ b) → (s : ChangeSet) → length (s .words) ≡ 4 → (c v : ℕ) → c < 256
-    → ((j : ℕ) → j < 64 → unpack v j ≡ P (eqb j (c % 64)) (unpack (getD (s .words) (c / 64) 0) j))
-    → (k : ℕ) → members (ofWords (set (s .words) (c / 64) v)) k ≡ P (eqb k c) (members s k)
-unfolding members
-put-word P skip s len c v h new k = go (ℕ-discrete (k / 64) (c / 64))
-  where
-    go : Dec (k / 64 ≡ c / 64) → unpack (getD (set (s .words) (c / 64) v) (k / 64) 0) (k % 64) ≡ P (eqb k c) (unpack (getD (s .words) (k / 64) 0) (k % 64))
-    go (yes e) =
-        rw e (ap (λ (x : ℕ). unpack x (k % 64)) (getD-set-same (s .words) (c / 64) v 0 (omega arith)) ∙ new (k % 64) (omega arith)
-        ∙ ap (λ (t : Bool). P t (unpack (getD (s .words) (c / 64) 0) (k % 64))) (eqb-iff (k % 64) (c % 64) k c (λ q. omega arith) (λ q. omega arith)))
-    go (no n) =
-        ap (λ (x : ℕ). unpack x (k % 64)) (getD-set-other (s .words) (c / 64) (k / 64) v 0 n) ∙ sym (skip (unpack (getD (s .words) (k / 64) 0) (k % 64)))
-        ∙ ap (λ (t : Bool). P t (unpack (getD (s .words) (k / 64) 0) (k % 64))) (sym (ne-eqb k c (λ q. n (ap (λ (x : ℕ). x / 64) q))))
-
 -- two sets joined word by word: P of the two old digits
 pub join-words : (f : ℕ → ℕ → ℕ) (P : Bool → Bool → Bool) → P false false ≡ false → (s t : ChangeSet) → length (s .words) ≡ 4 → length (t .words) ≡ 4
     → ((i j : ℕ) → j < 64 → unpack (f (getD (s .words) i 0) (getD (t .words) i 0)) j ≡ P (unpack (getD (s .words) i 0) j) (unpack (getD (t .words) i 0) j))
@@ -96,20 +80,16 @@ join-words f P nothing s t ls lt each k = go (k / 64) (k % 64) (omega arith)
         rw (List·getD-eq-default a 0 {n = suc (suc (suc (suc i)))} (omega arith), List·getD-eq-default b 0 {n = suc (suc (suc (suc i)))} (omega arith))
         (rw unpack-zero (sym nothing))
 
--- `1 << j`, `(1 << j) | w`, `!(1 << j) & w` and `a & !b` at 64 bits
-one-shl : (j : ℕ) → j < 64 → (1 * 2 ^ j) % 2 ^ 64 ≡ 2 ^ j
-one-shl j h = ap (λ (x : ℕ). x % 2 ^ 64) (one-mul (2 ^ j)) ∙ mod-eq-of-lt (pow-lt h)
+-- `1 << (c % 64)` is the word of c alone that has its digit
+pub bit-here : (c i j : ℕ) → c / 64 ≡ i → j < 64 → unpack ((1 * 2 ^ (c % 64)) % 2 ^ 64) j ≡ eqb (64 * i + j) c
+bit-here c i j e h =
+    let l : c % 64 < 64 = omega arith in
+    ap (λ (x : ℕ). unpack x j) (ap (λ (x : ℕ). x % 2 ^ 64) (one-mul (2 ^ (c % 64))) ∙ mod-eq-of-lt (pow-lt l))
+    ∙ unpack-power (c % 64) j ∙ eqb-iff j (c % 64) (64 * i + j) c (λ q. omega arith) (λ q. omega arith)
 
--- `(1 << i) | w` adds digit i
-pub word-add : (i w : ℕ) → i < 64 → (j : ℕ) → j < 64 → unpack (bitOr ((1 * 2 ^ i) % 2 ^ 64) w) j ≡ eqb j i || unpack w j
-word-add i w h j l = unpack-or ((1 * 2 ^ i) % 2 ^ 64) w j ∙ ap (λ (x : ℕ). unpack x j || unpack w j) (one-shl i h) ∙ ap (λ (t : Bool). t || unpack w j) (unpack-power i j)
-
--- `!(1 << i) & w` takes it out
-pub word-without : (i w : ℕ) → i < 64 → (j : ℕ) → j < 64 → unpack (bitAnd (2 ^ 64 - 1 - (1 * 2 ^ i) % 2 ^ 64) w) j ≡ not (eqb j i) && unpack w j
-word-without i w h j l =
-    unpack-and (2 ^ 64 - 1 - (1 * 2 ^ i) % 2 ^ 64) w j
-    ∙ ap (λ (x : ℕ). unpack (2 ^ 64 - 1 - x) j && unpack w j) (one-shl i h)
-    ∙ ap (λ (t : Bool). t && unpack w j) (unpack-not 64 (2 ^ i) j (pow-lt h) l ∙ ap not (unpack-power i j))
+-- the others are 0
+pub bit-elsewhere : (c i j : ℕ) → (c / 64 ≡ i → ⊥) → j < 64 → unpack 0 j ≡ eqb (64 * i + j) c
+bit-elsewhere c i j n h = unpack-zero j ∙ sym (ne-eqb (64 * i + j) c (λ q. n (omega arith)))
 
 -- `a & !b` is a digit of a and not of b
 pub word-minus : (a b : ℕ) → b < 2 ^ 64 → (j : ℕ) → j < 64 → unpack (bitAnd a (2 ^ 64 - 1 - b)) j ≡ unpack a j && not (unpack b j)

@@ -5,11 +5,12 @@ ghost use mathlib.Core.List.{List};
 ghost use Prim.Native.Nat.{ℕ, _+_, _*_, _/_, _%_, _<_, _≤_};
 ghost use lib.Dec.{eqb};
 ghost use lib.ListN.{length, getD};
+ghost use lib.Seq.{paste};
 ghost use Rattle.rules.specs.Base.{anyBelow, allBelow, lowestBelow, countBelow};
 ghost use Rattle.rules.specs.Sets.{closure};
 ghost use Rattle.rules.specs.Window.{TieRecord};
 ghost use Rattle.layout.specs.Codec.{unpack, tieSection};
-ghost use Rattle.sets.specs.Members.{members, agree, loaded, setByte, stored};
+ghost use Rattle.sets.specs.Members.{members, agree, loaded, wordBytes, stored};
 ghost use Rattle.sets.specs.Closing.{relation, lowKind, tieOf, tieAt, pulled, passed};
 
 // A set of change numbers: bit c % 64 of word c / 64 says whether c is a member.
@@ -32,6 +33,15 @@ impl ChangeSet {
         ChangeSet { words: [0; 4] }
     }
 
+    // The set of c alone. Each word by a test: an index that varies would keep the set in memory.
+    fn single(c: u8) -> ChangeSet
+        ensures { λ r. ⌜ ((k : ℕ) → members r k ≡ eqb k c) ⌝ }
+    {
+        ChangeSet {
+            words: [bit_in(c, 0), bit_in(c, 1), bit_in(c, 2), bit_in(c, 3)],
+        }
+    }
+
     // Whether c is a member.
     pub fn has(self, c: u8) -> bool
         ensures { λ r. ⌜ r ≡ members self c ⌝ }
@@ -45,20 +55,14 @@ impl ChangeSet {
     pub fn add(self, c: u8) -> ChangeSet
         ensures { λ r. ⌜ ((k : ℕ) → members r k ≡ eqb k c || members self k) ⌝ }
     {
-        let i = (c / 64) as usize;
-        let mut words = self.words;
-        words[i] = (1 << (c % 64)) | words[i];
-        ChangeSet { words }
+        ChangeSet::single(c).unite(self)
     }
 
     // The set without c.
     pub fn without(self, c: u8) -> ChangeSet
         ensures { λ r. ⌜ ((k : ℕ) → members r k ≡ not (eqb k c) && members self k) ⌝ }
     {
-        let i = (c / 64) as usize;
-        let mut words = self.words;
-        words[i] = !(1 << (c % 64)) & words[i];
-        ChangeSet { words }
+        self.minus(ChangeSet::single(c))
     }
 
     // The members of either.
@@ -172,11 +176,11 @@ impl ChangeSet {
         if bytes.len() - 32 < at {
             return;
         }
-        let mut i: usize = 0;
-        while i < 32 {
-            bytes[at + i] = self.byte(i);
-            i += 1;
-        }
+        let w = self.words;
+        store_word(bytes, at, w[0]);
+        store_word(bytes, at + 8, w[1]);
+        store_word(bytes, at + 16, w[2]);
+        store_word(bytes, at + 24, w[3]);
     }
 
     // The least set that holds this one and is closed along the first `count` ties of the section.
@@ -232,15 +236,16 @@ impl ChangeSet {
         }
         self
     }
+}
 
-    // Byte i of the set's 32.
-    fn byte(self, i: usize) -> u8
-        requires { ⌜ i < 32 ⌝ }
-        ensures { λ r. ⌜ r ≡ setByte (members self) i ⌝ }
-    {
-        let w = self.words;
-        ((w[i / 8] >> (8 * (i % 8))) % 256) as u8
+// Word `word` of the set of c alone.
+fn bit_in(c: u8, word: u8) -> u64
+    ensures { λ r. ⌜ ((j : ℕ) → j < 64 → unpack r j ≡ eqb (64 * word + j) c) ⌝ }
+{
+    if c / 64 == word {
+        return 1 << (c % 64);
     }
+    0
 }
 
 // The lowest kind of tie that is gone along from leader to follower.
@@ -273,4 +278,19 @@ fn word_at(bytes: &[u8], at: usize) -> u64
         w = (w << 8) | wide(bytes[at + i]);
     }
     w
+}
+
+// A number as eight bytes at a place, lowest first.
+fn store_word(bytes: &mut [u8], at: usize, w: u64)
+    requires { ⌜ at + 8 ≤ length (now bytes) ⌝ }
+    ensures { λ _. ⌜ now (bytes .exit) ≡ paste (now (bytes .entry)) at (wordBytes w) 8 ⌝ }
+{
+    bytes[at] = (w % 256) as u8;
+    bytes[at + 1] = ((w >> 8) % 256) as u8;
+    bytes[at + 2] = ((w >> 16) % 256) as u8;
+    bytes[at + 3] = ((w >> 24) % 256) as u8;
+    bytes[at + 4] = ((w >> 32) % 256) as u8;
+    bytes[at + 5] = ((w >> 40) % 256) as u8;
+    bytes[at + 6] = ((w >> 48) % 256) as u8;
+    bytes[at + 7] = ((w >> 56) % 256) as u8;
 }

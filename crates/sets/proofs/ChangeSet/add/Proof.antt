@@ -1,30 +1,15 @@
--- `sets::ChangeSet::add` meets its contract: the word that holds c gains its bit. Assumes nothing.
-use mathlib.Core.Path.{_≡_, refl}
-use mathlib.Core.Bool.{_||_}
-use Prim.Native.Nat.{_/_, _%_}
-use native.Mathlib.Omega.{arith}
+-- `sets::ChangeSet::add` meets its contract: c alone is united with the set. Assumes nothing.
+use mathlib.Core.Path.{ap, _∙_}
+use mathlib.Core.Bool.{Bool, _||_}
 use borrow.Author.Needs.{needs}
-use lib.ListN.{length, getD}
-use Rattle.sets.proofs.Words.{put-word, word-add}
+use Rattle.sets.specs.Members.{members}
 use Rattle.sets.proofs.ChangeSet.add.Statement.{statement}
 use Rattle.sets.proofs.ChangeSet.add.Tie as tie
 
 returns : tie.Need-returns
 returns c =
-    let s = c .before .args .self in
-    let i = c .before .args .c in
-    let len : length (s .words) ≡ 4 = search needs in
-    put-word _||_ (λ b. refl) s len i _ (omega arith) (word-add (i % 64) (getD (s .words) (i / 64) 0) (omega arith))
+    let s = c .before .before .args .self in
+    λ k. c .unite .ensures k ∙ ap (λ (t : Bool). t || members s k) (c .before .single .ensures k)
 
 pub add-spec : {M : Type 1} → statement M
-add-spec =
-    tie.close
-    (tie.spec
-    (λ c. search needs)
-    (λ c. search needs)
-    (λ c. search needs)
-    (λ c. search needs)
-    (λ c. search needs)
-    (λ c. search needs)
-    (λ c. search needs)
-    returns)
+add-spec = tie.close (tie.spec (λ c κs. search needs) (λ c κs. search needs) returns)

@@ -1,30 +1,18 @@
--- `sets::ChangeSet::without` meets its contract: the word that holds c loses its bit. Assumes nothing.
-use mathlib.Core.Path.{_≡_, refl}
-use mathlib.Core.Bool.{not, _&&_}
-use Prim.Native.Nat.{_/_, _%_}
-use native.Mathlib.Omega.{arith}
+-- `sets::ChangeSet::without` meets its contract: c alone is taken out of the set. Assumes nothing.
+use mathlib.Core.Path.{ap, _∙_}
+use mathlib.Core.Bool.{Bool, not, _&&_, and-comm}
 use borrow.Author.Needs.{needs}
-use lib.ListN.{length, getD}
-use Rattle.sets.proofs.Words.{put-word, word-without}
+use lib.Dec.{eqb}
+use Rattle.sets.specs.Members.{members}
 use Rattle.sets.proofs.ChangeSet.without.Statement.{statement}
 use Rattle.sets.proofs.ChangeSet.without.Tie as tie
 
 returns : tie.Need-returns
 returns c =
-    let s = c .before .args .self in
-    let i = c .before .args .c in
-    let len : length (s .words) ≡ 4 = search needs in
-    put-word (λ t b. not t && b) (λ b. refl) s len i _ (omega arith) (word-without (i % 64) (getD (s .words) (i / 64) 0) (omega arith))
+    let s = c .before .before .args .self in
+    λ k.
+    c .minus .ensures k ∙ ap (λ (t : Bool). members s k && not t) (c .before .single .ensures k)
+    ∙ and-comm (members s k) (not (eqb k (c .before .before .args .c)))
 
 pub without-spec : {M : Type 1} → statement M
-without-spec =
-    tie.close
-    (tie.spec
-    (λ c. search needs)
-    (λ c. search needs)
-    (λ c. search needs)
-    (λ c. search needs)
-    (λ c. search needs)
-    (λ c. search needs)
-    (λ c. search needs)
-    returns)
+without-spec = tie.close (tie.spec (λ c κs. search needs) (λ c κs. search needs) returns)
