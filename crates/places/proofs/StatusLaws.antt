@@ -11,8 +11,9 @@ use Rattle.rules.specs.Base.{put, outside}
 use Rattle.rules.specs.Sets.{Set}
 use Rattle.rules.specs.Window.{Window}
 use Rattle.rules.specs.Effects.{endAll}
-use Rattle.rules.proofs.BaseLaws.{Same, same, other, same?, ltb-true, ltb-false, Below, under, over, below, or-true, and-false}
+use Rattle.rules.proofs.BaseLaws.{Same, same, other, same?, ltb-true, ltb-false, Below, under, over, below, or-true, and-false, and-right}
 use Rattle.layout.specs.Codec.{changeSection}
+use Rattle.sets.proofs.WalkLaws.{Lowest, lowest-rises}
 use Rattle.places.specs.Statuses.{withStatuses}
 use Rattle.places.proofs.TableLaws.{status-read, change-ext}
 
@@ -24,11 +25,6 @@ firsts c s k = ltb k c && s k
 pub firsts-none : (s : Set) (k : ℕ) → firsts 0 s k ≡ false
 unfolding firsts
 firsts-none s k = rw (ltb-false k 0 (omega arith))
-
--- all of those below a bound
-pub firsts-all : (s : Set) (n k : ℕ) → k < n → firsts n s k ≡ s k
-unfolding firsts
-firsts-all s n k h = rw (ltb-true k n h)
 
 -- one number more
 ltb-more : (k c : ℕ) → ltb k (c + 1) ≡ eqb k c || ltb k c
@@ -57,48 +53,60 @@ pub statuses-ended : (how : ℕ) (s : Set) (W : Window) → endAll how s W .stat
 unfolding endAll withStatuses
 statuses-ended how s W = refl
 
--- one change that is a member
-pub set-member : (st pa : ℕ → ℕ) (c how : ℕ) (b : Bool) → b ≡ true → changeSection (put st c how) pa ≡ changeSection (put st c (cond b how (st c))) pa
-set-member st pa c how b e = rw e
+-- the members of a set that are not left any more
+unfoldable pub passed : Set → Set → Set
+passed s left k = s k && not (left k)
 
--- one that is not
-pub set-other : (st pa : ℕ → ℕ) (c how : ℕ) (b : Bool) → b ≡ false → changeSection st pa ≡ changeSection (put st c (cond b how (st c))) pa
-unfolding put
-set-other st pa c how b e = rw e (ap (λ (f : ℕ → ℕ). changeSection f pa) (fun-ext (λ k. go k (same? k c))))
+-- a walk over the members of s, the lowest first: `left` are those still to come, c the lowest of them, or 256
+pub record Walk (s left : Set) (c : ℕ) : Type 0 where
+  pub lowest : Lowest left c
+  pub inside : (k : ℕ) → left k ≡ true → s k ≡ true
+
+-- none passed
+pub statuses-none : (s : Set) (how : ℕ) (st : ℕ → ℕ) → withStatuses (passed s s) how st ≡ st
+unfolding withStatuses passed
+statuses-none s how st = fun-ext (λ k. go (s k) (st k))
   where
-    go : (k : ℕ) → {a : Bool} → Same k c a → st k ≡ cond a (st c) (st k)
-    go k (same q) = ap st q
-    go k (other q) = refl
+    go : (b : Bool) (x : ℕ) → cond (b && not b) how x ≡ x
+    go true x = refl
+    go false x = refl
 
--- none
-pub statuses-none : (s : Set) (how : ℕ) (st : ℕ → ℕ) → withStatuses (firsts 0 s) how st ≡ st
-unfolding withStatuses
-statuses-none s how st = fun-ext (λ k. ap (λ (b : Bool). cond b how (st k)) (firsts-none s k))
+-- one turn of the loop: the walk goes on without c
+module _ (s left : Set) (c : ℕ) (w : Walk s left c) (h : c < 256) (left′ : Set) (without : (k : ℕ) → left′ k ≡ not (eqb k c) && left k) where
+  module _ (c′ : ℕ) (e : Lowest left′ c′) where
+    pub walk-rises : c < c′
+    walk-rises = lowest-rises left c (w .lowest) left′ without h c′ e
 
--- one more
-statuses-more : (s : Set) (how : ℕ) (st : ℕ → ℕ) (c : ℕ)
-    → put (withStatuses (firsts c s) how st) c (cond (s c) how (withStatuses (firsts c s) how st c)) ≡ withStatuses (firsts (c + 1) s) how st
-unfolding withStatuses put
-statuses-more s how st c = fun-ext (λ k. go k (same? k c) ∙ ap (λ (b : Bool). cond b how (st k)) (firsts-more s c k))
-  where
-    last : (b : Bool) → cond b how (cond (firsts c s c) how (st c)) ≡ cond (b || firsts c s c) how (st c)
-    last true = refl
-    last false = refl
+    pub walk-next : Walk s left′ c′
+    walk-next = record { lowest = e; inside = λ k l. w .inside k (and-right (not (eqb k c)) (left k) (sym (without k) ∙ l)) }
 
-    go : (k : ℕ) → {a : Bool} → Same k c a
-        → cond a (cond (s c) how (cond (firsts c s c) how (st c))) (cond (firsts c s k) how (st k)) ≡ cond (a && s c || firsts c s k) how (st k)
-    go k (same e) = rw e (last (s c))
-    go k (other e) = refl
+  -- one more
+  statuses-more : (how : ℕ) (st : ℕ → ℕ) → put (withStatuses (passed s left) how st) c how ≡ withStatuses (passed s left′) how st
+  unfolding withStatuses put passed
+  statuses-more how st = fun-ext (λ k. go k (same? k c) ∙ ap (λ (b : Bool). cond (s k && not b) how (st k)) (sym (without k)))
+    where
+      member : s c ≡ true
+      member = w .inside c (w .lowest .hit h)
 
--- one turn of the loop, from what was there and what the turn made of it
-pub statuses-turn : (s : Set) (how c : ℕ) (l l′ : List ℕ) (st pa : ℕ → ℕ) → l ≡ changeSection (withStatuses (firsts c s) how st) pa
-    → ((st pa : ℕ → ℕ) → l ≡ changeSection st pa → l′ ≡ changeSection (put st c (cond (s c) how (st c))) pa) → l′ ≡ changeSection (withStatuses (firsts (c + 1) s) how st) pa
-statuses-turn s how c l l′ st pa e f = f (withStatuses (firsts c s) how st) pa e ∙ ap (λ (x : ℕ → ℕ). changeSection x pa) (statuses-more s how st c)
+      go : (k : ℕ) → {a : Bool} → Same k c a → cond a how (cond (s k && not (left k)) how (st k)) ≡ cond (s k && not (not a && left k)) how (st k)
+      go k (same q) = rw (q, member)
+      go k (other q) = refl
+
+  -- from what was there and what the turn made of it
+  pub statuses-turn : (how : ℕ) (l l′ : List ℕ) (st pa : ℕ → ℕ) → l ≡ changeSection (withStatuses (passed s left) how st) pa
+      → ((st pa : ℕ → ℕ) → l ≡ changeSection st pa → l′ ≡ changeSection (put st c how) pa) → l′ ≡ changeSection (withStatuses (passed s left′) how st) pa
+  statuses-turn how l l′ st pa e f = f (withStatuses (passed s left) how st) pa e ∙ ap (λ (x : ℕ → ℕ). changeSection x pa) (statuses-more how st)
 
 -- all
-pub statuses-all : (s : Set) (how : ℕ) (st pa : ℕ → ℕ) → changeSection (withStatuses (firsts 256 s) how st) pa ≡ changeSection (withStatuses s how st) pa
-unfolding withStatuses
-statuses-all s how st pa = change-ext (withStatuses (firsts 256 s) how st) (withStatuses s how st) pa (λ c h. ap (λ (b : Bool). cond b how (st c)) (firsts-all s 256 c h))
+pub statuses-all : (s left : Set) (c : ℕ) → Walk s left c → 256 ≤ c → (how : ℕ) (st pa : ℕ → ℕ)
+    → changeSection (withStatuses (passed s left) how st) pa ≡ changeSection (withStatuses s how st) pa
+unfolding withStatuses passed
+statuses-all s left c w h how st pa = change-ext (withStatuses (passed s left) how st) (withStatuses s how st) pa
+    (λ k l. ap (λ (b : Bool). cond b how (st k)) (go (s k) (left k) (w .lowest .before k (omega arith))))
+  where
+    go : (a b : Bool) → b ≡ false → a && not b ≡ a
+    go true b e = rw e
+    go false b e = refl
 
 -- CHANGES OF SOME STATUSES, off the section's bytes: the status of k is from low to high
 unfoldable pub inRange : List ℕ → ℕ → ℕ → Set

@@ -3,11 +3,10 @@ use cells::read_u16;
 use cells::read_u32;
 use cells::write_u16;
 use cells::write_u32;
-use layout::Changes;
 use sets::ChangeSet;
 ghost use mathlib.Core.Path.{_≡_};
 ghost use mathlib.Core.List.{List};
-ghost use mathlib.Core.Bool.{not, cond, _&&_, _||_};
+ghost use mathlib.Core.Bool.{not, _&&_, _||_};
 ghost use Prim.Native.Nat.{ℕ, suc, _*_, _<_, _^_};
 ghost use lib.Dec.{ltb, eqb};
 ghost use lib.ListN.{length, getD, set};
@@ -83,25 +82,18 @@ pub fn store_parent(changes: &mut [u8], c: u8, p: u8)
     changes[(c as usize) * 4 + 1] = p;
 }
 
-// The status of a change becomes s where the change is a member.
-fn set_status(changes: &mut [u8], ended: ChangeSet, c: u8, s: u8)
-    requires { ⌜ length (now changes) ≡ changesSize ⌝ }
-    ensures { λ _. ⌜ ((st pa : ℕ → ℕ) → now (changes .entry) ≡ changeSection st pa → now (changes .exit) ≡ changeSection (put st c (cond (members ended c) s (st c))) pa) ⌝ }
-{
-    if ended.has(c) {
-        store_status(changes, c, s);
-    }
-}
-
 // The status of every member becomes s.
 pub fn set_statuses(changes: &mut [u8], ended: ChangeSet, s: u8)
     requires { ⌜ length (now changes) ≡ changesSize ⌝ }
     ensures { λ _. ⌜ ((st pa : ℕ → ℕ) → now (changes .entry) ≡ changeSection st pa → now (changes .exit) ≡ changeSection (withStatuses (members ended) s st) pa) ⌝ }
 {
-    let mut c: usize = 0;
-    while c <= Changes::MOST {
-        set_status(changes, ended, c as u8, s);
-        c += 1;
+    let mut left = ended;
+    let mut member = left.lowest();
+    while member < 256 {
+        let c = member as u8;
+        store_status(changes, c, s);
+        left = left.without(c);
+        member = left.lowest();
     }
 }
 
