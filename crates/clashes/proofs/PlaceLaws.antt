@@ -2,21 +2,22 @@
 use mathlib.Core.Path.{_≡_, refl, sym, _∙_, ap}
 use mathlib.Core.Bool.{Bool, true, false, _||_, false≢true}
 use mathlib.Core.List.{List}
-use Prim.Native.Nat.{ℕ, _+_, _*_, _≤_, _<_}
+use Prim.Native.Nat.{ℕ, _+_, _-_, _*_, _≤_, _<_}
 use native.Mathlib.Numerals.{add-one}
 use native.Mathlib.Decide.{decLt}
 use native.Mathlib.Omega.{arith}
+use lib.Dec.{eqb}
 use lib.ListN.{length, getD, take, drop}
 use lib.Seq.{getD-take, getD-drop}
 use Rattle.rules.specs.Base.{anyBelow, rising}
 use Rattle.rules.specs.Window.{PermitRecord, permitKey}
 use Rattle.rules.specs.Locks.{makePermit}
-use Rattle.rules.proofs.BaseLaws.{both-ways, any-intro, any-elim, Same, same, other, same?}
+use Rattle.rules.proofs.BaseLaws.{both-ways, any-intro, any-elim, anyBelow-none, Same, same, other, same?}
 use Rattle.rules.proofs.SortLaws.{Before, by1, by2, by3, rising-at}
 use Rattle.layout.specs.Codec.{noPermit}
 use Rattle.sets.proofs.BoundLaws.{any-ext}
 use Rattle.locks.specs.Permits.{permitAt}
-use Rattle.clashes.specs.Permits.{permitFrom, anyOf, FirstOf}
+use Rattle.clashes.specs.Permits.{permitFrom, anyOf, FirstOf, NoneBefore, involves, byteIs}
 
 -- ONE OF THE FIRST N
 module _ (t : ℕ → PermitRecord) (p : PermitRecord → Bool) where
@@ -60,11 +61,34 @@ module _ (p : PermitRecord → Bool) (bs : List ℕ) (count start : ℕ) where
       go (same q) = rw q e
       go (other n) = before k h (omega arith)
 
+  pub skipped-run : (j n : ℕ) → Skipped j → ((k : ℕ) → j ≤ k → k < j + n → p (permitAt bs k) ≡ false) → Skipped (j + n)
+  skipped-run j n before none k h l = go (decLt k j)
+    where
+      go : Dec (k < j) → p (permitAt bs k) ≡ false
+      go (yes m) = before k h m
+      go (no m) = none k (omega arith) l
+
+  pub none-before : (j : ℕ) → start ≤ j → j ≤ count → Skipped j → NoneBefore p bs count start j
+  none-before j h l before = record { from = h; to = l; skipped = before }
+
   pub first-found : (j : ℕ) → start ≤ j → j < count → Skipped j → p (permitAt bs j) ≡ true → FirstOf p bs count start j
   first-found j h l before e = record { from = h; to = omega arith; skipped = before; found = λ _. e }
 
   pub first-nothing : (j : ℕ) → start ≤ j → j ≡ count → Skipped j → FirstOf p bs count start j
   first-nothing j h l before = record { from = h; to = omega arith; skipped = before; found = λ m. absurd (omega arith) }
+
+-- A BLOCK OF PERMITS
+-- one byte more
+pub byte-next : (bs : List ℕ) (at b i : ℕ) (found : Bool) → found ≡ anyBelow i (byteIs bs at b) → found || eqb (getD bs (at + i) 0) b ≡ anyBelow (i + 1) (byteIs bs at b)
+unfolding anyBelow byteIs
+byte-next bs at b i found e = rw (add-one, ← e) refl
+
+-- a change whose number is none of its bytes gives and takes none of its permits
+pub block-none : (bs : List ℕ) (c j : ℕ) (found : Bool) → found ≡ anyBelow 64 (byteIs bs (j * 4) c) → found ≡ false → (k : ℕ) → j ≤ k → k < j + 16 → involves c (permitAt bs k) ≡ false
+unfolding byteIs involves permitAt makePermit
+block-none bs c j found e f k h l =
+    let byte : (i : ℕ) → i < 4 → eqb (getD bs (k * 4 + i) 0) c ≡ false = λ i m. let q : j * 4 + ((k - j) * 4 + i) ≡ k * 4 + i = omega arith in rw q at (anyBelow-none 64 (byteIs bs (j * 4) c) (sym e ∙ f) ((k - j) * 4 + i) (omega arith)) in
+    rw (byte 1 (omega arith), byte 2 (omega arith))
 
 -- A PART OF A SECTION
 part-byte : (bs : List ℕ) (start n i at : ℕ) → i < n → start + i ≡ at → getD (take n (drop start bs)) i 0 ≡ getD bs at 0

@@ -8,18 +8,10 @@ use lib.Dec.{eqb}
 use Rattle.rules.specs.Base.{allBelow, anyBelow, lowestBelow}
 use Rattle.rules.specs.Sets.{Set}
 use Rattle.rules.proofs.BaseLaws.{Same, same, other, same?, eqb-other, or-true, and-both, and-left, and-right, both-ways, no-true, allBelow-intro, allBelow-at, any-intro, any-elim}
-use Rattle.sets.proofs.BoundLaws.{any-ext, lowest-most, lowest-found, lowest-below}
+use Rattle.sets.proofs.BoundLaws.{any-ext}
 use Rattle.sets.proofs.TurnLaws.{turn-failed, turns-done}
+use Rattle.sets.proofs.WalkLaws.{Lowest, lowest-of, lowest-rises}
 use Rattle.clashes.specs.Beside.{otherHolder, contested}
-
--- a number is the lowest member of a set of changes, or 256
-pub record Lowest (s : Set) (a : ℕ) : Type 0 where
-  pub within : a ≤ 256
-  pub hit : a < 256 → s a ≡ true
-  pub before : (k : ℕ) → k < a → s k ≡ false
-
-pub lowest-of : (s : Set) (a : ℕ) → a ≡ lowestBelow 256 s → Lowest s a
-lowest-of s a e = rw e (record { within = lowest-most s 256; hit = lowest-found s 256; before = lowest-below s 256 })
 
 -- a test of every writer
 cell-none : (x q : Bool) → x ≡ false → not x || q ≡ true
@@ -52,19 +44,8 @@ module _ (x : Set) (q : ℕ → Bool) where
       kept : (k : ℕ) → a < k → left′ k ≡ x k
       kept k h = without k ∙ rw (eqb-other k a (λ e. omega arith)) (w .later k (omega arith))
 
-      gone : (k : ℕ) → k ≤ a → left′ k ≡ false
-      gone k h = without k ∙ go (same? k a)
-        where
-          go : {b : Bool} → Same k a b → not b && left k ≡ false
-          go (same e) = refl
-          go (other n) = w .lowest .before k (omega arith)
-
       pub walk-rises : a < a′
-      walk-rises = go (decLt a a′)
-        where
-          go : Dec (a < a′) → a < a′
-          go (yes h) = h
-          go (no h) = absurd (false≢true (sym (gone a′ (omega arith)) ∙ next .hit (omega arith)))
+      walk-rises = lowest-rises left a (w .lowest) left′ without ha a′ next
 
       pub walk-next : (r : Bool) → r ≡ q a → r ≡ true → Walked x q left′ a′
       walk-next r e f = record { lowest = next; later = λ k h. kept k (omega (arith, walk-rises)); passed = allBelow-intro a′ _ (λ k h. go k h (decLt k a) (same? k a)) }

@@ -4,6 +4,7 @@ use mathlib.Core.Bool.{Bool, true, false, _||_}
 use mathlib.Core.List.{List}
 use Prim.Native.Nat.{ℕ, _+_, _≤_, _<_}
 use lib.Dec.{leb, eqb}
+use lib.ListN.{getD}
 use Rattle.rules.specs.Base.{anyBelow}
 use Rattle.rules.specs.Window.{PermitRecord}
 use Rattle.locks.specs.Permits.{permitAt}
@@ -23,6 +24,16 @@ fromEntry e p = leb e p.entry
 -- a change gives it or takes it
 unfoldable pub involves : ℕ → PermitRecord → Bool
 involves c p = eqb p.giver c || eqb p.taker c
+
+-- byte i, counted from an index, is b
+unfoldable pub byteIs : List ℕ → ℕ → ℕ → ℕ → Bool
+byteIs bs at b i = eqb (getD bs (at + i) 0) b
+
+-- a place from a start on, and at most the count, with none on the way whose permit passes
+pub record NoneBefore (p : PermitRecord → Bool) (bs : List ℕ) (count start at : ℕ) : Type 0 where
+  pub from : start ≤ at
+  pub to : at ≤ count
+  pub skipped : (j : ℕ) → start ≤ j → j < at → p (permitAt bs j) ≡ false
 
 -- the first place from a start on whose permit passes; the count where there is none
 pub record FirstOf (p : PermitRecord → Bool) (bs : List ℕ) (count start at : ℕ) : Type 0 where

@@ -6,6 +6,7 @@ ghost use mathlib.Core.Bool.{_&&_, _||_};
 ghost use Prim.Native.Nat.{ℕ, _+_, _-_, _*_, _≤_};
 ghost use lib.Dec.{eqb};
 ghost use lib.ListN.{length};
+ghost use Rattle.rules.specs.Base.{anyBelow};
 ghost use Rattle.rules.specs.Window.{Window};
 ghost use Rattle.rules.specs.Locks.{clashesPermitted};
 ghost use Rattle.layout.specs.Codec.{locksSize, permitsSize, lockSection};
@@ -13,11 +14,13 @@ ghost use Rattle.sets.specs.Members.{members};
 ghost use Rattle.locks.specs.Held.{inMode};
 ghost use Rattle.clashes.specs.Holds.{Holds};
 ghost use Rattle.locks.specs.Permits.{permitAt};
-ghost use Rattle.clashes.specs.Permits.{permitFrom, anyOf, FirstOf, fromEntry, involves};
+ghost use Rattle.clashes.specs.Permits.{permitFrom, anyOf, FirstOf, NoneBefore, fromEntry, involves, byteIs};
 ghost use Rattle.clashes.specs.Beside.{serves, permitsAnybody, names, unserved, writerFits, writersFit, entryFits, contested};
 
 // The bytes of a permit.
 const PERMIT: usize = layout::Permits::SIZE / layout::Permits::MOST;
+// The permits that are passed over at once.
+const BLOCK: usize = 16;
 
 // The set, with c where a test passed.
 fn add_if(s: ChangeSet, c: u8, test: bool) -> ChangeSet
@@ -69,13 +72,43 @@ fn first_from(permits: &[u8], count: usize, start: usize, entry: usize) -> usize
     j
 }
 
+// Whether a byte is among the 64 of a block of permits. No early way out and every byte alike: the or of the tests.
+fn in_block(permits: &[u8], at: usize, byte: u8) -> bool
+    requires { ⌜ at + 64 ≤ length (now permits) ⌝ }
+    ensures { λ r. ⌜ r ≡ anyBelow 64 (byteIs (now (permits .entry)) at byte) ⌝ }
+{
+    let mut found = false;
+    let mut i: usize = 0;
+    while i < BLOCK * PERMIT {
+        found = found | (permits[at + i] == byte);
+        i += 1;
+    }
+    found
+}
+
+// A place from `start` on before which a change gives and takes no permit: past the blocks without its number.
+fn skip_blocks(permits: &[u8], count: usize, start: usize, change: u8) -> usize
+    requires { ⌜ 4 * count ≤ length (now permits) ⌝ }
+    requires { ⌜ start ≤ count ⌝ }
+    ensures { λ r. ⌜ NoneBefore (involves change) (now (permits .entry)) count start r ⌝ }
+{
+    let mut j = start;
+    while BLOCK <= count - j {
+        if in_block(permits, j * PERMIT, change) {
+            return j;
+        }
+        j += BLOCK;
+    }
+    j
+}
+
 // The place of the first permit from `start` on that a change gives or takes; the count where there is none.
 fn next_involving(permits: &[u8], count: usize, start: usize, change: u8) -> usize
     requires { ⌜ 4 * count ≤ length (now permits) ⌝ }
     requires { ⌜ start ≤ count ⌝ }
     ensures { λ r. ⌜ FirstOf (involves change) (now (permits .entry)) count start r ⌝ }
 {
-    let mut j = start;
+    let mut j = skip_blocks(permits, count, start, change);
     while j < count {
         let at = j * PERMIT;
         if (permits[at + 1] == change) | (permits[at + 2] == change) {

@@ -5,7 +5,7 @@ use borrow.Author.Needs.{needs}
 use Rattle.rules.specs.Locks.{makePermit}
 use Rattle.locks.specs.Permits.{permitAt}
 use Rattle.clashes.specs.Permits.{involves}
-use Rattle.clashes.proofs.PlaceLaws.{Skipped, skipped-none, skipped-more, first-found, first-nothing}
+use Rattle.clashes.proofs.PlaceLaws.{Skipped, skipped-more, first-found, first-nothing}
 use Rattle.clashes.proofs.next_involving.Statement.{statement}
 use Rattle.clashes.proofs.next_involving.Tie as tie
 
@@ -16,25 +16,25 @@ abbrev μ-loop : tie.MeasureT-loop
 μ-loop permits count start change j₀ j = count - j
 
 loop-holds : tie.Need-loop-holds Inv-loop μ-loop
-loop-holds c = let a = c .args in (omega arith, omega arith, skipped-none (involves (a .change)) (a .permits .now) (a .count) (a .start))
+loop-holds c = let s = c .skip-blocks .ensures in (s .from, s .to, s .skipped)
 
 returns : tie.Need-returns Inv-loop μ-loop
 unfolding involves permitAt makePermit
 returns c =
-    let a = c .before .before .before .before .before .args in
+    let a = c .before .before .before .before .before .before .before .args in
     let l = c .before .before .before .before .loop in
     first-found (involves (a .change)) (a .permits .now) (a .count) (a .start) (l .j) (l .inv .0) (omega arith) (l .inv .2) (c .if1 .taken)
 
 loop-again : tie.Need-loop-again Inv-loop μ-loop
 unfolding involves permitAt makePermit
 loop-again c =
-    let a = c .before .before .before .before .before .args in
+    let a = c .before .before .before .before .before .before .before .args in
     let l = c .before .before .before .before .loop in
     (omega arith, omega arith, skipped-more (involves (a .change)) (a .permits .now) (a .count) (a .start) (l .j) (l .inv .2) (c .if1 .left))
 
 returns-2 : tie.Need-returns-2 Inv-loop μ-loop
 returns-2 c =
-    let a = c .before .before .args in
+    let a = c .before .before .before .before .args in
     let l = c .before .loop in
     first-nothing (involves (a .change)) (a .permits .now) (a .count) (a .start) (l .j) (l .inv .0) (omega arith) (l .inv .2)
 
@@ -44,6 +44,7 @@ next-involving-spec =
     (tie.spec
     Inv-loop
     μ-loop
+    (λ c κs. search needs)
     loop-holds
     (λ c. search needs)
     (λ c. search needs)

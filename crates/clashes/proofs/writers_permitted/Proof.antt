@@ -6,7 +6,8 @@ use borrow.Author.Tests.{not-true, not-false}
 use Rattle.sets.specs.Members.{members}
 use Rattle.locks.specs.Permits.{permitAt}
 use Rattle.clashes.specs.Beside.{writerFits, writersFit}
-use Rattle.clashes.proofs.WriterLaws.{Walked, lowest-of, walk-start, walk-failed, walk-rises, walk-next, walk-done}
+use Rattle.sets.proofs.WalkLaws.{lowest-of}
+use Rattle.clashes.proofs.WriterLaws.{Walked, walk-start, walk-failed, walk-rises, walk-next, walk-done}
 use Rattle.clashes.proofs.writers_permitted.Statement.{statement}
 use Rattle.clashes.proofs.writers_permitted.Tie as tie
 
