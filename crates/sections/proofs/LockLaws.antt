@@ -31,6 +31,12 @@ unfolding pack
 pack-none zero = refl
 pack-none (suc n) = rw (pack-none n)
 
+-- who holds a lock lives, and holds it on an entry that there is
+pub held-live : {bs : List ℕ} {entries : ℕ} {lives : Set} (s : LocksSound bs entries lives) (e c : ℕ) → (s .held e c ≡ 0 → ⊥) → (e < entries) × (lives c ≡ true)
+unfolding heldSound
+held-live {entries = entries} {lives = lives} s e c n = ⊎-elim (λ q. absurd (n (eqb-eq (s .held e c) 0 q))) (λ q. (lt-of e entries (and-left (ltb e entries) (lives c) q), and-right (ltb e entries) (lives c) q))
+    (or-cases (eqb (s .held e c) 0) _ (and-right (leb (s .held e c) 2) _ (s .fine e c)))
+
 module _ (bs : List ℕ) (b : Bytes bs) (size : length bs ≡ 16384) (entries : ℕ) (lives : Set) (most : entries ≤ 256) where
   -- both tests
   pub record LockTests : Type 0 where
@@ -117,11 +123,6 @@ module _ (bs : List ℕ) (b : Bytes bs) (size : length bs ≡ 16384) (entries : 
     unfolding lockBits
     bit-read e c m he hc hm = ap (λ l. unpack (getD l (e * 64 + m * 32 + c / 8) 0) (c % 8)) (s .bytes ∙ lock-bits (s .held)) ∙ bits-read (lockBits (s .held)) e m (e * 64 + m * 32) he hm refl c hc
 
-    held-live : (e c : ℕ) → (s .held e c ≡ 0 → ⊥) → (e < entries) × (lives c ≡ true)
-    unfolding heldSound
-    held-live e c n = ⊎-elim (λ q. absurd (n (eqb-eq (s .held e c) 0 q))) (λ q. (lt-of e entries (and-left (ltb e entries) (lives c) q), and-right (ltb e entries) (lives c) q))
-        (or-cases (eqb (s .held e c) 0) _ (and-right (leb (s .held e c) 2) _ (s .fine e c)))
-
     row-of : (e : ℕ) → e < entries → rowFits bs lives e ≡ true
     unfolding rowFits lockFits reads writes
     row-of e he = allBelow-intro 256 _ (λ c hc. rw (first c hc, second c hc) (go c (s .held e c) refl (same? (s .held e c) 1) (same? (s .held e c) 2)))
@@ -134,8 +135,8 @@ module _ (bs : List ℕ) (b : Bytes bs) (size : length bs ≡ 16384) (entries : 
 
         go : (c h : ℕ) → s .held e c ≡ h → {x y : Bool} → Same h 1 x → Same h 2 y → not (x && y || (x || y) && not (lives c)) ≡ true
         go c h q (same o) (same t) = absurd (omega arith)
-        go c h q (same o) (other t) = rw (held-live e c (λ z. omega (arith, q, z)) .1)
-        go c h q (other o) (same t) = rw (held-live e c (λ z. omega (arith, q, z)) .1)
+        go c h q (same o) (other t) = rw (held-live s e c (λ z. omega (arith, q, z)) .1)
+        go c h q (other o) (same t) = rw (held-live s e c (λ z. omega (arith, q, z)) .1)
         go c h q (other o) (other t) = refl
 
     rest-of : (i : ℕ) → entries * 64 ≤ i → i < 16384 → getD bs i 0 ≡ 0
@@ -143,7 +144,7 @@ module _ (bs : List ℕ) (b : Bytes bs) (size : length bs ≡ 16384) (entries : 
     rest-of i h l = ap (λ x. getD x i 0) (s .bytes) ∙ getD-table0 16384 (lockByte (s .held)) i 0 l ∙ pack-same 8 _ (λ j. false) (λ j k. none-there (i / 64) (i % 32 * 8 + j) (suc (i % 64 / 32)) (omega arith) (omega arith)) ∙ pack-none 8
       where
         none-there : (e c m : ℕ) → entries ≤ e → 0 < m → eqb (s .held e c) m ≡ false
-        none-there e c m q p = no-true (eqb (s .held e c) m) (λ x. let y : s .held e c ≡ m = eqb-eq (s .held e c) m x in let z = held-live e c (λ w. omega (arith, y, w, p)) .0 in omega arith)
+        none-there e c m q p = no-true (eqb (s .held e c) m) (λ x. let y : s .held e c ≡ m = eqb-eq (s .held e c) m x in let z = held-live s e c (λ w. omega (arith, y, w, p)) .0 in omega arith)
 
     pub of-locks : LockTests
     of-locks = record { fine = allBelow-intro entries (rowFits bs lives) row-of; rest = zeros-all bs (entries * 64) 16384 rest-of }

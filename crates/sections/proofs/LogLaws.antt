@@ -1,15 +1,15 @@
--- The log: records of live owners that hold the write lock, and zeros. Assumes nothing.
+-- The log: records of owners that hold the write lock, and zeros. Assumes nothing.
 use mathlib.Core.Path.{_≡_, refl, sym, _∙_, ap}
-use mathlib.Core.Bool.{true, _&&_}
+use mathlib.Core.Bool.{true}
 use mathlib.Core.List.{List}
 use Prim.Native.Nat.{ℕ, zero, suc, _+_, _-_, _*_, _/_, _%_, _≤_, _<_}
 use native.Mathlib.Omega.{arith}
-use lib.Dec.{ltb, eqb}
+use lib.Dec.{eqb}
 use lib.ListN.{getD, length, replicate}
 use Rattle.rules.specs.Base.{allBelow, table}
 use Rattle.rules.specs.Sets.{Set}
 use Rattle.rules.specs.Sound.{recordSound}
-use Rattle.rules.proofs.BaseLaws.{and-left, and-right, ltb-true, allBelow-at, allBelow-intro}
+use Rattle.rules.proofs.BaseLaws.{eqb-eq, ltb-true, allBelow-at, allBelow-intro}
 use Rattle.rules.proofs.ListLaws.{all-at, all-table}
 use Rattle.rules.proofs.SoundParts.{record-parts}
 use Rattle.layout.specs.Codec.{byte, unpack, join4, noRecord, recordBytes, logByte, logSection, lockSection}
@@ -19,8 +19,9 @@ use Rattle.cells.specs.Part.{zeroAt}
 use Rattle.cells.proofs.ZeroLaws.{zeros-at, zeros-all}
 use Rattle.locks.proofs.BitLaws.{lockBits, lock-bits, bits-read}
 use Rattle.sections.specs.Cells.{writes, recordAt, recordFits}
-use Rattle.sections.specs.Sections.{LogSound}
+use Rattle.sections.specs.Sections.{LocksSound, LogSound}
 use Rattle.sections.proofs.ByteLaws.{join4-below, byte-join4}
+use Rattle.sections.proofs.LockLaws.{held-live}
 
 -- a writer's bit is the write lock
 pub writes-held : (locks : List ℕ) (held : ℕ → ℕ → ℕ) → locks ≡ lockSection held → (e c : ℕ) → e < 256 → c < 256 → writes locks e c ≡ eqb (held e c) 2
@@ -33,11 +34,11 @@ blank : recordBytes noRecord ≡ replicate 6 0
 unfolding recordBytes byte
 blank = refl
 
-module _ (bs : List ℕ) (b : Bytes bs) (size : length bs ≡ 12288) (n entries : ℕ) (lives : Set) (fits : n ≤ 2048) (most : entries ≤ 256)
-    (locks : List ℕ) (held : ℕ → ℕ → ℕ) (q : locks ≡ lockSection held) where
+module _ (bs : List ℕ) (b : Bytes bs) (size : length bs ≡ 12288) (n : ℕ) (fits : n ≤ 2048)
+    (locks : List ℕ) (entries : ℕ) (lives : Set) (z : LocksSound locks entries lives) where
   -- both tests
   pub record LogTests : Type 0 where
-    pub fine : allBelow n (recordFits bs locks entries lives) ≡ true
+    pub fine : allBelow n (recordFits bs locks) ≡ true
     pub rest : allBelow (12288 - n * 6) (zeroAt bs (n * 6)) ≡ true
 
   -- the record at a place has the bytes of the place
@@ -51,42 +52,43 @@ module _ (bs : List ℕ) (b : Bytes bs) (size : length bs ≡ 12288) (n entries 
   whole j (suc (suc (suc (suc (suc zero))))) l = byte-join4 (λ k. getD bs (j * 6 + (k + 2)) 0) (λ k. b (j * 6 + (k + 2))) 3 (omega arith)
   whole j (suc (suc (suc (suc (suc (suc k)))))) l = absurd (omega arith)
 
-  record-fine : (j : ℕ) → recordFits bs locks entries lives j ≡ true → recordSound entries lives held (recordAt bs j) ≡ true
+  record-fine : (j : ℕ) → recordFits bs locks j ≡ true → recordSound entries lives (z .held) (recordAt bs j) ≡ true
   unfolding recordFits recordSound recordAt
   record-fine j h =
-      let l : lives (getD bs (j * 6) 0) && ltb (getD bs (j * 6 + 1) 0) entries ≡ true = and-left _ (writes locks (getD bs (j * 6 + 1) 0) (getD bs (j * 6) 0)) h in
-      let e : ltb (getD bs (j * 6 + 1) 0) entries ≡ true = and-right (lives (getD bs (j * 6) 0)) _ l in
-      let w : eqb (held (getD bs (j * 6 + 1) 0) (getD bs (j * 6) 0)) 2 ≡ true =
-      sym (writes-held locks held q (getD bs (j * 6 + 1) 0) (getD bs (j * 6) 0) (b (j * 6 + 1)) (b (j * 6))) ∙ and-right (lives (getD bs (j * 6) 0) && ltb (getD bs (j * 6 + 1) 0) entries) _ h in
-      rw (and-left (lives (getD bs (j * 6) 0)) _ l, e, ltb-true (join4 (λ k. getD bs (j * 6 + (k + 2)) 0)) 4294967296 (join4-below (λ k. getD bs (j * 6 + (k + 2)) 0) (λ k. b (j * 6 + (k + 2)))), w)
+      let o = getD bs (j * 6) 0 in
+      let e = getD bs (j * 6 + 1) 0 in
+      let w : eqb (z .held e o) 2 ≡ true = sym (writes-held locks (z .held) (z .bytes) e o (b (j * 6 + 1)) (b (j * 6))) ∙ h in
+      let two : z .held e o ≡ 2 = eqb-eq (z .held e o) 2 w in
+      let l = held-live z e o (λ none. omega (arith, two, none)) in
+      rw (l .1, ltb-true e entries (l .0), ltb-true (join4 (λ k. getD bs (j * 6 + (k + 2)) 0)) 4294967296 (join4-below (λ k. getD bs (j * 6 + (k + 2)) 0) (λ k. b (j * 6 + (k + 2)))), w)
 
-  pub log-of : LogTests → LogSound bs n entries lives held
+  pub log-of : LogTests → LogSound bs n entries lives (z .held)
   unfolding logSection logByte placeByte
   log-of t = record {
     log = table n 0 (recordAt bs);
     size = length-table n 0 (recordAt bs);
     bytes = places-again 6 (omega arith) recordBytes noRecord 2048 blank n bs (recordAt bs) size (λ j k h l. whole j k l) (zeros-at bs (n * 6) 12288 (t .rest));
-    fine = all-table (recordSound entries lives held) (recordAt bs) n 0 (λ j h l. record-fine j (allBelow-at n (recordFits bs locks entries lives) (t .fine) j (omega arith)));
+    fine = all-table (recordSound entries lives (z .held)) (recordAt bs) n 0 (λ j h l. record-fine j (allBelow-at n (recordFits bs locks) (t .fine) j (omega arith)));
   }
 
-  module _ (s : LogSound bs n entries lives held) where
+  module _ (s : LogSound bs n entries lives (z .held)) where
     byte-at : (j k : ℕ) → j < 2048 → k < 6 → getD bs (j * 6 + k) 0 ≡ getD (recordBytes (getD (s .log) j noRecord)) k 0
     unfolding logSection logByte placeByte
     byte-at j k h l = ap (λ x. getD x (j * 6 + k) 0) (s .bytes) ∙ place-at 6 (omega arith) recordBytes noRecord 2048 (s .log) j k h l
 
-    fits-of : (j : ℕ) → j < n → recordFits bs locks entries lives j ≡ true
+    fits-of : (j : ℕ) → j < n → recordFits bs locks j ≡ true
     unfolding recordFits recordBytes
     fits-of j h =
         let r = getD (s .log) j noRecord in
-        let x = record-parts entries lives held r (all-at (recordSound entries lives held) noRecord (s .log) (s .fine) j (rw (s .size) h)) in
+        let x = record-parts entries lives (z .held) r (all-at (recordSound entries lives (z .held)) noRecord (s .log) (s .fine) j (rw (s .size) h)) in
         let o : getD bs (j * 6) 0 ≡ r .owner = first-byte bs (j * 6) ∙ byte-at j 0 (omega arith) (omega arith) in
         let e : getD bs (j * 6 + 1) 0 ≡ r .entry = byte-at j 1 (omega arith) (omega arith) in
-        let w : writes locks (r .entry) (r .owner) ≡ true = writes-held locks held q (r .entry) (r .owner) (rw e at (b (j * 6 + 1))) (rw o at (b (j * 6))) ∙ x .3 in
-        rw (o, e, x .0, x .1, w)
+        let w : writes locks (r .entry) (r .owner) ≡ true = writes-held locks (z .held) (z .bytes) (r .entry) (r .owner) (rw e at (b (j * 6 + 1))) (rw o at (b (j * 6))) ∙ x .3 in
+        rw (o, e, w)
 
     rest-of : (i : ℕ) → n * 6 ≤ i → i < 12288 → getD bs i 0 ≡ 0
     unfolding logSection logByte placeByte
     rest-of = places-rest 6 (omega arith) recordBytes noRecord 2048 blank n bs (s .log) (s .size) (s .bytes)
 
     pub of-log : LogTests
-    of-log = record { fine = allBelow-intro n (recordFits bs locks entries lives) fits-of; rest = zeros-all bs (n * 6) 12288 rest-of }
+    of-log = record { fine = allBelow-intro n (recordFits bs locks) fits-of; rest = zeros-all bs (n * 6) 12288 rest-of }

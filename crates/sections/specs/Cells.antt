@@ -50,7 +50,6 @@ permitFits bs entries lives j = permitSound entries lives (permitAt bs j) && inO
 unfoldable pub tieFits : List ℕ → Set → ℕ → Bool
 tieFits bs lives j = tieSound lives (tieAt bs j) && eqb (getD bs (j * 4 + 3) 0) 0 && inOrder bs j
 
--- the owner is live, the entry is one, and the owner's bit stands among the entry's writers
-unfoldable pub recordFits : List ℕ → List ℕ → ℕ → Set → ℕ → Bool
-recordFits bs locks entries lives j = lives (getD bs (j * 6) 0) && ltb (getD bs (j * 6 + 1) 0) entries
-    && writes locks (getD bs (j * 6 + 1) 0) (getD bs (j * 6) 0)
+-- the owner's bit stands among the entry's writers
+unfoldable pub recordFits : List ℕ → List ℕ → ℕ → Bool
+recordFits bs locks j = writes locks (getD bs (j * 6 + 1) 0) (getD bs (j * 6) 0)

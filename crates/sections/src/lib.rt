@@ -16,9 +16,10 @@ ghost use mathlib.Core.Bool.{true};
 ghost use mathlib.Core.Logic.{_↔_};
 ghost use Prim.Native.Nat.{ℕ, _+_, _*_, _≤_, _<_};
 ghost use lib.ListN.{length};
-ghost use Rattle.layout.specs.Codec.{headSize, valuesSize, changesSize, lineSize, locksSize, permitsSize, tiesSize, logSize, lineSection, lockSection};
+ghost use Rattle.layout.specs.Codec.{headSize, valuesSize, changesSize, lineSize, locksSize, permitsSize, tiesSize, logSize, lineSection};
 ghost use Rattle.rules.specs.Base.{allBelow};
 ghost use Rattle.rules.specs.Locks.{makePermit};
+ghost use Rattle.rules.specs.Sets.{Set};
 ghost use Rattle.rules.specs.Sound.{permitSound, tieSound};
 ghost use Rattle.sets.specs.Members.{members};
 ghost use Rattle.sets.specs.Closing.{tieOf};
@@ -283,28 +284,28 @@ fn is_writer(locks: &[u8], e: u8, c: u8) -> bool
     (locks[wide(e) * 64 + 32 + wide(c / 8)] >> (c % 8)) % 2 == 1
 }
 
-// The log record at place j: owner live, an entry that there is, and the owner among its writers.
-fn record_at(log: &[u8], j: usize, locks: &[u8], entries: usize, live: ChangeSet) -> bool
+// The log record at place j: the owner among the entry's writers.
+fn record_at(log: &[u8], j: usize, locks: &[u8]) -> bool
     requires { ⌜ j * 6 + 6 ≤ length (now log) ⌝ }
     requires { ⌜ length (now locks) ≡ locksSize ⌝ }
-    ensures { λ r. ⌜ r ≡ recordFits (now (log .entry)) (now (locks .entry)) entries (members live) j ⌝ }
+    ensures { λ r. ⌜ r ≡ recordFits (now (log .entry)) (now (locks .entry)) j ⌝ }
 {
     let at = j * 6;
     let owner = log[at];
     let entry = log[at + 1];
-    live.has(owner) & (wide(entry) < entries) & is_writer(locks, entry, owner)
+    is_writer(locks, entry, owner)
 }
 
 // The log records that stand.
-fn standing_records(log: &[u8], count: usize, locks: &[u8], entries: usize, live: ChangeSet) -> bool
+fn standing_records(log: &[u8], count: usize, locks: &[u8]) -> bool
     requires { ⌜ length (now log) ≡ logSize ⌝ }
     requires { ⌜ count ≤ 2048 ⌝ }
     requires { ⌜ length (now locks) ≡ locksSize ⌝ }
-    ensures { λ r. ⌜ r ≡ allBelow count (recordFits (now (log .entry)) (now (locks .entry)) entries (members live)) ⌝ }
+    ensures { λ r. ⌜ r ≡ allBelow count (recordFits (now (log .entry)) (now (locks .entry))) ⌝ }
 {
     let mut i = 0;
     while i < count {
-        if !record_at(log, i, locks, entries, live) {
+        if !record_at(log, i, locks) {
             return false;
         }
         i += 1;
@@ -312,15 +313,14 @@ fn standing_records(log: &[u8], count: usize, locks: &[u8], entries: usize, live
     true
 }
 
-// Owners live, each holding the write lock on its record's entry, and the unused places 0.
-pub fn log(log: &[u8], count: usize, locks: &[u8], entries: usize, live: ChangeSet) -> bool
+// Each owner holding the write lock on its record's entry, and the unused places 0. Beside sound locks, owners then live.
+pub fn log(log: &[u8], count: usize, locks: &[u8]) -> bool
     requires { ⌜ length (now log) ≡ logSize ⌝ }
     requires { ⌜ count ≤ 2048 ⌝ }
     requires { ⌜ length (now locks) ≡ locksSize ⌝ }
-    requires { ⌜ entries ≤ 256 ⌝ }
-    ensures { λ r. ⌜ ((held : ℕ → ℕ → ℕ) → now (locks .entry) ≡ lockSection held → (r ≡ true ↔ LogSound (now (log .entry)) count entries (members live) held)) ⌝ }
+    ensures { λ r. ⌜ ((entries : ℕ) (lives : Set) (z : LocksSound (now (locks .entry)) entries lives) → (r ≡ true ↔ LogSound (now (log .entry)) count entries lives (z .held))) ⌝ }
 {
-    if !standing_records(log, count, locks, entries, live) {
+    if !standing_records(log, count, locks) {
         return false;
     }
     all_zero(log, count * 6, Log::SIZE)

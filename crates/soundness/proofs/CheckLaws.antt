@@ -11,9 +11,9 @@ use Rattle.rules.specs.Window.{Window, isLive}
 use Rattle.rules.specs.Locks.{clashesPermitted}
 use Rattle.rules.specs.Ties.{acyclic}
 use Rattle.rules.proofs.BaseLaws.{and-left, and-right}
-use Rattle.layout.specs.Codec.{headAt, headSize, changesAt, changesSize, locksAt, locksSize, windowSize, changeSection, lockSection}
+use Rattle.layout.specs.Codec.{headAt, headSize, changesAt, changesSize, locksAt, locksSize, windowSize, changeSection}
 use Rattle.layout.specs.Memory.{soundBytes}
-use Rattle.sections.specs.Sections.{HeadSound, ChangesSound}
+use Rattle.sections.specs.Sections.{HeadSound, ChangesSound, LocksSound}
 use Rattle.soundness.specs.Parts.{lives, cut, FrontSound, BackSound, Listed}
 use Rattle.soundness.specs.Read.{AreFigures}
 use Rattle.soundness.specs.declared.Figures.{Figures}
@@ -23,9 +23,9 @@ use Rattle.soundness.proofs.Assembly.{W, head-known, changes-known, fro
 abbrev pub Lives : List ℕ → ℕ → Set → Type 0
 Lives bs given m = (st pa : ℕ → ℕ) → cut bs changesAt changesSize ≡ changeSection st pa → (k : ℕ) → m k ≡ ltb k (suc given) && isLive (st k)
 
--- r decides whether the permits, the ties and the log are sound beside the locks
-abbrev pub Decided : List ℕ → Figures → Set → Bool → Type 0
-Decided bs f m r = (held : ℕ → ℕ → ℕ) → cut bs locksAt locksSize ≡ lockSection held → (r ≡ true ↔ BackSound bs (f .entries) (f .permits) (f .ties) (f .records) m held)
+-- r decides whether the permits, the ties and the log are sound beside sound locks
+abbrev pub Decided : List ℕ → ℕ → ℕ → ℕ → ℕ → Set → Bool → Type 0
+Decided bs entries permits ties records m r = (z : LocksSound (cut bs locksAt locksSize) entries m) → (r ≡ true ↔ BackSound bs entries permits ties records m (z .held))
 
 -- r is what the last two tests say
 abbrev pub Says : List ℕ → ℕ → ℕ → ℕ → Bool → Type 0
@@ -52,9 +52,12 @@ module _ (bs : List ℕ) (size : length bs ≡ windowSize) where
       unfolding head-known
       front-asked = rw (figures-known .entries, members-known) (front-known bs size s)
 
-      pub back-asked : (r : Bool) → Decided bs f m r → r ≡ true
+      pub back-asked : (r : Bool) → Decided bs (f .entries) (f .permits) (f .ties) (f .records) m r → r ≡ true
       unfolding head-known front-known
-      back-asked r d = d (W bs size s .held) (front-known bs size s .locks .bytes) .1 (rw (figures-known .entries, figures-known .permits, figures-known .ties, figures-known .records, members-known) (back-known bs size s))
+      back-asked r d =
+          let k = W bs size s in
+          let d′ : Decided bs (k .entries) (length (k .permits)) (length (k .ties)) (length (k .log)) (lives (k .given) (k .status)) r = rw (figures-known .entries, figures-known .permits, figures-known .ties, figures-known .records, members-known) at d in
+          d′ (front-known bs size s .locks) .1 (back-known bs size s)
 
     pub related-asked : (r : Bool) → Says bs (f .entries) (f .permits) (f .ties) r → r ≡ true
     unfolding head-known
@@ -71,17 +74,18 @@ module _ (bs : List ℕ) (size : length bs ≡ windowSize) (h : HeadSound (cut b
       gathered-all bs size h c t k (and-left (acyclic (suc (h .given)) (k .ties .ties)) (clashesPermitted (gathered bs size h c t k)) both) (and-right (acyclic (suc (h .given)) (k .ties .ties)) (clashesPermitted (gathered bs size h c t k)) both)
 
   -- the same, by the live changes found
-  tests-passed : (m : Set) → Lives bs (h .given) m → ChangesSound (cut bs changesAt changesSize) (h .given) → FrontSound bs (h .entries) m → (q : Bool)
-      → ((held : ℕ → ℕ → ℕ) → cut bs locksAt locksSize ≡ lockSection held → (q ≡ true ↔ BackSound bs (h .entries) (h .permits) (h .ties) (h .records) m held)) → q ≡ true
+  tests-passed : (m : Set) → Lives bs (h .given) m → ChangesSound (cut bs changesAt changesSize) (h .given) → FrontSound bs (h .entries) m
+      → (q : Bool) → Decided bs (h .entries) (h .permits) (h .ties) (h .records) m q → q ≡ true
       → (r : Bool) → Says bs (h .entries) (h .permits) (h .ties) r → r ≡ true → soundBytes bs ≡ true
   unfolding lives
   tests-passed m live c t q d e r g y =
       let same : m ≡ lives (h .given) (c .status) = fun-ext (λ k. live _ _ (c .bytes) k) in
       let t′ : FrontSound bs (h .entries) (lives (h .given) (c .status)) = rw same at t in
-      sections-passed c t′ (rw same at (d (t′ .locks .held) (t′ .locks .bytes) .0 e)) r g y
+      let d′ : Decided bs (h .entries) (h .permits) (h .ties) (h .records) (lives (h .given) (c .status)) q = rw same at d in
+      sections-passed c t′ (d′ (t′ .locks) .0 e) r g y
 
   -- the same, by the figures read
   pub passed : (f : Figures) → AreFigures h f → (m : Set) → Lives bs (f .given) m → ChangesSound (cut bs changesAt changesSize) (f .given) → FrontSound bs (f .entries) m
-      → (q : Bool) → Decided bs f m q → q ≡ true
+      → (q : Bool) → Decided bs (f .entries) (f .permits) (f .ties) (f .records) m q → q ≡ true
       → (r : Bool) → Says bs (f .entries) (f .permits) (f .ties) r → r ≡ true → soundBytes bs ≡ true
   passed f a m live c t q d e r g y = tests-passed m (rw (a .given) at live) (rw (a .given) at c) (rw (a .entries) at t) q (rw (a .entries, a .permits, a .ties, a .records) at d) e r (rw (a .entries, a .permits, a .ties) at g) y

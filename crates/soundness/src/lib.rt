@@ -12,11 +12,11 @@ use sets::ChangeSet;
 ghost use mathlib.Core.Path.{_≡_};
 ghost use mathlib.Core.Bool.{true, _&&_};
 ghost use mathlib.Core.Logic.{_↔_};
-ghost use Prim.Native.Nat.{ℕ, suc, _≤_};
+ghost use Prim.Native.Nat.{suc, _≤_};
 ghost use lib.ListN.{length};
-ghost use Rattle.layout.specs.Codec.{headAt, headSize, locksAt, locksSize, windowSize, lockSection};
+ghost use Rattle.layout.specs.Codec.{headAt, headSize, locksAt, locksSize, windowSize};
 ghost use Rattle.sets.specs.Members.{members};
-ghost use Rattle.sections.specs.Sections.{HeadSound};
+ghost use Rattle.sections.specs.Sections.{HeadSound, LocksSound};
 ghost use Rattle.rules.specs.Window.{Window};
 ghost use Rattle.rules.specs.Locks.{clashesPermitted};
 ghost use Rattle.rules.specs.Ties.{acyclic};
@@ -63,7 +63,7 @@ fn front(w: &[u8], entries: usize, live: ChangeSet) -> bool
     sections::locks(&w[Locks::AT..Permits::AT], entries, live)
 }
 
-// The permits, the ties and the log.
+// The permits, the ties and the log, beside sound locks.
 fn back(
     w: &[u8],
     entries: usize,
@@ -73,8 +73,8 @@ fn back(
     live: ChangeSet,
 ) -> bool
     requires { ⌜ length (now w) ≡ windowSize ⌝ }
-    requires { ⌜ (entries ≤ 256) × (permits ≤ 1024) × (ties ≤ 512) × (records ≤ 2048) ⌝ }
-    ensures { λ r. ⌜ ((held : ℕ → ℕ → ℕ) → cut (now (w .entry)) locksAt locksSize ≡ lockSection held → (r ≡ true ↔ BackSound (now (w .entry)) entries permits ties records (members live) held)) ⌝ }
+    requires { ⌜ (permits ≤ 1024) × (ties ≤ 512) × (records ≤ 2048) ⌝ }
+    ensures { λ r. ⌜ ((z : LocksSound (cut (now (w .entry)) locksAt locksSize) entries (members live)) → (r ≡ true ↔ BackSound (now (w .entry)) entries permits ties records (members live) (z .held))) ⌝ }
 {
     if !sections::permits(&w[Permits::AT..Ties::AT], permits, entries, live) {
         return false;
@@ -86,8 +86,6 @@ fn back(
         &w[Log::AT..layout::Window::SIZE],
         records,
         &w[Locks::AT..Permits::AT],
-        entries,
-        live,
     )
 }
 

@@ -6,7 +6,7 @@ use Rattle.sections.proofs.record_at.Tie as tie
 
 returns : tie.Need-returns
 unfolding recordFits
-returns c = rw (c .before .before .has .ensures, c .before .wide .ensures, c .is-writer .ensures)
+returns c = c .is-writer .ensures
 
 pub record-at-spec : {M : Type 1} → statement M
 record-at-spec =
@@ -16,7 +16,5 @@ record-at-spec =
     (λ c. search needs)
     (λ c. search needs)
     (λ c. search needs)
-    (λ c κs. search needs)
-    (λ c κs. search needs)
     (λ c κs. search needs)
     returns)

@@ -5,17 +5,16 @@ use Prim.Native.Nat.{_≤_, _-_}
 use native.Mathlib.Omega.{arith}
 use borrow.Author.Needs.{needs}
 use Rattle.rules.specs.Base.{allBelow}
-use Rattle.sets.specs.Members.{members}
 use Rattle.sets.proofs.TurnLaws.{none-yet, turn-failed, turn-passed, turns-done}
 use Rattle.sections.specs.Cells.{recordFits}
 use Rattle.sections.proofs.standing_records.Statement.{statement}
 use Rattle.sections.proofs.standing_records.Tie as tie
 
 abbrev Inv-loop : tie.InvT-loop
-Inv-loop log count locks entries live i₀ i = (i ≤ count) × (allBelow i (recordFits log locks entries (members live)) ≡ true)
+Inv-loop log count locks i₀ i = (i ≤ count) × (allBelow i (recordFits log locks) ≡ true)
 
 abbrev μ-loop : tie.MeasureT-loop
-μ-loop log count locks entries live i₀ i = count - i
+μ-loop log count locks i₀ i = count - i
 
 loop-holds : tie.Need-loop-holds Inv-loop μ-loop
 loop-holds c = (search needs, none-yet _)

@@ -10,13 +10,13 @@ permits-requires : tie.Need-permits-requires
 permits-requires c κs = omega (arith, c .before .before .pre)
 
 returns : tie.Need-returns
-returns c = λ held q. refused (λ s. fails (c .before .permits .ensures) (c .if1 .taken) (s .permits))
+returns c = λ z. refused (λ s. fails (c .before .permits .ensures) (c .if1 .taken) (s .permits))
 
 ties-requires : tie.Need-ties-requires
 ties-requires c κs = omega (arith, c .before .before .before .before .before .pre)
 
 returns-2 : tie.Need-returns-2
-returns-2 c = λ held q. refused (λ s. fails (c .before .ties .ensures) (c .if2 .taken) (s .ties))
+returns-2 c = λ z. refused (λ s. fails (c .before .ties .ensures) (c .if2 .taken) (s .ties))
 
 part-log-end-2 : tie.Need-part-log-end-2
 part-log-end-2 c = omega (arith, c .before .before .before .before .before .before .before .before .pre)
@@ -25,12 +25,12 @@ log-requires : tie.Need-log-requires
 log-requires c κs =
     let w = c .before .before .before .before .before .before .before .before .before .args .w .now in
     let p = c .before .before .before .before .before .before .before .before .before .pre in
-    (length-cut w 25664 12288 37952 (p .0) (omega arith), (p .1 .3, (length-cut w 3136 16384 37952 (p .0) (omega arith), p .1 .0)))
+    (length-cut w 25664 12288 37952 (p .0) (omega arith), (p .1 .2, length-cut w 3136 16384 37952 (p .0) (omega arith)))
 
 returns-3 : tie.Need-returns-3
-returns-3 c = λ held q. (
-  λ e. record { permits = passes (c .before .before .before .before .before .before .before .permits .ensures) (c .before .before .before .before .before .before .if1 .left); ties = passes (c .before .before .before .before .ties .ensures) (c .before .before .before .if2 .left); log = c .log .ensures held q .0 e },
-  λ s. c .log .ensures held q .1 (s .log),
+returns-3 c = λ z. (
+  λ e. record { permits = passes (c .before .before .before .before .before .before .before .permits .ensures) (c .before .before .before .before .before .before .if1 .left); ties = passes (c .before .before .before .before .ties .ensures) (c .before .before .before .if2 .left); log = c .log .ensures _ _ z .0 e },
+  λ s. c .log .ensures _ _ z .1 (s .log),
 )
 
 pub back-spec : {M : Type 1} → statement M

@@ -41,7 +41,7 @@ back-requires : tie.Need-back-requires
 back-requires c κs =
     let h = passes (c .before .before .before .before .before .before .before .before .before .header .ensures) (c .before .before .before .before .before .before .before .before .if1 .left) in
     let a = c .before .before .before .before .before .before .before .read-figures .ensures h in
-    (c .before .before .before .before .before .before .before .before .before .before .before .before .pre, (omega (arith, a .entries, h .entries-most), omega (arith, a .permits, h .permits-most), omega (arith, a .ties, h .ties-most), omega (arith, a .records, h .records-most)))
+    (c .before .before .before .before .before .before .before .before .before .before .before .before .pre, (omega (arith, a .permits, h .permits-most), omega (arith, a .ties, h .ties-most), omega (arith, a .records, h .records-most)))
 
 returns-4 : tie.Need-returns-4
 returns-4 c = refuted _ (λ s. false≢true (sym (not-true _ (c .if4 .taken)) ∙ back-asked (c .before .before .before .before .before .before .before .before .before .before .before .before .before .before .args .w .now) (c .before .before .before .before .before .before .before .before .before .before .before .before .before .before .pre) (c .before .before .before .before .before .before .before .before .before .read-figures .result) (c .before .before .before .before .before .before .before .before .before .read-figures .ensures) s (members (c .before .before .before .before .live-set .result)) (c .before .before .before .before .live-set .ensures) _ (c .before .back .ensures)))
