@@ -1,10 +1,12 @@
 //! The exported calls held to the model: every list by hand, random lists, lent lengths and damaged windows.
 //! WINDOW_TEST_CALLS sets how many random calls are made, WINDOW_TEST_SEED their seed.
 mod demand;
+mod full_tables;
 mod library;
 mod model;
 mod perform;
 mod random;
+mod readings;
 mod trial;
 mod tries;
 mod windows;
@@ -277,7 +279,7 @@ fn setting(name: &str, default: usize) -> usize {
 fn main() {
     let (seed, calls) = (setting("WINDOW_TEST_SEED", 20_260_417), setting("WINDOW_TEST_CALLS", 300_000));
     println!("seed {seed}");
-    let tries = [tries::calls_to_try(), tries::errors(), tries::readings(), tries::full_tables()].concat();
+    let tries = [tries::calls_to_try(), tries::errors(), readings::readings(), full_tables::full_tables()].concat();
     tries.iter().for_each(follow);
     println!("{} lists by hand", tries.len());
     picture();

@@ -5,16 +5,17 @@ use mathlib.Core.Option.{none, some}
 use Prim.Native.Nat.{ℕ, _<_}
 use borrow.Author.Tests.{lt-leb}
 use lib.ListN.{length}
+use Rattle.rules.specs.Base.{all}
 use Rattle.rules.specs.Calls.{Open, Write}
 use Rattle.layout.specs.Memory.{sameBytes, handBack}
-use Rattle.text.specs.Decimal.{ascii, isDigit, allDigits, valueAfter, leadingZero, isNumber, noNumber, number}
+use Rattle.text.specs.Decimal.{ascii, isDigit, valueAfter, leadingZero, isNumber, noNumber, number}
 use Rattle.text.specs.Parts.{inFront, partedBy}
 use Rattle.script_calls.specs.Fields.{readings, placed, made, callOf, replyOf}
 use Rattle.script_lines.specs.Lines.{names, placeAmong, callNumber, isArgument, numbered, fielded, lineCall, replyTo}
 
 -- all that a line's call is read with
 unfoldable pub reading : Unit {0}
-unfolding ascii isDigit allDigits valueAfter leadingZero isNumber noNumber number inFront partedBy sameBytes names placeAmong callNumber readings placed made callOf isArgument numbered fielded lineCall
+unfolding ascii isDigit all valueAfter leadingZero isNumber noNumber number inFront partedBy sameBytes names placeAmong callNumber readings placed made callOf isArgument numbered fielded lineCall
 reading = tt
 
 -- "no leading zero but in 0 itself"

@@ -1,7 +1,7 @@
 -- What is printed while the input is fed byte by byte is the listing, in whatever pieces it comes. Assumes nothing.
 use mathlib.Core.Path.{_≡_, refl, sym, ap, _∙_}
 use mathlib.Core.Bool.{Bool, true, false, cond}
-use mathlib.Core.List.{List, [], _∷_, _++_, append-assoc, append-nil}
+use mathlib.Core.List.{List, [], _∷_, _++_, append-assoc, append-nil, flatten}
 use Prim.Native.Nat.{ℕ, suc}
 use lib.Dec.{eqb, eqb·suc-zero}
 use lib.ListN.{length, take}
@@ -10,7 +10,7 @@ use Rattle.text.specs.Parts.{inFront, lines}
 use Rattle.script_lines.specs.Lines.{replyTo}
 use Rattle.listing.specs.Listing.{firstLine, header, printed, zeroMemory, replies, answered, listing}
 use Rattle.listing.specs.Feed.{State, start, firstEnded, laterEnded, lineEnded, fedByte, fed, ended}
-use Rattle.listing.specs.Pieces.{written, outputs, joined}
+use Rattle.listing.specs.Pieces.{written, outputs}
 use Rattle.listing.proofs.KeptLaws.{take-kept, reply-kept, first-kept}
 
 -- ONE PIECE AFTER THE OTHER
@@ -153,15 +153,15 @@ unfolding after
 ended-out s = ap (λ (t : State). ended t .out) (sym (after-written s)) ∙ ap (λ (t : State). t .out) (ended-after s.out (written s))
 
 -- IN PIECES
-pieces-from : (s : State) (pieces : List (List ℕ)) → s.out ++ outputs s pieces ≡ ended (fed s (joined pieces)) .out
-unfolding outputs joined fed after
+pieces-from : (s : State) (pieces : List (List ℕ)) → s.out ++ outputs s pieces ≡ ended (fed s (flatten pieces)) .out
+unfolding outputs flatten fed after
 pieces-from s [] = sym (ended-out s)
 pieces-from s (xs ∷ pieces) =
     let t : State = fed (written s) xs in
     ap (λ (r : List ℕ). s.out ++ r) (pieces-from t pieces)
-    ∙ sym (ap (λ (u : State). u .out) (ap ended (fed-append s xs (joined pieces) ∙ ap (λ (u : State). fed u (joined pieces)) (fed-whole s xs) ∙ fed-after s.out t (joined pieces)) ∙ ended-after s.out (fed t (joined pieces))))
+    ∙ sym (ap (λ (u : State). u .out) (ap ended (fed-append s xs (flatten pieces) ∙ ap (λ (u : State). fed u (flatten pieces)) (fed-whole s xs) ∙ fed-after s.out t (flatten pieces)) ∙ ended-after s.out (fed t (flatten pieces))))
 
 -- the outputs of the pieces, one after the other, are the listing of the whole
-pub pieces-listing : (pieces : List (List ℕ)) → header ++ outputs start pieces ≡ listing (joined pieces)
+pub pieces-listing : (pieces : List (List ℕ)) → header ++ outputs start pieces ≡ listing (flatten pieces)
 unfolding start
-pieces-listing pieces = pieces-from start pieces ∙ fed-listing (joined pieces)
+pieces-listing pieces = pieces-from start pieces ∙ fed-listing (flatten pieces)

@@ -11,8 +11,3 @@ written s = record { line = s.line; place = s.place; over = s.over; memory = s.m
 unfoldable pub outputs : State → List (List ℕ) → List ℕ
 outputs s [] = ended (written s) .out
 outputs s (piece ∷ pieces) = fed (written s) piece .out ++ outputs (fed (written s) piece) pieces
-
--- the input that pieces make
-unfoldable pub joined : List (List ℕ) → List ℕ
-joined [] = []
-joined (piece ∷ pieces) = piece ++ joined pieces

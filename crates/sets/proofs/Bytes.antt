@@ -3,7 +3,7 @@ use mathlib.Core.Path.{_≡_, refl, sym, ap, ap₂, _∙_}
 use mathlib.Core.Bool.{false}
 use mathlib.Core.List.{List, [], _∷_, _++_}
 use Prim.Native.Nat.{ℕ, zero, suc, _+_, _-_, _*_, _/_, _%_, _^_, _≤_, _<_}
-use native.Mathlib.Nat.{mod-lt, div-one, add-zero, add-suc, zero-lt-suc}
+use native.Mathlib.Nat.{mod-lt, div-one, div-div-eq-div-mul, add-zero, add-suc, zero-lt-suc}
 use native.Mathlib.Decide.{decLt}
 use native.Mathlib.Numerals.{towards-suc}
 use native.Mathlib.Omega.{arith}
@@ -19,7 +19,9 @@ use Rattle.rules.proofs.BaseLaws.{ltb-true, ltb-false, and-false}
 use Rattle.layout.specs.Codec.{bit, pack, unpack}
 use Rattle.layout.proofs.SectionLaws.{length-table, getD-table0}
 use Rattle.layout.proofs.CodecLaws.{pack-most, unpack-pack}
-use Rattle.sets.specs.Members.{members, loaded, wordBytes, setByte, setBytes, stored}
+use Rattle.cells.specs.Num.{le}
+use Rattle.cells.proofs.NumLaws.{length-le}
+use Rattle.sets.specs.Members.{members, loaded, setByte, setBytes, stored}
 use Rattle.sets.specs.declared.ChangeSet.{ChangeSet}
 use Rattle.sets.proofs.Digits.{unpack-push-low, unpack-push-high, unpack-mod, unpack-shr, unpack-ext}
 use Rattle.sets.proofs.Words.{ofWords, by-words, each-of-4}
@@ -135,28 +137,32 @@ eight-stores l at a b c d e f g h r = one-by-one ∙ sets-eq (a ∷ b ∷ c ∷ 
         ≡ sets l at (a ∷ b ∷ c ∷ d ∷ e ∷ f ∷ g ∷ h ∷ [])
     one-by-one = simp towards-suc refl
 
--- the bytes of a word: how many, stored one by one, and each
-length-word : (w : ℕ) → length (wordBytes w) ≡ 8
-unfolding wordBytes
-length-word w = refl
+-- the bytes of a word: each, and stored one by one
+pub le-eight : (w : ℕ) → le 8 w
+    ≡ w % 256 ∷ w / 2 ^ 8 % 256 ∷ w / 2 ^ 16 % 256 ∷ w / 2 ^ 24 % 256 ∷ w / 2 ^ 32 % 256 ∷ w / 2 ^ 40 % 256 ∷ w / 2 ^ 48 % 256 ∷ w / 2 ^ 56 % 256 ∷ []
+unfolding le
+le-eight w = simp div-div-eq-div-mul refl
 
-word-sets : (w : ℕ) (l : List ℕ) (at : ℕ) → at + 8 ≤ length l → sets l at (wordBytes w) ≡ paste l at (wordBytes w) 8
-unfolding wordBytes
-word-sets w l at h = sets-eq (wordBytes w) l at h
+word-sets : (w : ℕ) (l : List ℕ) (at : ℕ) → at + 8 ≤ length l → sets l at (le 8 w) ≡ paste l at (le 8 w) 8
+unfolding le
+word-sets w l at h = sets-eq (le 8 w) l at h
 
-word-byte : (w i : ℕ) → i < 8 → getD (wordBytes w) i 0 ≡ w / 2 ^ (8 * i) % 256
-unfolding wordBytes
+word-byte : (w i : ℕ) → i < 8 → getD (le 8 w) i 0 ≡ w / 2 ^ (8 * i) % 256
 word-byte w =
-    let P : ℕ → Type 0 = λ i. getD (wordBytes w) i 0 ≡ w / 2 ^ (8 * i) % 256 in
-    below-more P 7 (below-more P 6 (below-more P 5 (below-more P 4 (each-of-4 P (ap (λ (x : ℕ). x % 256) (sym (div-one w))) refl refl refl) refl) refl) refl) refl
+    let P : ℕ → Type 0 = λ i. getD (le 8 w) i 0 ≡ w / 2 ^ (8 * i) % 256 in
+    let first : P 0 = ap (λ (l : List ℕ). getD l 0 0) (le-eight w) ∙ ap (λ (x : ℕ). x % 256) (sym (div-one w)) in
+    below-more P 7 (below-more P 6 (below-more P 5 (below-more P 4 (each-of-4 P first
+    (ap (λ (l : List ℕ). getD l 1 0) (le-eight w)) (ap (λ (l : List ℕ). getD l 2 0) (le-eight w)) (ap (λ (l : List ℕ). getD l 3 0) (le-eight w)))
+    (ap (λ (l : List ℕ). getD l 4 0) (le-eight w))) (ap (λ (l : List ℕ). getD l 5 0) (le-eight w)))
+    (ap (λ (l : List ℕ). getD l 6 0) (le-eight w))) (ap (λ (l : List ℕ). getD l 7 0) (le-eight w))
 
 -- a word of the set, stored after those before it
 word-step : (s : ChangeSet) (d cur out : List ℕ) (at n p : ℕ) → at + 32 ≤ length d → n < 4 → p ≡ at + 8 * n
-    → cur ≡ paste d at (setBytes (members s)) (8 * n) → out ≡ paste cur p (wordBytes (getD (s .words) n 0)) 8 → out ≡ paste d at (setBytes (members s)) (8 * n + 8)
+    → cur ≡ paste d at (setBytes (members s)) (8 * n) → out ≡ paste cur p (le 8 (getD (s .words) n 0)) 8 → out ≡ paste d at (setBytes (members s)) (8 * n + 8)
 word-step s d cur out at n p room h ep ec eo =
-    eo ∙ sym (word-sets w cur p (omega (arith, same))) ∙ ap₂ (λ (l : List ℕ) (q : ℕ). sets l q (wordBytes w)) ec ep
-    ∙ paste-run d at b (8 * n) (wordBytes w) (omega (arith, length-word w)) (omega (arith, length-word w, length-bytes (members s))) each
-    ∙ ap (λ (m : ℕ). paste d at b (8 * n + m)) (length-word w)
+    eo ∙ sym (word-sets w cur p (omega (arith, same))) ∙ ap₂ (λ (l : List ℕ) (q : ℕ). sets l q (le 8 w)) ec ep
+    ∙ paste-run d at b (8 * n) (le 8 w) (omega (arith, length-le 8 w)) (omega (arith, length-le 8 w, length-bytes (members s))) each
+    ∙ ap (λ (m : ℕ). paste d at b (8 * n + m)) (length-le 8 w)
   where
     w : ℕ
     w = getD (s .words) n 0
@@ -167,9 +173,9 @@ word-step s d cur out at n p room h ep ec eo =
     same : length cur ≡ length d
     same = ap length ec ∙ length-paste d at b (8 * n) (omega arith) (omega (arith, length-bytes (members s)))
 
-    each : (i : ℕ) → i < length (wordBytes w) → getD (wordBytes w) i 0 ≡ getD b (8 * n + i) 0
+    each : (i : ℕ) → i < length (le 8 w) → getD (le 8 w) i 0 ≡ getD b (8 * n + i) 0
     each i l =
-        let k : i < 8 = omega (arith, length-word w) in
+        let k : i < 8 = omega (arith, length-le 8 w) in
         let x : n ≡ (8 * n + i) / 8 = omega arith in
         let y : i ≡ (8 * n + i) % 8 = omega arith in
         word-byte w i k ∙ ap₂ (λ (u v : ℕ). getD (s .words) u 0 / 2 ^ (8 * v) % 256) x y ∙ byte-word s (8 * n + i) ∙ sym (byte-at (members s) (8 * n + i) (omega arith))
@@ -186,8 +192,8 @@ stored-short s bs at h = rw (lt-leb (at + 32) (length bs) h)
 
 -- the four words, one after the other
 pub stored-words : (s : ChangeSet) (d l m n o : List ℕ) (at : ℕ) → at + 32 ≤ length d
-    → l ≡ paste d at (wordBytes (getD (s .words) 0 0)) 8 → m ≡ paste l (at + 8) (wordBytes (getD (s .words) 1 0)) 8
-    → n ≡ paste m (at + 16) (wordBytes (getD (s .words) 2 0)) 8 → o ≡ paste n (at + 24) (wordBytes (getD (s .words) 3 0)) 8 → o ≡ stored (members s) d at
+    → l ≡ paste d at (le 8 (getD (s .words) 0 0)) 8 → m ≡ paste l (at + 8) (le 8 (getD (s .words) 1 0)) 8
+    → n ≡ paste m (at + 16) (le 8 (getD (s .words) 2 0)) 8 → o ≡ paste n (at + 24) (le 8 (getD (s .words) 3 0)) 8 → o ≡ stored (members s) d at
 stored-words s d l m n o at room el em en eo =
     let a = word-step s d d l at 0 at room (omega arith) (omega arith) (paste-zero d at (setBytes (members s))) el in
     let b = word-step s d l m at 1 (at + 8) room (omega arith) (omega arith) a em in

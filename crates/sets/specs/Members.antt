@@ -1,7 +1,7 @@
 -- The members of a set of four words, and a set as 32 bytes. Assumes nothing.
 use mathlib.Core.Bool.{Bool, Bool·beq, cond, _&&_}
-use mathlib.Core.List.{List, [], _∷_}
-use Prim.Native.Nat.{ℕ, _+_, _*_, _/_, _%_, _^_}
+use mathlib.Core.List.{List}
+use Prim.Native.Nat.{ℕ, _+_, _*_, _/_, _%_}
 use lib.Dec.{leb, ltb}
 use lib.ListN.{length, getD}
 use lib.Seq.{paste}
@@ -21,10 +21,6 @@ agree s t k = Bool·beq (s k) (t k)
 -- what the 32 bytes at a place say of k: bit k % 8 of byte k / 8; nothing where there are not 32 bytes
 unfoldable pub loaded : List ℕ → ℕ → Set
 loaded bs at k = ltb k 256 && leb (at + 32) (length bs) && unpack (getD bs (at + k / 8) 0) (k % 8)
-
--- a word as eight bytes, the lowest first
-unfoldable pub wordBytes : ℕ → List ℕ
-wordBytes w = w % 256 ∷ w / 2 ^ 8 % 256 ∷ w / 2 ^ 16 % 256 ∷ w / 2 ^ 24 % 256 ∷ w / 2 ^ 32 % 256 ∷ w / 2 ^ 40 % 256 ∷ w / 2 ^ 48 % 256 ∷ w / 2 ^ 56 % 256 ∷ []
 
 -- byte i of a set's 32: the tests of i * 8, i * 8 + 1, …, the first in its lowest bit
 unfoldable pub setByte : Set → ℕ → ℕ

@@ -10,7 +10,8 @@ ghost use Rattle.rules.specs.Base.{anyBelow, allBelow, lowestBelow, countBelow}
 ghost use Rattle.rules.specs.Sets.{closure};
 ghost use Rattle.rules.specs.Window.{TieRecord};
 ghost use Rattle.layout.specs.Codec.{unpack, tieSection};
-ghost use Rattle.sets.specs.Members.{members, agree, loaded, wordBytes, stored};
+ghost use Rattle.cells.specs.Num.{le};
+ghost use Rattle.sets.specs.Members.{members, agree, loaded, stored};
 ghost use Rattle.sets.specs.Closing.{relation, lowKind, tieOf, tieAt, pulled, passed};
 
 // A set of change numbers: bit c % 64 of word c / 64 says whether c is a member.
@@ -283,7 +284,7 @@ fn word_at(bytes: &[u8], at: usize) -> u64
 // A number as eight bytes at a place, lowest first.
 fn store_word(bytes: &mut [u8], at: usize, w: u64)
     requires { ⌜ at + 8 ≤ length (now bytes) ⌝ }
-    ensures { λ _. ⌜ now (bytes .exit) ≡ paste (now (bytes .entry)) at (wordBytes w) 8 ⌝ }
+    ensures { λ _. ⌜ now (bytes .exit) ≡ paste (now (bytes .entry)) at (le 8 w) 8 ⌝ }
 {
     bytes[at] = (w % 256) as u8;
     bytes[at + 1] = ((w >> 8) % 256) as u8;

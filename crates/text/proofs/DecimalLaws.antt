@@ -10,13 +10,14 @@ use lib.ListN.{length, drop, getD, drop-of-length-le}
 use lib.Seq.{drop-cons}
 use lib.Dec.{eqb, leb}
 use borrow.Author.Tests.{eq-eqb, ne-eqb, le-leb, lt-leb, leb-true, not-true}
+use Rattle.rules.specs.Base.{all}
 use Rattle.rules.proofs.BaseLaws.{and-five, and-false, no-true}
-use Rattle.text.specs.Decimal.{isDigit, allDigits, valueAfter, leadingZero, isNumber, noNumber, number}
+use Rattle.text.specs.Decimal.{isDigit, valueAfter, leadingZero, isNumber, noNumber, number}
 
 -- READING: i bytes of l have been read, all of them digits that say v
 pub record Reading (l : List ℕ) (v i : ℕ) : Type 0 where
   pub within : i ≤ length l
-  pub digits : allDigits (drop i l) ≡ allDigits l
+  pub digits : all isDigit (drop i l) ≡ all isDigit l
   pub value : valueAfter v (drop i l) ≡ valueAfter 0 l
   pub small : v < 10 ^ i
 
@@ -30,21 +31,21 @@ reading-room {l} {v} {i} r h k =
     let ten : 10 ^ i ≤ 10 ^ 9 = pow-le-pow-right (zero-lt-suc 9) few in omega (arith, r .small)
 
 -- a byte that is no digit
-other : {l : List ℕ} {v i : ℕ} → Reading l v i → i < length l → isDigit (getD l i 0) ≡ false → cond (allDigits l) (valueAfter 0 l) noNumber ≡ noNumber
-unfolding allDigits
+other : {l : List ℕ} {v i : ℕ} → Reading l v i → i < length l → isDigit (getD l i 0) ≡ false → cond (all isDigit l) (valueAfter 0 l) noNumber ≡ noNumber
+unfolding all
 other {l} {v} {i} r h e = rw (← r .digits, drop-cons l i 0 h, e) refl
 
-pub reading-low : {l : List ℕ} {v i : ℕ} → Reading l v i → i < length l → getD l i 0 < 48 → cond (allDigits l) (valueAfter 0 l) noNumber ≡ noNumber
+pub reading-low : {l : List ℕ} {v i : ℕ} → Reading l v i → i < length l → getD l i 0 < 48 → cond (all isDigit l) (valueAfter 0 l) noNumber ≡ noNumber
 unfolding isDigit
 reading-low {l} {v} {i} r h k = other r h (rw (lt-leb 48 (getD l i 0) k) refl)
 
-pub reading-high : {l : List ℕ} {v i : ℕ} → Reading l v i → i < length l → 57 < getD l i 0 → cond (allDigits l) (valueAfter 0 l) noNumber ≡ noNumber
+pub reading-high : {l : List ℕ} {v i : ℕ} → Reading l v i → i < length l → 57 < getD l i 0 → cond (all isDigit l) (valueAfter 0 l) noNumber ≡ noNumber
 unfolding isDigit
 reading-high {l} {v} {i} r h k = other r h (rw (lt-leb (getD l i 0) 57 k) (and-false (leb 48 (getD l i 0))))
 
 -- one digit more
 pub reading-next : {l : List ℕ} {v i : ℕ} → Reading l v i → i < length l → 48 ≤ getD l i 0 → getD l i 0 ≤ 57 → Reading l (10 * v + (getD l i 0 - 48)) (i + 1)
-unfolding allDigits valueAfter isDigit
+unfolding all valueAfter isDigit
 reading-next {l} {v} {i} r h a b =
     record {
       within = omega (arith, h);
@@ -54,8 +55,8 @@ reading-next {l} {v} {i} r h a b =
     }
 
 -- all have been read
-pub reading-all : {l : List ℕ} {v i : ℕ} → Reading l v i → length l ≤ i → v ≡ cond (allDigits l) (valueAfter 0 l) noNumber
-unfolding allDigits valueAfter
+pub reading-all : {l : List ℕ} {v i : ℕ} → Reading l v i → length l ≤ i → v ≡ cond (all isDigit l) (valueAfter 0 l) noNumber
+unfolding all valueAfter
 reading-all {l} {v} {i} r h = rw (← r .digits, ← r .value, drop-of-length-le l h) refl
 
 -- NO NUMBER
@@ -64,9 +65,9 @@ unfolding number
 none l f = rw (no-true (isNumber l) f) refl
 
 parts : (l : List ℕ) → isNumber l ≡ true
-    → (allDigits l ≡ true) × (leb 1 (length l) ≡ true) × (leb (length l) 10 ≡ true) × (not (leadingZero l) ≡ true) × (leb (valueAfter 0 l) 4294967295 ≡ true)
+    → (all isDigit l ≡ true) × (leb 1 (length l) ≡ true) × (leb (length l) 10 ≡ true) × (not (leadingZero l) ≡ true) × (leb (valueAfter 0 l) 4294967295 ≡ true)
 unfolding isNumber
-parts l e = and-five (allDigits l) (leb 1 (length l)) (leb (length l) 10) (not (leadingZero l)) (leb (valueAfter 0 l) 4294967295) e
+parts l e = and-five (all isDigit l) (leb 1 (length l)) (leb (length l) 10) (not (leadingZero l)) (leb (valueAfter 0 l) 4294967295) e
 
 -- no digit
 pub number-empty : (l : List ℕ) → length l ≡ 0 → number l ≡ noNumber
@@ -93,15 +94,15 @@ not-leading (x ∷ []) f = and-false (eqb x 48)
 not-leading (x ∷ y ∷ l) f = rw (ne-eqb x 48 (f (omega arith))) refl
 
 -- what the digits say is too high
-pub number-above : (l : List ℕ) (v : ℕ) → v ≡ cond (allDigits l) (valueAfter 0 l) noNumber → 4294967295 < v → number l ≡ noNumber
+pub number-above : (l : List ℕ) (v : ℕ) → v ≡ cond (all isDigit l) (valueAfter 0 l) noNumber → 4294967295 < v → number l ≡ noNumber
 number-above l v e h =
     none l (λ n. let t : v ≡ valueAfter 0 l = e ∙ rw (parts l n .0) refl in omega (arith, leb-true (valueAfter 0 l) 4294967295 (parts l n .4)))
 
 -- A NUMBER: what the digits say, where nothing else is wrong
-pub number-value : (l : List ℕ) (v : ℕ) → v ≡ cond (allDigits l) (valueAfter 0 l) noNumber → 1 ≤ length l → length l ≤ 10 → leadingZero l ≡ false
+pub number-value : (l : List ℕ) (v : ℕ) → v ≡ cond (all isDigit l) (valueAfter 0 l) noNumber → 1 ≤ length l → length l ≤ 10 → leadingZero l ≡ false
     → v ≤ 4294967295 → number l ≡ v
 unfolding number isNumber
-number-value l v e h k z b = rw (le-leb 1 (length l) h, le-leb (length l) 10 k, z) (go (allDigits l) (valueAfter 0 l) e)
+number-value l v e h k z b = rw (le-leb 1 (length l) h, le-leb (length l) 10 k, z) (go (all isDigit l) (valueAfter 0 l) e)
   where
     go : (d : Bool) (n : ℕ) → v ≡ cond d n noNumber → cond (d && true && true && true && leb n 4294967295) n noNumber ≡ v
     go true n t = rw (le-leb n 4294967295 (omega arith)) (sym t)

@@ -8,8 +8,9 @@ use native.Mathlib.Omega.{arith}
 use lib.ListN.{length}
 use lib.Dec.{eqb}
 use borrow.Author.Tests.{ne-eqb, le-leb}
+use Rattle.rules.specs.Base.{all}
 use Rattle.rules.proofs.BaseLaws.{and-false}
-use Rattle.text.specs.Decimal.{isDigit, allDigits, valueAfter, leadingZero, number, digitsBefore, shownBefore}
+use Rattle.text.specs.Decimal.{isDigit, valueAfter, leadingZero, number, digitsBefore, shownBefore}
 use Rattle.text.proofs.DecimalLaws.{number-value}
 use Rattle.text.proofs.ShownLaws.{by-digits}
 
@@ -25,9 +26,9 @@ one-digit : (n : ℕ) → isDigit (48 + n % 10) ≡ true
 unfolding isDigit
 one-digit n = rw (le-leb 48 (48 + n % 10) (omega arith), le-leb (48 + n % 10) 57 (omega arith)) refl
 
-digits-all : (k n : ℕ) (after : List ℕ) → n ≤ k → allDigits (digitsBefore k n after) ≡ allDigits after
-unfolding allDigits
-digits-all = by-digits (λ n after l. allDigits l ≡ allDigits after) (λ after. refl) (λ n after l h e. e ∙ rw (one-digit n) refl)
+digits-all : (k n : ℕ) (after : List ℕ) → n ≤ k → all isDigit (digitsBefore k n after) ≡ all isDigit after
+unfolding all
+digits-all = by-digits (λ n after l. all isDigit l ≡ all isDigit after) (λ after. refl) (λ n after l h e. e ∙ rw (one-digit n) refl)
 
 -- the first of them is not 0
 digits-first : (k n : ℕ) (after : List ℕ) → n ≤ k → (n ≡ 0 → leadingZero after ≡ false) → leadingZero (digitsBefore k n after) ≡ false
@@ -59,11 +60,11 @@ shown-some n after = digits-count n (n / 10) ((48 + n % 10) ∷ after) (omega ar
 
 -- READ BACK
 pub read-back : (n : ℕ) → n < 2 ^ 32 → number (shownBefore n []) ≡ n
-unfolding shownBefore valueAfter allDigits leadingZero
+unfolding shownBefore valueAfter all leadingZero
 read-back n h =
     let d : List ℕ = (48 + n % 10) ∷ [] in
     let less : n / 10 ≤ n = omega arith in
     let value : valueAfter 0 (shownBefore n []) ≡ n = digits-say n (n / 10) d less ∙ omega arith in
-    let all : allDigits (shownBefore n []) ≡ true = digits-all n (n / 10) d less ∙ rw (one-digit n) refl in
-    number-value (shownBefore n []) n (sym (rw all value)) (shown-some n []) (shown-length n 9 [] (omega arith))
+    let each : all isDigit (shownBefore n []) ≡ true = digits-all n (n / 10) d less ∙ rw (one-digit n) refl in
+    number-value (shownBefore n []) n (sym (rw each value)) (shown-some n []) (shown-length n 9 [] (omega arith))
     (digits-first n (n / 10) d less (λ z. and-false (eqb (48 + n % 10) 48))) (omega arith)

@@ -1,5 +1,5 @@
 -- Document 01, "The script program": numbers in decimal, read and printed. Text is a list of bytes. Assumes nothing.
-use mathlib.Core.Bool.{Bool, true, false, not, cond, _&&_}
+use mathlib.Core.Bool.{Bool, false, not, cond, _&&_}
 use mathlib.Core.List.{List, [], _∷_}
 use Prim.Native.Nat.{ℕ, zero, suc, _+_, _-_, _*_, _/_, _%_, _^_}
 use Prim.Native.Char.{code}
@@ -7,6 +7,7 @@ use Prim.Native.String.{String}
 use Prim.Native.String.{[] as empty, _∷_ as _then_}
 use lib.Dec.{eqb, leb}
 use lib.ListN.{length}
+use Rattle.rules.specs.Base.{all}
 
 -- text written out, as its bytes (ASCII)
 unfoldable pub ascii : String → List ℕ
@@ -15,10 +16,6 @@ ascii (c then s) = code c ∷ ascii s
 
 unfoldable pub isDigit : ℕ → Bool
 isDigit b = leb 48 b && leb b 57
-
-unfoldable pub allDigits : List ℕ → Bool
-allDigits [] = true
-allDigits (b ∷ l) = isDigit b && allDigits l
 
 -- what digits say that follow a number already read
 unfoldable pub valueAfter : ℕ → List ℕ → ℕ
@@ -32,7 +29,7 @@ leadingZero (b ∷ l) = eqb b 48 && not (eqb (length l) 0)
 
 -- "the numbers of 1 to 10 digits, none above 4,294,967,295, no leading zero but in 0 itself"
 unfoldable pub isNumber : List ℕ → Bool
-isNumber l = allDigits l && leb 1 (length l) && leb (length l) 10 && not (leadingZero l) && leb (valueAfter 0 l) 4294967295
+isNumber l = all isDigit l && leb 1 (length l) && leb (length l) 10 && not (leadingZero l) && leb (valueAfter 0 l) 4294967295
 
 -- what stands for no number: it is above every number
 unfoldable pub noNumber : ℕ

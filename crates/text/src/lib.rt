@@ -3,8 +3,9 @@ ghost use mathlib.Core.Path.{_≡_};
 ghost use mathlib.Core.Bool.{cond};
 ghost use Prim.Native.Nat.{_+_, _≤_};
 ghost use lib.ListN.{length, drop};
+ghost use Rattle.rules.specs.Base.{all};
 ghost use Rattle.layout.specs.Memory.{sameBytes};
-ghost use Rattle.text.specs.Decimal.{allDigits, valueAfter, noNumber, number as numberOf, shownBefore};
+ghost use Rattle.text.specs.Decimal.{isDigit, valueAfter, noNumber, number as numberOf, shownBefore};
 
 // What stands for no number.
 pub const NO_NUMBER: u64 = 4294967296;
@@ -30,7 +31,7 @@ pub fn same(a: &[u8], b: &[u8]) -> bool
 // What at most ten digits say, or NO_NUMBER where another byte is among them.
 fn digits_value(l: &[u8]) -> u64
     requires { ⌜ length (now l) ≤ 10 ⌝ }
-    ensures { λ r. ⌜ r ≡ cond (allDigits (now (l .entry))) (valueAfter 0 (now (l .entry))) noNumber ⌝ }
+    ensures { λ r. ⌜ r ≡ cond (all isDigit (now (l .entry))) (valueAfter 0 (now (l .entry))) noNumber ⌝ }
 {
     let mut v: u64 = 0;
     let mut i = 0;

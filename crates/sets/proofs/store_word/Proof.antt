@@ -2,8 +2,7 @@
 use native.Mathlib.Omega.{arith}
 use borrow.Author.Needs.{needs}
 use lib.ListN.{length-set}
-use Rattle.sets.specs.Members.{wordBytes}
-use Rattle.sets.proofs.Bytes.{eight-stores}
+use Rattle.sets.proofs.Bytes.{eight-stores, le-eight}
 use Rattle.sets.proofs.store_word.Statement.{statement}
 use Rattle.sets.proofs.store_word.Tie as tie
 
@@ -29,8 +28,7 @@ slice-write-bytes-8 : tie.Need-slice-write-bytes-8
 slice-write-bytes-8 c = simp length-set (omega arith)
 
 returns : tie.Need-returns
-unfolding wordBytes
-returns c = eight-stores (c .args .bytes .now) (c .args .at) _ _ _ _ _ _ _ _ (c .pre)
+returns c = rw (le-eight (c .args .w)) (eight-stores (c .args .bytes .now) (c .args .at) _ _ _ _ _ _ _ _ (c .pre))
 
 pub store-word-spec : {M : Type 1} → statement M
 store-word-spec =
