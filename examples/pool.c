@@ -52,7 +52,7 @@ static void set_up(void)
     done(window_commit(POOL, setup));
 }
 
-static void drain_and_withdraw(uint32_t entry)
+static void hand_over_and_withdraw(uint32_t entry)
 {
     printf("drain entry %u, hand over, withdraw\n", (unsigned)entry);
     uint32_t engineer = show("initiate engineer's", window_initiate(POOL, 0));
@@ -78,7 +78,7 @@ int main(void)
 {
     set_up();
     print_weights();
-    drain_and_withdraw(3);
-    drain_and_withdraw(0);
+    hand_over_and_withdraw(3);
+    hand_over_and_withdraw(0);
     return EXIT_SUCCESS;
 }
