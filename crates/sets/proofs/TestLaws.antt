@@ -1,10 +1,11 @@
 -- What the tests of whole words come to: no member, the same members, the lowest member. Assumes nothing.
-use mathlib.Core.Path.{_≡_, sym, ap, _∙_}
-use mathlib.Core.Bool.{true, false, not, false≢true}
+use mathlib.Core.Path.{_≡_, refl, sym, ap, _∙_}
+use mathlib.Core.Bool.{true, false, not, _&&_, false≢true, and-false}
 use mathlib.Core.List.{List}
 use Prim.Native.Nat.{ℕ, _+_, _*_, _^_, _<_}
+use native.Mathlib.Decide.{ℕ-discrete, decLt}
 use native.Mathlib.Omega.{arith}
-use borrow.Author.Tests.{eq-eqb, eqb-true}
+use borrow.Author.Tests.{eq-eqb, ne-eqb, eqb-true}
 use lib.Bits.{bitOr, bitXor, xor-self}
 use lib.Count.{trailingZeros}
 use lib.Dec.{eqb}
@@ -12,12 +13,13 @@ use lib.ListN.{length, getD}
 use lib.Seq.{ext-getD}
 use Rattle.rules.specs.Base.{anyBelow, allBelow, lowestBelow}
 use Rattle.rules.proofs.BaseLaws.{both-ways, not-true, none-below, anyBelow-none}
+use Rattle.layout.specs.Codec.{unpack}
 use Rattle.sets.specs.Members.{members, agree}
 use Rattle.sets.specs.declared.ChangeSet.{ChangeSet}
-use Rattle.sets.proofs.Digits.{unpack-zero, unpack-ext}
+use Rattle.sets.proofs.Digits.{unpack-zero, unpack-ext, trailing-hit}
 use Rattle.sets.proofs.BoundLaws.{lowest-is}
-use Rattle.sets.proofs.Words.{ofWords, place, each-of-4, or-four, xor-zero, low-at}
-use Rattle.sets.proofs.MemberLaws.{words-none, members-ext, agree-at, agree-all}
+use Rattle.sets.proofs.Words.{ofWords, place, by-words, eqb-iff, each-of-4, or-four, xor-zero, low-at}
+use Rattle.sets.proofs.MemberLaws.{members-above, words-none, members-ext, agree-at, agree-all}
 
 -- the words joined by `|`, and those of two sets by `^` and `|`
 abbrev united : List ℕ → ℕ
@@ -49,6 +51,31 @@ module _ (s : ChangeSet) (len : length (s .words) ≡ 4) (fits : (i : ℕ) → g
   -- where each word is 0 the answer is 256
   pub lowest-nothing : ((i : ℕ) → i < 4 → getD (s .words) i 0 ≡ 0) → 256 ≡ lowestBelow 256 (members s)
   lowest-nothing z = sym (lowest-is (members s) 256 256 (omega arith) (λ q. absurd (omega arith)) (λ k q. words-none s len z k))
+
+  -- without the lowest bit of the first word that is not 0, the words hold all members but the lowest
+  module _ (i v : ℕ) (ws : List ℕ) (h : i < 4) (some : 0 < getD (s .words) i 0) (zeros : (j : ℕ) → j < i → getD (s .words) j 0 ≡ 0)
+      (bits : (j : ℕ) → j < 64 → unpack v j ≡ not (eqb j (trailingZeros 64 (getD (s .words) i 0))) && unpack (getD (s .words) i 0) j)
+      (four : length ws ≡ 4) (here : getD ws i 0 ≡ v) (elsewhere : (g : ℕ) → g < 4 → (g ≡ i → ⊥) → getD ws g 0 ≡ getD (s .words) g 0) where
+    abbrev low : ℕ
+    low = trailingZeros 64 (getD (s .words) i 0)
+
+    word-but : (g : ℕ) → g < 4 → (j : ℕ) → j < 64 → unpack (getD ws g 0) j ≡ not (eqb (64 * g + j) (64 * i + low)) && members s (64 * g + j)
+    word-but g hg j hj = go (ℕ-discrete g i)
+      where
+        go : Dec (g ≡ i) → unpack (getD ws g 0) j ≡ not (eqb (64 * g + j) (64 * i + low)) && members s (64 * g + j)
+        go (yes e) = rw (e, here, place s i j hj, eqb-iff (64 * i + j) (64 * i + low) j low (λ q. omega arith) (λ q. omega arith)) (bits j hj)
+        go (no n) = rw (elsewhere g hg n, place s g j hj, ne-eqb (64 * g + j) (64 * i + low) (λ q. n (omega (arith, trailing-hit 64 (getD (s .words) i 0) (fits i) some .0))))
+
+    pub rest-words : (k : ℕ) → members (ofWords ws) k ≡ not (eqb k (lowestBelow 256 (members s))) && members s k
+    rest-words k = rw (← lowest-word i (64 * i + low) h some zeros refl) (go (decLt k 256))
+      where
+        go : Dec (k < 256) → members (ofWords ws) k ≡ not (eqb k (64 * i + low)) && members s k
+        go (yes l) = by-words (ofWords ws) (λ k. not (eqb k (64 * i + low)) && members s k) word-but k l
+        go (no n) = members-above (ofWords ws) four k (omega arith) ∙ sym (rw (members-above s len k (omega arith), and-false (not (eqb k (64 * i + low)))))
+
+  -- where each word is 0 there is nothing to take away
+  pub rest-nothing : ((i : ℕ) → i < 4 → getD (s .words) i 0 ≡ 0) → (k : ℕ) → members s k ≡ not (eqb k (lowestBelow 256 (members s))) && members s k
+  rest-nothing z k = rw (words-none s len z k, and-false (not (eqb k (lowestBelow 256 (members s)))))
 
 -- the words joined by `^` are all 0 just where the members agree
 pub equal-test : (s t : ChangeSet) → length (s .words) ≡ 4 → length (t .words) ≡ 4 → ((i : ℕ) → getD (s .words) i 0 < 2 ^ 64) → ((i : ℕ) → getD (t .words) i 0 < 2 ^ 64)

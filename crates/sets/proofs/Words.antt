@@ -1,6 +1,6 @@
 -- Four words read as the members of a set: the words of one number, two sets joined word by word, the lowest member, how many there are. Assumes nothing.
 use mathlib.Core.Path.{_≡_, refl, sym, ap, ap₂, _∙_}
-use mathlib.Core.Bool.{Bool, true, false, not, _&&_}
+use mathlib.Core.Bool.{Bool, true, false, not, _&&_, and-comm}
 use mathlib.Core.List.{List, [], _∷_}
 use Prim.Native.Nat.{ℕ, zero, suc, _+_, _-_, _*_, _/_, _%_, _^_, _<_}
 use native.Mathlib.Nat.{mod-eq-of-lt, one-mul}
@@ -29,7 +29,7 @@ pub each-of-4 : (P : ℕ → Type 0) → P 0 → P 1 → P 2 → P 3 → (i : �
 each-of-4 P a b c d = below-more P 3 (below-more P 2 (below-more P 1 (below-more P 0 (below-none P) a) b) c) d
 
 -- two tests of equations that imply each other agree
-eqb-iff : (a b p q : ℕ) → (a ≡ b → p ≡ q) → (p ≡ q → a ≡ b) → eqb a b ≡ eqb p q
+pub eqb-iff : (a b p q : ℕ) → (a ≡ b → p ≡ q) → (p ≡ q → a ≡ b) → eqb a b ≡ eqb p q
 eqb-iff a b p q f g = go (ℕ-discrete a b)
   where
     go : Dec (a ≡ b) → eqb a b ≡ eqb p q
@@ -94,6 +94,12 @@ bit-elsewhere c i j n h = unpack-zero j ∙ sym (ne-eqb (64 * i + j) c (λ q. n 
 -- `a & !b` is a digit of a and not of b
 pub word-minus : (a b : ℕ) → b < 2 ^ 64 → (j : ℕ) → j < 64 → unpack (bitAnd a (2 ^ 64 - 1 - b)) j ≡ unpack a j && not (unpack b j)
 word-minus a b h j l = unpack-and a (2 ^ 64 - 1 - b) j ∙ ap (λ (t : Bool). unpack a j && t) (unpack-not 64 b j h l)
+
+-- `a & !(1 << t)` is a without digit t
+pub word-without : (a t : ℕ) → t < 64 → (j : ℕ) → j < 64 → unpack (bitAnd a (2 ^ 64 - 1 - (1 * 2 ^ t) % 2 ^ 64)) j ≡ not (eqb j t) && unpack a j
+word-without a t h j l =
+    let e : (1 * 2 ^ t) % 2 ^ 64 ≡ 2 ^ t = ap (λ (x : ℕ). x % 2 ^ 64) (one-mul (2 ^ t)) ∙ mod-eq-of-lt (pow-lt h) in
+    rw e (word-minus a (2 ^ t) (pow-lt h) j l ∙ and-comm (unpack a j) _ ∙ rw (unpack-power t j))
 
 -- `|` and `^` that come to 0
 or-zero : (a b : ℕ) → bitOr a b ≡ 0 → (a ≡ 0) × (b ≡ 0)

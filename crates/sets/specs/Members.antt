@@ -10,7 +10,11 @@ use Rattle.rules.specs.Sets.{Set}
 use Rattle.layout.specs.Codec.{pack, unpack}
 use Rattle.sets.specs.declared.ChangeSet.{ChangeSet}
 
--- k is a member: bit k % 64 of word k / 64 is set
+-- k is a member of the set of these words: bit k % 64 of word k / 64 is set
+unfoldable pub wordsHave : List ℕ → Set
+wordsHave ws k = unpack (getD ws (k / 64) 0) (k % 64)
+
+-- k is a member
 unfoldable pub members : ChangeSet → Set
 members s k = unpack (getD (s .words) (k / 64) 0) (k % 64)
 

@@ -3,6 +3,7 @@ ghost use mathlib.Core.Path.{_≡_};
 ghost use mathlib.Core.Bool.{false, not, _||_, _&&_};
 ghost use mathlib.Core.List.{List};
 ghost use Prim.Native.Nat.{ℕ, _+_, _*_, _/_, _%_, _<_, _≤_};
+ghost use lib.Count.{trailingZeros};
 ghost use lib.Dec.{eqb};
 ghost use lib.ListN.{length, getD};
 ghost use lib.Seq.{paste};
@@ -11,7 +12,7 @@ ghost use Rattle.rules.specs.Sets.{closure};
 ghost use Rattle.rules.specs.Window.{TieRecord};
 ghost use Rattle.layout.specs.Codec.{unpack, tieSection};
 ghost use Rattle.cells.specs.Num.{le};
-ghost use Rattle.sets.specs.Members.{members, agree, loaded, stored};
+ghost use Rattle.sets.specs.Members.{members, wordsHave, agree, loaded, stored};
 ghost use Rattle.sets.specs.Closing.{relation, lowKind, tieOf, tieAt, pulled, passed};
 
 // A set of change numbers: bit c % 64 of word c / 64 says whether c is a member.
@@ -136,6 +137,34 @@ impl ChangeSet {
         256
     }
 
+    // The set without its lowest member.
+    pub fn rest(self) -> ChangeSet
+        ensures { λ r. ⌜ ((k : ℕ) → members r k ≡ not (eqb k (lowestBelow 256 (members self))) && members self k) ⌝ }
+    {
+        let w = self.words;
+        if w[0] != 0 {
+            return ChangeSet {
+                words: [without_lowest(w[0]), w[1], w[2], w[3]],
+            };
+        }
+        if w[1] != 0 {
+            return ChangeSet {
+                words: [0, without_lowest(w[1]), w[2], w[3]],
+            };
+        }
+        if w[2] != 0 {
+            return ChangeSet {
+                words: [0, 0, without_lowest(w[2]), w[3]],
+            };
+        }
+        if w[3] != 0 {
+            return ChangeSet {
+                words: [0, 0, 0, without_lowest(w[3])],
+            };
+        }
+        self
+    }
+
     // How many members there are.
     pub fn count(self) -> u32
         ensures { λ r. ⌜ r ≡ countBelow 256 (members self) ⌝ }
@@ -237,6 +266,22 @@ impl ChangeSet {
         }
         self
     }
+}
+
+// Whether c is a member of the set of these words: `has`, where a set is lent and not copied.
+pub fn among(words: &[u64; 4], c: u8) -> bool
+    ensures { λ r. ⌜ r ≡ wordsHave (now (words .entry)) c ⌝ }
+{
+    let i = (c / 64) as usize;
+    (words[i] >> (c % 64)) % 2 == 1
+}
+
+// A word without its lowest bit.
+fn without_lowest(w: u64) -> u64
+    requires { ⌜ 0 < w ⌝ }
+    ensures { λ r. ⌜ ((j : ℕ) → j < 64 → unpack r j ≡ not (eqb j (trailingZeros 64 w)) && unpack w j) ⌝ }
+{
+    w & !(1 << u64::trailing_zeros(w))
 }
 
 // Word `word` of the set of c alone.
