@@ -1,6 +1,6 @@
 -- Ties in bytes as a list of ties, and the least set that none of them adds to as the closure of the rules. Assumes nothing.
 use mathlib.Core.Path.{_≡_, sym, ap, _∙_}
-use mathlib.Core.Bool.{Bool, true, _&&_}
+use mathlib.Core.Bool.{Bool, true, false, _&&_}
 use mathlib.Core.List.{List}
 use mathlib.Core.Logic.{_⊎_, inl, inr, ⊎-elim}
 use Prim.Native.Nat.{ℕ, _+_, _*_, _≤_, _<_}
@@ -18,8 +18,8 @@ use Rattle.layout.proofs.SectionLaws.{length-table}
 use Rattle.layout.proofs.RecordLaws.{placeByte, place-at, first-byte}
 use Rattle.sets.specs.declared.Along.{Along}
 use Rattle.sets.specs.declared.Along.the-variants.{Groups, Falls, Arrows}
-use Rattle.sets.specs.Closing.{relation, lowKind, follows, tieAt, passed}
-use Rattle.sets.proofs.PassLaws.{pulled-follower, pulled-leader, pulled-within, Stable, Growing, growing-on, growing-end}
+use Rattle.sets.specs.Closing.{relation, lowKind, follows, placeFrom, tieAt, tieFrom, passed}
+use Rattle.sets.proofs.PassLaws.{Inside, passed-keeps, pulled-follower, pulled-leader, pulled-within, Stable, Growing, growing-on, growing-end}
 
 -- TIES IN BYTES
 pub length-ties : (ts : List TieRecord) → length (tieSection ts) ≡ 2048
@@ -221,8 +221,21 @@ section-closure along bs ts n seed r bytes room len e g z = stable-closure ts 25
     (record { holds = g .holds; least = λ u w. g .least u (stable-same (lowKind along) n (λ j. getD ts j noTie) (tieAt bs) u (λ j h. sym (section-read bs ts n room e j h)) (rw len at w)) })
     (rw len (stable-same (lowKind along) n (tieAt bs) (λ j. getD ts j noTie) r (section-read bs ts n room e) z))
 
--- what passes over a section come to, the last of which added nothing
-pub closed-section : (along : Along) (low : ℕ) (bs : List ℕ) (ts : List TieRecord) (n : ℕ) (seed s r : Set) → low ≡ lowKind along → ((i : ℕ) → getD bs i 0 < 256) → 4 * n ≤ length bs → length ts ≡ n → bs ≡ tieSection ts
-    → Growing low (tieAt bs) n seed s → r ≡ passed low (tieAt bs) n s → ((k : ℕ) → r k ≡ s k) → (k : ℕ) → r k ≡ closure 256 (relation along ts) seed k
-closed-section along low bs ts n seed s r q bytes room len e g p h = section-closure along bs ts n seed r bytes room len e
-    (rw q at (growing-on low (tieAt bs) n seed s r p g)) (rw q at (growing-end low (tieAt bs) n s r p h))
+-- TWO PASSES OVER THE BYTES, from the first tie on and from the last back: from s to r
+module _ (low : ℕ) (bs : List ℕ) (n : ℕ) (s t r : Set) (p : t ≡ passed low (tieFrom false bs n) n s) (q : r ≡ passed low (tieFrom true bs n) n t) where
+  -- the members stay
+  pub turn-keeps : Inside s r
+  turn-keeps k e = rw q (passed-keeps low (tieFrom true bs n) n t k (rw p (passed-keeps low (tieFrom false bs n) n s k e)))
+
+  -- what grew from a seed still grows from it
+  pub turn-grows : (seed : Set) → Growing low (tieAt bs) n seed s → Growing low (tieAt bs) n seed r
+  unfolding tieFrom
+  turn-grows seed g = growing-on low (tieAt bs) n true seed t r q (growing-on low (tieAt bs) n false seed s t p g)
+
+  -- where they add nothing they have come to the closure
+  pub closed-section : (along : Along) (ts : List TieRecord) (seed : Set) → low ≡ lowKind along → ((i : ℕ) → getD bs i 0 < 256) → 4 * n ≤ length bs → length ts ≡ n → bs ≡ tieSection ts
+      → Growing low (tieAt bs) n seed s → ((k : ℕ) → r k ≡ s k) → (k : ℕ) → r k ≡ closure 256 (relation along ts) seed k
+  unfolding tieFrom placeFrom
+  closed-section along ts seed e bytes room len eb g h = section-closure along bs ts n seed r bytes room len eb
+      (rw e at (turn-grows seed g))
+      (rw e at (growing-end low (tieAt bs) n s r (λ k w. rw q (passed-keeps low (tieFrom true bs n) n t k (rw p w))) h))

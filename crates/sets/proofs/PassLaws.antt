@@ -11,9 +11,9 @@ use Rattle.rules.specs.Base.{countBelow, allBelow}
 use Rattle.rules.specs.Sets.{Set}
 use Rattle.rules.specs.Window.{TieRecord}
 use Rattle.rules.specs.Ties.{isGroup}
-use Rattle.rules.proofs.BaseLaws.{or-left, or-right, or-cases, and-both, and-left, and-right, both-ways, eqb-eq, eqb-same, count-same, count-le, Within, Below, under, over, below, Same, same, other, same?}
+use Rattle.rules.proofs.BaseLaws.{or-left, or-right, or-cases, and-both, and-left, and-right, both-ways, eqb-eq, eqb-same, count-same, count-le, Below, under, over, below, Same, same, other, same?}
 use Rattle.sets.specs.Members.{agree}
-use Rattle.sets.specs.Closing.{follows, pulled, passed}
+use Rattle.sets.specs.Closing.{follows, placeFrom, pulled, passed}
 use Rattle.sets.proofs.MemberLaws.{agree-all}
 
 -- a member of the one is a member of the other
@@ -112,28 +112,31 @@ pub record Growing (low : ℕ) (t : ℕ → TieRecord) (n : ℕ) (seed s : Set) 
   pub holds : Inside seed s
   pub least : (u : Set) → Stable low t n u → Inside seed u → Inside s u
 
+-- a pass comes to places below the count
+pub place-below : (back : Bool) (n j : ℕ) → j < n → placeFrom back n j < n
+unfolding placeFrom
+place-below true n j h = omega arith
+place-below false n j h = h
+
 module _ (low : ℕ) (t : ℕ → TieRecord) (n : ℕ) where
   pub growing-start : (s : Set) → Growing low t n s s
   growing-start s = record { holds = λ k e. e; least = λ u z w. w }
 
-  -- a pass more
-  pub growing-on : (seed s r : Set) → r ≡ passed low t n s → Growing low t n seed s → Growing low t n seed r
-  growing-on seed s r e g = record {
-    holds = λ k q. rw e (passed-keeps low t n s k (g .holds k q));
-    least = λ u z w. rw e (passed-within low t n s u z (g .least u z w));
+  -- a pass more, from the first tie on or from the last back
+  pub growing-on : (back : Bool) (seed s r : Set) → r ≡ passed low (λ j. t (placeFrom back n j)) n s → Growing low t n seed s → Growing low t n seed r
+  growing-on back seed s r e g = record {
+    holds = λ k q. rw e (passed-keeps low (λ j. t (placeFrom back n j)) n s k (g .holds k q));
+    least = λ u z w. rw e (passed-within low (λ j. t (placeFrom back n j)) n s u (λ i l. z (placeFrom back n i) (place-below back n i l)) (g .least u z w));
   }
 
-  -- a pass that adds something leaves fewer to add
-  pub growing-less : (m : ℕ) (s r : Set) → r ≡ passed low t n s → (b : Bool) → b ≡ allBelow m (agree r s) → b ≡ false → m - countBelow m r < m - countBelow m s
-  growing-less m s r e b eb q = go (below (countBelow m s) (countBelow m r))
+  -- more members leave fewer to add
+  pub growing-less : (m : ℕ) (s r : Set) → Inside s r → (b : Bool) → b ≡ allBelow m (agree r s) → b ≡ false → m - countBelow m r < m - countBelow m s
+  growing-less m s r keeps b eb q = go (below (countBelow m s) (countBelow m r))
     where
-      keeps : Within m s r
-      keeps k h p = rw e (passed-keeps low t n s k p)
-
       go : {x : Bool} → Below (countBelow m s) (countBelow m r) x → m - countBelow m r < m - countBelow m s
       go (under l) = omega (arith, count-le m r)
-      go (over l) = absurd (false≢true (sym q ∙ eb ∙ agree-all m r s (λ k h. both-ways (r k) (s k) (count-same m s r keeps l k h) (keeps k h))))
+      go (over l) = absurd (false≢true (sym q ∙ eb ∙ agree-all m r s (λ k h. both-ways (r k) (s k) (count-same m s r (λ k h. keeps k) l k h) (keeps k))))
 
-  -- a pass that adds nothing has come to the least stable set
-  pub growing-end : (s r : Set) → r ≡ passed low t n s → ((k : ℕ) → r k ≡ s k) → Stable low t n r
-  growing-end s r e h = let q : s ≡ r = fun-ext (λ k. sym (h k)) in rw (← q) (passed-stable low t n s (λ k p. sym (h k) ∙ (rw e p)))
+  -- a set in which a pass over it lies is stable
+  pub growing-end : (s r : Set) → Inside (passed low t n s) r → ((k : ℕ) → r k ≡ s k) → Stable low t n r
+  growing-end s r w h = let q : s ≡ r = fun-ext (λ k. sym (h k)) in rw (← q) (passed-stable low t n s (λ k p. sym (h k) ∙ w k p))

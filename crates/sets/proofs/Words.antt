@@ -1,6 +1,6 @@
 -- Four words read as the members of a set: the words of one number, two sets joined word by word, the lowest member, how many there are. Assumes nothing.
 use mathlib.Core.Path.{_≡_, refl, sym, ap, ap₂, _∙_}
-use mathlib.Core.Bool.{Bool, true, false, not, _&&_, and-comm}
+use mathlib.Core.Bool.{Bool, true, false, not, _&&_, _||_, and-comm, or-comm}
 use mathlib.Core.List.{List, [], _∷_}
 use Prim.Native.Nat.{ℕ, zero, suc, _+_, _-_, _*_, _/_, _%_, _^_, _<_}
 use native.Mathlib.Nat.{mod-eq-of-lt, one-mul}
@@ -11,13 +11,14 @@ use borrow.Author.Tests.{eq-eqb, ne-eqb}
 use lib.Bits.{bitAnd, bitOr, bitXor, or-add-and, xor-add-and, and-le-l, and-le-r}
 use lib.Count.{ones, ones-step, ones-le, trailingZeros}
 use lib.Dec.{eqb}
-use lib.ListN.{length, getD, List·getD-eq-default}
+use lib.ListN.{length, getD, set, List·getD-eq-default}
 use lib.Pow.{pow-lt}
+use lib.Seq.{getD-set-same, getD-set-other}
 use Rattle.rules.specs.Base.{countBelow}
 use Rattle.layout.specs.Codec.{bit, unpack}
-use Rattle.sets.specs.Members.{members}
+use Rattle.sets.specs.Members.{members, wordsHave}
 use Rattle.sets.specs.declared.ChangeSet.{ChangeSet}
-use Rattle.sets.proofs.Digits.{Digit, none, one, digit, unpack-first, unpack-next, unpack-zero, unpack-power, unpack-and, unpack-not, trailing-hit, trailing-below}
+use Rattle.sets.proofs.Digits.{Digit, none, one, digit, unpack-first, unpack-next, unpack-zero, unpack-power, unpack-or, unpack-and, unpack-not, trailing-hit, trailing-below}
 use Rattle.sets.proofs.BoundLaws.{count-ext, count-add, count-first}
 
 -- the set of these words
@@ -90,6 +91,20 @@ bit-here c i j e h =
 -- the others are 0
 pub bit-elsewhere : (c i j : ℕ) → (c / 64 ≡ i → ⊥) → j < 64 → unpack 0 j ≡ eqb (64 * i + j) c
 bit-elsewhere c i j n h = unpack-zero j ∙ sym (ne-eqb (64 * i + j) c (λ q. n (omega arith)))
+
+-- the words with the digit of c
+pub insert-word : (ws : List ℕ) (c : ℕ) → c / 64 < length ws → (k : ℕ) → wordsHave (set ws (c / 64) (bitOr (getD ws (c / 64) 0) ((1 * 2 ^ (c % 64)) % 2 ^ 64))) k ≡ eqb k c || wordsHave ws k
+unfolding wordsHave
+insert-word ws c h k = go (ℕ-discrete (k / 64) (c / 64))
+  where
+    go : Dec (k / 64 ≡ c / 64) → unpack (getD (set ws (c / 64) (bitOr (getD ws (c / 64) 0) ((1 * 2 ^ (c % 64)) % 2 ^ 64))) (k / 64) 0) (k % 64) ≡ eqb k c || unpack (getD ws (k / 64) 0) (k % 64)
+    go (yes e) =
+        let q : 64 * (c / 64) + k % 64 ≡ k = omega arith in
+        rw (e, getD-set-same ws (c / 64) _ 0 h)
+        (unpack-or (getD ws (c / 64) 0) ((1 * 2 ^ (c % 64)) % 2 ^ 64) (k % 64)
+        ∙ or-comm (unpack (getD ws (c / 64) 0) (k % 64)) _
+        ∙ ap (λ (t : Bool). t || unpack (getD ws (c / 64) 0) (k % 64)) (bit-here c (c / 64) (k % 64) refl (omega arith) ∙ ap (λ (x : ℕ). eqb x c) q))
+    go (no n) = rw (getD-set-other ws (c / 64) (k / 64) _ 0 n, ne-eqb k c (λ e. n (ap (λ (x : ℕ). x / 64) e)))
 
 -- `a & !b` is a digit of a and not of b
 pub word-minus : (a b : ℕ) → b < 2 ^ 64 → (j : ℕ) → j < 64 → unpack (bitAnd a (2 ^ 64 - 1 - b)) j ≡ unpack a j && not (unpack b j)

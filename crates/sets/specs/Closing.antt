@@ -1,7 +1,7 @@
 -- The least set that holds a set and is closed under ties, a bound on the ties' ends, and one pass over ties in bytes. Assumes nothing.
-use mathlib.Core.Bool.{Bool, _&&_, _||_}
+use mathlib.Core.Bool.{Bool, cond, _&&_, _||_}
 use mathlib.Core.List.{List}
-use Prim.Native.Nat.{ℕ, zero, suc, _+_, _*_}
+use Prim.Native.Nat.{ℕ, zero, suc, _+_, _-_, _*_}
 use lib.Dec.{leb, ltb, eqb}
 use lib.ListN.{getD}
 use Rattle.rules.specs.Base.{all}
@@ -37,6 +37,13 @@ tieOf kind leader follower = record { kind = kind; leader = leader; follower = f
 
 unfoldable pub tieAt : List ℕ → ℕ → TieRecord
 tieAt bs j = tieOf (getD bs (j * 4) 0) (getD bs (j * 4 + 1) 0) (getD bs (j * 4 + 2) 0)
+
+-- the place that a pass over n ties comes to after j others: from the first on, or from the last back; and the tie there
+unfoldable pub placeFrom : Bool → ℕ → ℕ → ℕ
+placeFrom back n j = cond back (n - 1 - j) j
+
+unfoldable pub tieFrom : Bool → List ℕ → ℕ → ℕ → TieRecord
+tieFrom back bs n j = tieAt bs (placeFrom back n j)
 
 -- what one tie adds: its follower where it is gone along and the leader is a member, and a group tie's leader where the follower is one
 unfoldable pub pulled : ℕ → TieRecord → Set → Set

@@ -13,7 +13,7 @@ ghost use Rattle.rules.specs.Window.{TieRecord};
 ghost use Rattle.layout.specs.Codec.{unpack, tieSection};
 ghost use Rattle.cells.specs.Num.{le};
 ghost use Rattle.sets.specs.Members.{members, wordsHave, agree, loaded, stored};
-ghost use Rattle.sets.specs.Closing.{relation, lowKind, tieOf, tieAt, pulled, passed};
+ghost use Rattle.sets.specs.Closing.{relation, lowKind, tieOf, placeFrom, tieFrom, pulled, passed};
 
 // A set of change numbers: bit c % 64 of word c / 64 says whether c is a member.
 pub struct ChangeSet {
@@ -219,52 +219,16 @@ impl ChangeSet {
         ensures { λ r. ⌜ ((ts : List TieRecord) → length ts ≡ count → now (ties .entry) ≡ tieSection ts → (k : ℕ) → members r k ≡ closure 256 (relation along ts) (members self) k) ⌝ }
     {
         let low = low_kind(along);
-        let mut s = self;
+        let mut words = self.words;
         loop {
-            let t = s.pass(ties, count, low);
-            if t.equal(s) {
-                return t;
-            }
-            s = t;
-        }
-    }
-
-    // The set after one pass over the ties.
-    fn pass(self, ties: &[u8], count: usize, low: u8) -> ChangeSet
-        requires { ⌜ 4 * count ≤ length (now ties) ⌝ }
-        ensures { λ r. ⌜ members r ≡ passed low (tieAt (now (ties .entry))) count (members self) ⌝ }
-    {
-        let mut s = self;
-        let mut j: usize = 0;
-        while j < count {
-            let at = j * 4;
-            s = s.pull(low, ties[at], ties[at + 1], ties[at + 2]);
-            j += 1;
-        }
-        s
-    }
-
-    // The set after one tie.
-    fn pull(self, low: u8, kind: u8, leader: u8, follower: u8) -> ChangeSet
-        ensures { λ r. ⌜ members r ≡ pulled low (tieOf kind leader follower) (members self) ⌝ }
-    {
-        if self.has(leader) {
-            if self.has(follower) {
-                return self;
-            }
-            if low <= kind {
-                if kind <= 3 {
-                    return self.add(follower);
-                }
-            }
-            return self;
-        }
-        if kind == 3 {
-            if self.has(follower) {
-                return self.add(leader);
+            let before = ChangeSet { words };
+            pass(&mut words, ties, count, low, false);
+            pass(&mut words, ties, count, low, true);
+            let after = ChangeSet { words };
+            if after.equal(before) {
+                return after;
             }
         }
-        self
     }
 }
 
@@ -274,6 +238,60 @@ pub fn among(words: &[u64; 4], c: u8) -> bool
 {
     let i = (c / 64) as usize;
     (words[i] >> (c % 64)) % 2 == 1
+}
+
+// c becomes a member of the set of these words.
+fn insert(words: &mut [u64; 4], c: u8)
+    requires { ⌜ length (now words) ≡ 4 ⌝ }
+    ensures { λ _. ⌜ length (now (words .exit)) ≡ 4 ⌝ }
+    ensures { λ _. ⌜ ((k : ℕ) → wordsHave (now (words .exit)) k ≡ eqb k c || wordsHave (now (words .entry)) k) ⌝ }
+{
+    let i = (c / 64) as usize;
+    words[i] = words[i] | (1 << (c % 64));
+}
+
+// What one tie adds to the set of these words.
+fn pull(words: &mut [u64; 4], low: u8, kind: u8, leader: u8, follower: u8)
+    requires { ⌜ length (now words) ≡ 4 ⌝ }
+    ensures { λ _. ⌜ length (now (words .exit)) ≡ 4 ⌝ }
+    ensures { λ _. ⌜ wordsHave (now (words .exit)) ≡ pulled low (tieOf kind leader follower) (wordsHave (now (words .entry))) ⌝ }
+{
+    if among(words, leader) {
+        if low <= kind {
+            if kind <= 3 {
+                insert(words, follower);
+            }
+        }
+        return;
+    }
+    if kind == 3 {
+        if among(words, follower) {
+            insert(words, leader);
+        }
+    }
+}
+
+// The place that a pass comes to after so many others: from the first tie on, or from the last one back.
+fn place(passed: usize, count: usize, back: bool) -> usize
+    requires { ⌜ passed < count ⌝ }
+    ensures { λ r. ⌜ r ≡ placeFrom back count passed ⌝ }
+{
+    if back { count - 1 - passed } else { passed }
+}
+
+// What one pass over the ties adds to the set of these words.
+fn pass(words: &mut [u64; 4], ties: &[u8], count: usize, low: u8, back: bool)
+    requires { ⌜ length (now words) ≡ 4 ⌝ }
+    requires { ⌜ 4 * count ≤ length (now ties) ⌝ }
+    ensures { λ _. ⌜ length (now (words .exit)) ≡ 4 ⌝ }
+    ensures { λ _. ⌜ wordsHave (now (words .exit)) ≡ passed low (tieFrom back (now (ties .entry)) count) count (wordsHave (now (words .entry))) ⌝ }
+{
+    let mut j: usize = 0;
+    while j < count {
+        let at = place(j, count, back) * 4;
+        pull(words, low, ties[at], ties[at + 1], ties[at + 2]);
+        j += 1;
+    }
 }
 
 // A word without its lowest bit.
