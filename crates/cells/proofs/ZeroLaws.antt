@@ -1,8 +1,8 @@
 -- A range of bytes that is zero. Assumes nothing.
-use mathlib.Core.Path.{_≡_, refl, sym, ap, _∙_}
+use mathlib.Core.Path.{_≡_, refl, sym, _∙_}
 use mathlib.Core.Bool.{Bool, true, false, not, _&&_, false≢true}
 use mathlib.Core.List.{List}
-use Prim.Native.Nat.{ℕ, zero, suc, _+_, _-_, _≤_, _<_}
+use Prim.Native.Nat.{ℕ, _+_, _-_, _≤_, _<_}
 use native.Mathlib.Numerals.{add-one}
 use native.Mathlib.Omega.{arith}
 use lib.ListN.{getD}
@@ -10,7 +10,7 @@ use lib.Dec.{eqb}
 use lib.Bits.{bitOr, or-add-and, and-le-l, and-le-r}
 use borrow.Author.Tests.{eq-eqb, ne-eqb, eqb-true, eqb-false}
 use Rattle.rules.specs.Base.{allBelow}
-use Rattle.rules.proofs.BaseLaws.{no-true, not-true, not-false, allBelow-intro, allBelow-at}
+use Rattle.rules.proofs.BaseLaws.{no-true, both-ways, Below, under, over, below, not-true, not-false, allBelow-intro, allBelow-at}
 use Rattle.cells.specs.Part.{zeroAt}
 
 -- an or is zero where both are
@@ -24,37 +24,6 @@ pub zero-more : (l : List ℕ) (at i acc : ℕ) → eqb acc 0 ≡ allBelow i (ze
 unfolding allBelow zeroAt
 zero-more l at i acc e = rw add-one (or-zero acc (getD l (at + i) 0) (allBelow i (zeroAt l at)) (eqb (getD l (at + i) 0) 0) e refl)
 
--- after bytes that are zero: the test goes on from where they end
-zeros-on : (l : List ℕ) (from mid n : ℕ) → from ≤ mid → allBelow (mid - from) (zeroAt l from) ≡ true
-    → allBelow (mid + n - from) (zeroAt l from) ≡ allBelow n (zeroAt l mid)
-unfolding allBelow zeroAt
-zeros-on l from mid zero h e =
-    let none : mid + 0 - from ≡ mid - from = omega arith in ap (λ (k : ℕ). allBelow k (zeroAt l from)) none ∙ e
-zeros-on l from mid (suc n) h e =
-    let more : mid + suc n - from ≡ suc (mid + n - from) = omega arith in
-    let here : from + (mid + n - from) ≡ mid + n = omega arith in
-    ap (λ (k : ℕ). allBelow k (zeroAt l from)) more
-    ∙ ap (λ (b : Bool). b && eqb (getD l (from + (mid + n - from)) 0) 0) (zeros-on l from mid n h e)
-    ∙ ap (λ (k : ℕ). allBelow n (zeroAt l mid) && eqb (getD l k 0) 0) here
-
-pub zeros-rest : (l : List ℕ) (from mid to : ℕ) → from ≤ mid → mid ≤ to → allBelow (mid - from) (zeroAt l from) ≡ true
-    → allBelow (to - mid) (zeroAt l mid) ≡ allBelow (to - from) (zeroAt l from)
-zeros-rest l from mid to h k e =
-    let whole : mid + (to - mid) ≡ to = omega arith in
-    sym (zeros-on l from mid (to - mid) h e) ∙ ap (λ (m : ℕ). allBelow (m - from) (zeroAt l from)) whole
-
--- a block that passes, and one that does not; r is what the code found of it
-pub block-passed : (l : List ℕ) (from mid n : ℕ) (r : Bool) → from ≤ mid → allBelow (mid - from) (zeroAt l from) ≡ true
-    → r ≡ allBelow n (zeroAt l mid) → not r ≡ false → allBelow (mid + n - from) (zeroAt l from) ≡ true
-block-passed l from mid n r h e f t = zeros-on l from mid n h e ∙ sym f ∙ not-false r t
-
-pub block-failed : (l : List ℕ) (from mid n to : ℕ) (r : Bool) → from ≤ mid → mid ≤ to → n ≤ to - mid → allBelow (mid - from) (zeroAt l from) ≡ true
-    → r ≡ allBelow n (zeroAt l mid) → not r ≡ true → false ≡ allBelow (to - from) (zeroAt l from)
-block-failed l from mid n to r h k m e f t =
-    let first : allBelow (to - mid) (zeroAt l mid) ≡ true → allBelow n (zeroAt l mid) ≡ true
-    = λ a. allBelow-intro n (zeroAt l mid) (λ i x. allBelow-at (to - mid) (zeroAt l mid) a i (omega arith)) in
-    sym (no-true (allBelow (to - mid) (zeroAt l mid)) (λ a. false≢true (sym (not-true r t) ∙ f ∙ first a))) ∙ zeros-rest l from mid to h k e
-
 -- the test, by elements: what it shows
 pub zeros-at : (l : List ℕ) (from to : ℕ) → allBelow (to - from) (zeroAt l from) ≡ true → (i : ℕ) → from ≤ i → i < to → getD l i 0 ≡ 0
 unfolding zeroAt
@@ -66,3 +35,36 @@ zeros-at l from to e i h k =
 pub zeros-all : (l : List ℕ) (from to : ℕ) → ((i : ℕ) → from ≤ i → i < to → getD l i 0 ≡ 0) → allBelow (to - from) (zeroAt l from) ≡ true
 unfolding zeroAt
 zeros-all l from to f = allBelow-intro (to - from) (zeroAt l from) (λ i h. eq-eqb (getD l (from + i) 0) 0 (f (from + i) (omega arith) (omega arith)))
+
+-- after bytes that are zero up to mid: the test from a byte that is not past mid says what the whole one says
+zeros-rest : (l : List ℕ) (from last mid to : ℕ) → from ≤ last → last ≤ mid → mid ≤ to → allBelow (mid - from) (zeroAt l from) ≡ true
+    → allBelow (to - last) (zeroAt l last) ≡ allBelow (to - from) (zeroAt l from)
+zeros-rest l from last mid to h k m e =
+    both-ways _ _ (λ r. zeros-all l from to (λ i x y. go r i x y (below i mid))) (λ r. zeros-all l last to (λ i x y. zeros-at l from to r i (omega arith) y))
+  where
+    go : allBelow (to - last) (zeroAt l last) ≡ true → (i : ℕ) → from ≤ i → i < to → {b : Bool} → Below i mid b → getD l i 0 ≡ 0
+    go r i x y (under z) = zeros-at l from mid e i x z
+    go r i x y (over z) = zeros-at l last to r i (omega arith) y
+
+-- what the code found of a block, r, by where the block begins and ends
+block : (l : List ℕ) (at n : ℕ) (r : Bool) → r ≡ allBelow n (zeroAt l at) → r ≡ allBelow (at + n - at) (zeroAt l at)
+block l at n r f = let size : at + n - at ≡ n = omega arith in rw size f
+
+-- a block that passes
+pub block-passed : (l : List ℕ) (from mid n : ℕ) (r : Bool) → from ≤ mid → allBelow (mid - from) (zeroAt l from) ≡ true
+    → r ≡ allBelow n (zeroAt l mid) → not r ≡ false → allBelow (mid + n - from) (zeroAt l from) ≡ true
+block-passed l from mid n r h e f t = sym (zeros-rest l from mid mid (mid + n) h (omega arith) (omega arith) e) ∙ sym (block l mid n r f) ∙ not-false r t
+
+-- one that does not
+pub block-failed : (l : List ℕ) (from mid n to : ℕ) (r : Bool) → from ≤ mid → mid + n ≤ to
+    → r ≡ allBelow n (zeroAt l mid) → not r ≡ true → false ≡ allBelow (to - from) (zeroAt l from)
+block-failed l from mid n to r h k f t =
+    sym (no-true (allBelow (to - from) (zeroAt l from)) (λ a.
+    false≢true (sym (not-true r t) ∙ block l mid n r f ∙ zeros-all l mid (mid + n) (λ i x y. zeros-at l from to a i (omega arith) (omega arith)))))
+
+-- the last one, which may begin among the bytes that are zero
+pub block-last : (l : List ℕ) (from mid n to : ℕ) (r : Bool) → from + n ≤ to → to ≤ mid + n → mid ≤ to → allBelow (mid - from) (zeroAt l from) ≡ true
+    → r ≡ allBelow n (zeroAt l (to - n)) → r ≡ allBelow (to - from) (zeroAt l from)
+block-last l from mid n to r h k m e f =
+    let ends : to - n + n ≡ to = omega arith in
+    rw ends at (block l (to - n) n r f) ∙ zeros-rest l from (to - n) mid to (omega arith) (omega arith) m e

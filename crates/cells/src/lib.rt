@@ -6,6 +6,9 @@ ghost use Rattle.rules.specs.Base.{allBelow};
 ghost use Rattle.cells.specs.Part.{part, patch, zeroAt};
 ghost use Rattle.cells.specs.Num.{le, num};
 
+// How many bytes are looked at together where zeros are looked for.
+const BLOCK: usize = 512;
+
 // The number of two bytes, the lowest first.
 fn join2(a: u8, b: u8) -> u16
     ensures { λ r. ⌜ r ≡ a + 256 * b ⌝ }
@@ -109,18 +112,22 @@ fn run_zero(s: &[u8], at: usize, n: usize) -> bool
     acc == 0
 }
 
-// Whether every byte from an index up to another is 0: block by block, to the first that is not, and then the rest.
+// Whether every byte from an index up to another is 0: block by block, to the first that is not. The last block ends at `to`
+// and may overlap the one before it, so that there is no rest of another length; fewer bytes than a block are looked at as they are.
 pub fn all_zero(s: &[u8], from: usize, to: usize) -> bool
     requires { ⌜ from ≤ to ⌝ }
     requires { ⌜ to ≤ length (now s) ⌝ }
     ensures { λ r. ⌜ r ≡ allBelow (to - from) (zeroAt (now (s .entry)) from) ⌝ }
 {
+    if to - from < BLOCK {
+        return run_zero(s, from, to - from);
+    }
     let mut i = from;
-    while 256 <= to - i {
-        if !run_zero(s, i, 256) {
+    while BLOCK < to - i {
+        if !run_zero(s, i, BLOCK) {
             return false;
         }
-        i += 256;
+        i += BLOCK;
     }
-    run_zero(s, i, to - i)
+    run_zero(s, to - BLOCK, BLOCK)
 }

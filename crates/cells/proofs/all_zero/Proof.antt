@@ -1,5 +1,5 @@
--- `cells::all_zero` meets its contract: all bytes below i are 0. Assumes nothing.
-use mathlib.Core.Path.{_≡_, refl, _∙_}
+-- `cells::all_zero` meets its contract: all bytes below i are 0, and the last block has those that are left. Assumes nothing.
+use mathlib.Core.Path.{_≡_, refl}
 use mathlib.Core.Bool.{true}
 use Prim.Native.Nat.{_-_, _≤_}
 use native.Mathlib.Nat.{sub-self}
@@ -7,7 +7,7 @@ use native.Mathlib.Omega.{arith}
 use borrow.Author.Needs.{needs}
 use Rattle.rules.specs.Base.{allBelow}
 use Rattle.cells.specs.Part.{zeroAt}
-use Rattle.cells.proofs.ZeroLaws.{zeros-rest, block-passed, block-failed}
+use Rattle.cells.proofs.ZeroLaws.{block-passed, block-failed, block-last}
 use Rattle.cells.proofs.all_zero.Statement.{statement}
 use Rattle.cells.proofs.all_zero.Tie as tie
 
@@ -19,22 +19,22 @@ abbrev μ-loop : tie.MeasureT-loop
 
 loop-holds : tie.Need-loop-holds Inv-loop μ-loop
 unfolding allBelow
-loop-holds c = (search needs, c .before .pre .0, rw (sub-self (c .before .args .from)) refl)
-
-returns : tie.Need-returns Inv-loop μ-loop
-returns c =
-    let l = c .before .before .before .loop in let a = c .before .before .before .before .before .args in
-    block-failed (a .s .now) (a .from) (l .i) 256 (a .to) _ (l .inv .0) (l .inv .1) (omega arith) (l .inv .2) (c .before .run-zero .ensures) (c .if1 .taken)
-
-loop-again : tie.Need-loop-again Inv-loop μ-loop
-loop-again c =
-    let l = c .before .before .before .loop in let a = c .before .before .before .before .before .args in
-    (search needs, search needs, block-passed (a .s .now) (a .from) (l .i) 256 _ (l .inv .0) (l .inv .2) (c .before .run-zero .ensures) (c .if1 .left))
+loop-holds c = (search needs, search needs, rw (sub-self (c .before .before .args .from)) refl)
 
 returns-2 : tie.Need-returns-2 Inv-loop μ-loop
 returns-2 c =
-    let l = c .before .before .loop in let a = c .before .before .before .before .args in
-    c .run-zero2 .ensures ∙ zeros-rest (a .s .now) (a .from) (l .i) (a .to) (l .inv .0) (l .inv .1) (l .inv .2)
+    let l = c .before .before .before .loop in let a = c .before .before .before .before .before .before .args in
+    block-failed (a .s .now) (a .from) (l .i) 512 (a .to) _ (l .inv .0) (omega arith) (c .before .run-zero2 .ensures) (c .if2 .taken)
+
+loop-again : tie.Need-loop-again Inv-loop μ-loop
+loop-again c =
+    let l = c .before .before .before .loop in let a = c .before .before .before .before .before .before .args in
+    (search needs, search needs, block-passed (a .s .now) (a .from) (l .i) 512 _ (l .inv .0) (l .inv .2) (c .before .run-zero2 .ensures) (c .if2 .left))
+
+returns-3 : tie.Need-returns-3 Inv-loop μ-loop
+returns-3 c =
+    let l = c .before .before .loop in let a = c .before .before .before .before .before .args in
+    block-last (a .s .now) (a .from) (l .i) 512 (a .to) _ (omega arith) (omega arith) (l .inv .1) (l .inv .2) (c .run-zero3 .ensures)
 
 pub all-zero-spec : {M : Type 1} → statement M
 all-zero-spec =
@@ -42,13 +42,17 @@ all-zero-spec =
     (tie.spec
     Inv-loop
     μ-loop
+    (λ c. search needs)
+    (λ c. search needs)
+    (λ c κs. search needs)
+    (λ c. c .run-zero .ensures)
     loop-holds
     (λ c. search needs)
     (λ c κs. search needs)
-    returns
+    returns-2
     (λ c. search needs)
     (λ c. search needs)
     loop-again
     (λ c. search needs)
     (λ c κs. search needs)
-    returns-2)
+    returns-3)
