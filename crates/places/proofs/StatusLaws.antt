@@ -1,52 +1,29 @@
 -- Statuses of a set of changes, and the changes of some statuses: one turn of the loops, and their ends. Assumes nothing.
-use mathlib.Core.Path.{_≡_, refl, sym, ap, _∙_, fun-ext}
-use mathlib.Core.Bool.{Bool, true, false, not, cond, _&&_, _||_}
-use mathlib.Core.List.{List}
-use Prim.Native.Nat.{ℕ, suc, _+_, _*_, _≤_, _<_}
+use mathlib.Core.Path.{_≡_, refl, sym, ap, ap₂, _∙_, fun-ext}
+use mathlib.Core.Bool.{Bool, true, false, not, cond, _&&_, _||_, and-true}
+use mathlib.Core.List.{List, [], _∷_}
+use Prim.Native.Nat.{ℕ, suc, _+_, _-_, _*_, _%_, _^_, _≤_, _<_, min, max}
+use native.Mathlib.Nat.{zero-mul, one-mul}
+use native.Mathlib.Decide.{decLt}
 use native.Mathlib.Omega.{arith}
 use native.Mathlib.Numerals.{add-one}
 use lib.Dec.{ltb, eqb}
+use lib.Bits.{bitOr}
+use borrow.Author.Tests.{eq-eqb}
 use lib.ListN.{getD}
 use Rattle.rules.specs.Base.{put, outside}
 use Rattle.rules.specs.Sets.{Set}
 use Rattle.rules.specs.Window.{Window}
 use Rattle.rules.specs.Effects.{endAll}
-use Rattle.rules.proofs.BaseLaws.{Same, same, other, same?, ltb-true, ltb-false, Below, under, over, below, or-true, and-false, and-right}
-use Rattle.layout.specs.Codec.{changeSection}
+use Rattle.rules.proofs.BaseLaws.{Same, same, other, same?, ltb-true, ltb-false, Below, under, over, below, and-false, and-right, or-comm, both-ways, eqb-eq, lt-of}
+use Rattle.layout.specs.Codec.{changeSection, bit, unpack}
+use Rattle.sets.specs.Members.{members}
+use Rattle.sets.proofs.Digits.{unpack-zero, unpack-power, unpack-or, unpack-mod}
+use Rattle.sets.proofs.Words.{ofWords, by-words, each-of-4}
+use Rattle.sets.proofs.MemberLaws.{members-above}
 use Rattle.sets.proofs.WalkLaws.{Lowest, lowest-rises}
-use Rattle.places.specs.Statuses.{withStatuses}
+use Rattle.places.specs.Statuses.{withStatuses, firsts, inRange}
 use Rattle.places.proofs.TableLaws.{status-read, change-ext}
-
--- the members below c
-unfoldable pub firsts : ℕ → Set → Set
-firsts c s k = ltb k c && s k
-
--- none
-pub firsts-none : (s : Set) (k : ℕ) → firsts 0 s k ≡ false
-unfolding firsts
-firsts-none s k = rw (ltb-false k 0 (omega arith))
-
--- one number more
-ltb-more : (k c : ℕ) → ltb k (c + 1) ≡ eqb k c || ltb k c
-ltb-more k c = go (same? k c) (below k c)
-  where
-    go : {a b : Bool} → Same k c a → Below k c b → ltb k (c + 1) ≡ a || b
-    go (same e) b = ltb-true k (c + 1) (omega arith)
-    go (other e) (under h) = ltb-true k (c + 1) (omega arith)
-    go (other e) (over h) = ltb-false k (c + 1) (omega arith)
-
--- one member more
-firsts-more : (s : Set) (c k : ℕ) → eqb k c && s c || firsts c s k ≡ firsts (c + 1) s k
-unfolding firsts
-firsts-more s c k = go (same? k c) ∙ ap (λ (b : Bool). b && s k) (sym (ltb-more k c))
-  where
-    last : (b : Bool) → b || (false && b) ≡ b
-    last true = refl
-    last false = refl
-
-    go : {a : Bool} → Same k c a → a && s c || (ltb k c && s k) ≡ (a || ltb k c) && s k
-    go (same e) = rw (e, ltb-false c c (omega arith)) (last (s c))
-    go (other e) = refl
 
 -- STATUSES: those of rules' `endAll`
 pub statuses-ended : (how : ℕ) (s : Set) (W : Window) → endAll how s W .status ≡ withStatuses s how (W .status)
@@ -108,34 +85,87 @@ statuses-all s left c w h how st pa = change-ext (withStatuses (passed s left) h
     go true b e = rw e
     go false b e = refl
 
--- CHANGES OF SOME STATUSES, off the section's bytes: the status of k is from low to high
-unfoldable pub inRange : List ℕ → ℕ → ℕ → Set
-inRange changes low high k = not (outside low high (getD changes (k * 4) 0))
-
--- one change whose status lies below the range
-pub add-low : (low high x : ℕ) (a m : Bool) → x < low → m ≡ a && not (outside low high x) || m
-unfolding outside
-add-low low high x a m h = rw (ltb-true x low h, and-false a)
-
--- above it
-pub add-high : (low high x : ℕ) (a m : Bool) → high < x → m ≡ a && not (outside low high x) || m
-unfolding outside
-add-high low high x a m h = rw (ltb-true high x h, or-true (ltb x low), and-false a)
-
--- in it
-pub add-in : (low high x : ℕ) (a m r : Bool) → low ≤ x → x ≤ high → r ≡ a || m → r ≡ a && not (outside low high x) || m
-unfolding outside
-add-in low high x a m r h k e = rw (ltb-false x low h, ltb-false high x k) (e ∙ ap (λ (b : Bool). b || m) (go a))
+-- CHANGES OF SOME STATUSES, word by word
+-- one number more
+ltb-more : (k c : ℕ) → ltb k (c + 1) ≡ eqb k c || ltb k c
+ltb-more k c = go (same? k c) (below k c)
   where
-    go : (b : Bool) → b ≡ b && true
-    go true = refl
-    go false = refl
+    go : {a b : Bool} → Same k c a → Below k c b → ltb k (c + 1) ≡ a || b
+    go (same e) b = ltb-true k (c + 1) (omega arith)
+    go (other e) (under h) = ltb-true k (c + 1) (omega arith)
+    go (other e) (over h) = ltb-false k (c + 1) (omega arith)
 
--- one turn of the loop, from the set so far and what the turn made of it
-pub within-turn : (changes : List ℕ) (low high c k : ℕ) (m r : Bool) → m ≡ firsts c (inRange changes low high) k
-    → r ≡ eqb k c && not (outside low high (getD changes (c * 4) 0)) || m → r ≡ firsts (c + 1) (inRange changes low high) k
-unfolding inRange
-within-turn changes low high c k m r e f = f ∙ rw e (firsts-more (inRange changes low high) c k)
+-- one member more
+firsts-more : (s : Set) (c k : ℕ) → eqb k c && s c || firsts c s k ≡ firsts (c + 1) s k
+unfolding firsts
+firsts-more s c k = go (same? k c) ∙ ap (λ (b : Bool). b && s k) (sym (ltb-more k c))
+  where
+    last : (b : Bool) → b || (false && b) ≡ b
+    last true = refl
+    last false = refl
+
+    go : {a : Bool} → Same k c a → a && s c || (ltb k c && s k) ≡ (a || ltb k c) && s k
+    go (same e) = rw (e, ltb-false c c (omega arith)) (last (s c))
+    go (other e) = refl
+
+-- bounds that agree on a number
+firsts-same : (s : Set) (m n k : ℕ) → (k < m → k < n) → (k < n → k < m) → firsts m s k ≡ firsts n s k
+unfolding firsts
+firsts-same s m n k f g = ap (λ (b : Bool). b && s k) (both-ways _ _ (λ e. ltb-true k n (f (lt-of k m e))) (λ e. ltb-true k m (g (lt-of k n e))))
+
+-- a number that is not below the bound
+firsts-above : (s : Set) (n k : ℕ) → n ≤ k → firsts n s k ≡ false
+unfolding firsts
+firsts-above s n k h = rw (ltb-false k n h)
+
+-- a bit moved up to place i
+bit-moved : (t : Bool) (i j : ℕ) → j < 64 → unpack ((bit t * 2 ^ i) % 2 ^ 64) j ≡ eqb j i && t
+bit-moved t i j h = unpack-mod 64 (bit t * 2 ^ i) j h ∙ go t
+  where
+    go : (t : Bool) → unpack (bit t * 2 ^ i) j ≡ eqb j i && t
+    go true = rw (one-mul (2 ^ i)) (unpack-power i j ∙ sym (and-true (eqb j i)))
+    go false = rw (zero-mul (2 ^ i)) (unpack-zero j ∙ sym (and-false (eqb j i)))
+
+-- a word of a set: none of its changes yet
+pub word-none : (s : Set) (first j : ℕ) → unpack 0 j ≡ firsts first s (first + j)
+word-none s first j = unpack-zero j ∙ sym (firsts-above s first (first + j) (omega arith))
+
+-- one change more: t says whether it is in, b is its bit
+pub word-more : (s : Set) (first c w b : ℕ) (t : Bool) → first ≤ c → t ≡ s c → b ≡ bit t
+    → ((j : ℕ) → j < 64 → unpack w j ≡ firsts c s (first + j))
+    → (j : ℕ) → j < 64 → unpack (bitOr w ((b * 2 ^ (c - first)) % 2 ^ 64)) j ≡ firsts (c + 1) s (first + j)
+word-more s first c w b t h e f inv j l =
+    unpack-or w ((b * 2 ^ (c - first)) % 2 ^ 64) j
+    ∙ ap₂ _||_ (inv j l) (rw (f, e) (bit-moved (s c) (c - first) j l ∙ rw here))
+    ∙ or-comm (firsts c s (first + j)) (eqb (first + j) c && s c) ∙ firsts-more s c (first + j)
+  where
+    here : eqb j (c - first) ≡ eqb (first + j) c
+    here = both-ways _ _ (λ q. eq-eqb (first + j) c (omega (arith, eqb-eq j (c - first) q))) (λ q. eq-eqb j (c - first) (omega (arith, eqb-eq (first + j) c q)))
+
+-- all up to the end, which may lie before the first
+pub word-all : (s : Set) (first c end w : ℕ) → end ≤ c → c ≤ max first end
+    → ((j : ℕ) → j < 64 → unpack w j ≡ firsts c s (first + j)) → (j : ℕ) → j < 64 → unpack w j ≡ firsts end s (first + j)
+word-all s first c end w h k inv j l = inv j l ∙ firsts-same s c end (first + j) (λ x. omega arith) (λ x. omega arith)
+
+-- a word of those below n: its changes end at n or where the word ends
+pub word-cut : (s : Set) (n i last w : ℕ) → last ≡ min n (64 * i + 64) → ((j : ℕ) → j < 64 → unpack w j ≡ firsts last s (64 * i + j))
+    → (j : ℕ) → j < 64 → unpack w j ≡ firsts n s (64 * i + j)
+word-cut s n i last w e f j l = f j l ∙ firsts-same s last n (64 * i + j) (λ x. omega arith) (λ x. omega arith)
+
+-- the four words of those below n
+pub words-firsts : (s : Set) (n a b c d : ℕ) → n ≤ 256
+    → ((j : ℕ) → j < 64 → unpack a j ≡ firsts n s (64 * 0 + j))
+    → ((j : ℕ) → j < 64 → unpack b j ≡ firsts n s (64 * 1 + j))
+    → ((j : ℕ) → j < 64 → unpack c j ≡ firsts n s (64 * 2 + j))
+    → ((j : ℕ) → j < 64 → unpack d j ≡ firsts n s (64 * 3 + j))
+    → (k : ℕ) → members (ofWords (a ∷ b ∷ c ∷ d ∷ [])) k ≡ firsts n s k
+words-firsts s n a b c d h wa wb wc wd k = go (decLt k 256)
+  where
+    go : Dec (k < 256) → members (ofWords (a ∷ b ∷ c ∷ d ∷ [])) k ≡ firsts n s k
+    go (yes l) =
+        by-words (ofWords (a ∷ b ∷ c ∷ d ∷ [])) (firsts n s)
+        (each-of-4 (λ (i : ℕ). (j : ℕ) → j < 64 → unpack (getD (a ∷ b ∷ c ∷ d ∷ []) i 0) j ≡ firsts n s (64 * i + j)) wa wb wc wd) k l
+    go (no x) = members-above (ofWords (a ∷ b ∷ c ∷ d ∷ [])) refl k (omega arith) ∙ sym (firsts-above s n k (omega arith))
 
 -- the end
 pub within-all : (changes : List ℕ) (low high given : ℕ) → given < 256 → (st pa : ℕ → ℕ) → changes ≡ changeSection st pa → (k : ℕ)

@@ -1,2 +1,2 @@
--- Statuses of changes, set for a set.
+-- Statuses of changes, set for a set; the changes whose status lies in a range.
 pub mod Statuses

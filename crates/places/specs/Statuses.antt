@@ -1,8 +1,20 @@
--- The statuses of changes when those of a set get another. Assumes nothing.
-use mathlib.Core.Bool.{cond}
-use Prim.Native.Nat.{ℕ}
+-- The statuses of changes when those of a set get another; the changes whose status lies in a range. Assumes nothing.
+use mathlib.Core.Bool.{cond, not, _&&_}
+use mathlib.Core.List.{List}
+use Prim.Native.Nat.{ℕ, _*_}
+use lib.Dec.{ltb}
+use lib.ListN.{getD}
+use Rattle.rules.specs.Base.{outside}
 use Rattle.rules.specs.Sets.{Set}
 
 -- the members of the set have the status `how`, the others their own: the statuses of rules' `endAll`
 unfoldable pub withStatuses : Set → ℕ → (ℕ → ℕ) → ℕ → ℕ
 withStatuses s how status c = cond (s c) how (status c)
+
+-- the members below n
+unfoldable pub firsts : ℕ → Set → Set
+firsts n s k = ltb k n && s k
+
+-- the status of k, off the section's bytes, is from low to high
+unfoldable pub inRange : List ℕ → ℕ → ℕ → Set
+inRange changes low high k = not (outside low high (getD changes (k * 4) 0))

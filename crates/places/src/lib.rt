@@ -6,15 +6,15 @@ use cells::write_u32;
 use sets::ChangeSet;
 ghost use mathlib.Core.Path.{_≡_};
 ghost use mathlib.Core.List.{List};
-ghost use mathlib.Core.Bool.{not, _&&_, _||_};
-ghost use Prim.Native.Nat.{ℕ, suc, _*_, _<_, _^_};
+ghost use mathlib.Core.Bool.{not, _&&_};
+ghost use Prim.Native.Nat.{ℕ, suc, min, _+_, _<_, _≤_, _^_};
 ghost use lib.Dec.{ltb, eqb};
 ghost use lib.ListN.{length, getD, set};
 ghost use Rattle.rules.specs.Base.{put, outside};
 ghost use Rattle.rules.specs.Window.{isLive};
-ghost use Rattle.layout.specs.Codec.{headSize, valuesSize, changesSize, headSection, valueSection, changeSection};
+ghost use Rattle.layout.specs.Codec.{headSize, valuesSize, changesSize, headSection, valueSection, changeSection, bit, unpack};
 ghost use Rattle.sets.specs.Members.{members};
-ghost use Rattle.places.specs.Statuses.{withStatuses};
+ghost use Rattle.places.specs.Statuses.{withStatuses, firsts, inRange};
 
 // Figure k of the header.
 pub fn figure(head: &[u8], k: usize) -> usize
@@ -97,34 +97,61 @@ pub fn set_statuses(changes: &mut [u8], ended: ChangeSet, s: u8)
     }
 }
 
-// The set with change c where its status lies from low to high.
-fn add_within(set: ChangeSet, changes: &[u8], c: u8, low: u8, high: u8) -> ChangeSet
+// Whether the status of a change lies from low to high.
+fn is_within(changes: &[u8], c: usize, low: u8, high: u8) -> bool
     requires { ⌜ length (now changes) ≡ changesSize ⌝ }
-    ensures { λ r. ⌜ ((k : ℕ) → members r k ≡ eqb k c && not (outside low high (getD (now (changes .entry)) (c * 4) 0)) || members set k) ⌝ }
+    requires { ⌜ c < 256 ⌝ }
+    ensures { λ r. ⌜ r ≡ inRange (now (changes .entry)) low high c ⌝ }
 {
-    let status = changes[(c as usize) * 4];
-    if status < low {
-        return set;
-    }
-    if high < status {
-        return set;
-    }
-    set.add(c)
+    let status = changes[c * 4];
+    !((status < low) | (high < status))
 }
 
-// The changes up to the highest given whose status lies from low to high.
+// A test as a bit.
+fn bit(test: bool) -> u64
+    ensures { λ r. ⌜ r ≡ bit test ⌝ }
+{
+    if test { 1 } else { 0 }
+}
+
+// A word of a set: the changes from `first` up to `end`, at most 64 of them, whose status lies from low to high.
+fn word_within(changes: &[u8], first: usize, end: usize, low: u8, high: u8) -> u64
+    requires { ⌜ length (now changes) ≡ changesSize ⌝ }
+    requires { ⌜ end ≤ 256 ⌝ }
+    requires { ⌜ end ≤ first + 64 ⌝ }
+    ensures { λ r. ⌜ ((j : ℕ) → j < 64 → unpack r j ≡ firsts end (inRange (now (changes .entry)) low high) (first + j)) ⌝ }
+{
+    let mut w: u64 = 0;
+    let mut c = first;
+    while c < end {
+        w = w | (bit(is_within(changes, c, low, high)) << (c - first));
+        c += 1;
+    }
+    w
+}
+
+// The lesser of two numbers.
+fn least(a: usize, b: usize) -> usize
+    ensures { λ r. ⌜ r ≡ min a b ⌝ }
+{
+    if a < b { a } else { b }
+}
+
+// The changes up to the highest given whose status lies from low to high: word by word, each in a register.
 fn within(changes: &[u8], given: usize, low: u8, high: u8) -> ChangeSet
     requires { ⌜ length (now changes) ≡ changesSize ⌝ }
     requires { ⌜ given < 256 ⌝ }
     ensures { λ r. ⌜ ((st pa : ℕ → ℕ) → now (changes .entry) ≡ changeSection st pa → (k : ℕ) → members r k ≡ ltb k (suc given) && not (outside low high (st k))) ⌝ }
 {
-    let mut set = ChangeSet::empty();
-    let mut next: usize = 0;
-    while next <= given {
-        set = add_within(set, changes, next as u8, low, high);
-        next += 1;
+    let end = given + 1;
+    ChangeSet {
+        words: [
+            word_within(changes, 0, least(end, 64), low, high),
+            word_within(changes, 64, least(end, 128), low, high),
+            word_within(changes, 128, least(end, 192), low, high),
+            word_within(changes, 192, least(end, 256), low, high),
+        ],
     }
-    set
 }
 
 // The live changes.

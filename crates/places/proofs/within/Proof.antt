@@ -1,46 +1,38 @@
--- `places::within` meets its contract: the set has the changes below the next. Assumes nothing.
-use mathlib.Core.Path.{_≡_, sym, _∙_}
-use Prim.Native.Nat.{ℕ, _+_, _-_, _≤_}
+-- `places::within` meets its contract: each word has its part of the changes up to the highest given. Assumes nothing.
+use mathlib.Core.Path.{_∙_}
+use Prim.Native.Nat.{_+_}
 use native.Mathlib.Omega.{arith}
 use borrow.Author.Needs.{needs}
-use Rattle.sets.specs.Members.{members}
-use Rattle.places.proofs.StatusLaws.{firsts, firsts-none, within-turn, inRange, within-all}
+use Rattle.rules.specs.Sets.{Set}
+use Rattle.places.specs.Statuses.{inRange}
+use Rattle.places.proofs.StatusLaws.{word-cut, words-firsts, within-all}
 use Rattle.places.proofs.within.Statement.{statement}
 use Rattle.places.proofs.within.Tie as tie
 
-abbrev Inv-loop : tie.InvT-loop
-Inv-loop changes given low high set₀ next₀ set next = (next ≤ given + 1) × ((k : ℕ) → members set k ≡ firsts next (inRange changes low high) k)
-
-abbrev μ-loop : tie.MeasureT-loop
-μ-loop changes given low high set₀ next₀ set next = given + 1 - next
-
-loop-holds : tie.Need-loop-holds Inv-loop μ-loop
-loop-holds c =
-    let a = c .before .before .args in
-    (search needs, λ k. c .empty .ensures k ∙ sym (firsts-none (inRange (a .changes .now) (a .low) (a .high)) k))
-
-loop-again : tie.Need-loop-again Inv-loop μ-loop
-loop-again c =
-    let a = c .before .before .before .before .before .args in let l = c .before .before .loop in
-    (search needs, λ k. within-turn (a .changes .now) (a .low) (a .high) (l .next) k (members (l .set) k) _ (l .inv .1 k) (c .add-within .ensures k))
-
-returns : tie.Need-returns Inv-loop μ-loop
+returns : tie.Need-returns
 returns c =
-    let s = c .before .before .before .before in let a = s .args in let l = c .before .loop in
-    let done : l .next ≡ a .given + 1 = omega arith in
-    λ st pa e k. l .inv .1 k ∙ rw done (within-all (a .changes .now) (a .low) (a .high) (a .given) (s .pre .1) st pa e k)
+    let w3 = c .before .before in let w2 = w3 .before .before in let w1 = w2 .before .before in
+    let b = w1 .before .before .before in let a = b .args in
+    let n = a .given + 1 in let s : Set = inRange (a .changes .now) (a .low) (a .high) in
+    λ st pa e k.
+    words-firsts s n _ _ _ _ (omega (arith, b .pre .1))
+    (word-cut s n 0 _ _ (w1 .before .least .ensures) (w1 .word-within .ensures))
+    (word-cut s n 1 _ _ (w2 .before .least2 .ensures) (w2 .word-within2 .ensures))
+    (word-cut s n 2 _ _ (w3 .before .least3 .ensures) (w3 .word-within3 .ensures))
+    (word-cut s n 3 _ _ (c .before .least4 .ensures) (c .word-within4 .ensures)) k
+    ∙ within-all (a .changes .now) (a .low) (a .high) (a .given) (b .pre .1) st pa e k
 
 pub within-spec : {M : Type 1} → statement M
 within-spec =
     tie.close
     (tie.spec
-    Inv-loop
-    μ-loop
-    (λ c κs. search needs)
-    loop-holds
     (λ c. search needs)
     (λ c κs. search needs)
-    (λ c. search needs)
-    (λ c. search needs)
-    loop-again
+    (λ c κs. search needs)
+    (λ c κs. search needs)
+    (λ c κs. search needs)
+    (λ c κs. search needs)
+    (λ c κs. search needs)
+    (λ c κs. search needs)
+    (λ c κs. search needs)
     returns)
