@@ -1,16 +1,17 @@
 -- Whom the permits of an entry let stand beside a writer: those to anybody and those that name the two. Assumes nothing.
 use mathlib.Core.Path.{_≡_, refl, sym, _∙_, ap, ap₂, fun-ext}
-use mathlib.Core.Bool.{Bool, true, false, not, _&&_, _||_, and-true, and-false, or-false, or-assoc, or-comm, or-true, and-or-distrib-right, false≢true}
+use mathlib.Core.Logic.{_≢_}
+use mathlib.Core.Bool.{Bool, true, false, not, _&&_, _||_, and-true, and-false, or-false, or-assoc, or-comm, or-true, and-or-distrib-right, false≢true, Bool·not-not}
 use Prim.Native.Nat.{ℕ, _<_}
 use lib.Dec.{eqb}
 use Rattle.rules.specs.Base.{anyBelow}
 use Rattle.rules.specs.Sets.{Set}
 use Rattle.rules.specs.Window.{PermitRecord}
 use Rattle.rules.specs.Locks.{contains, makePermit}
-use Rattle.rules.proofs.BaseLaws.{Same, same, other, same?, allBelow-intro, anyBelow-none, not-true}
+use Rattle.rules.proofs.BaseLaws.{Same, same, other, same?, eqb-same, eqb-other, allBelow-intro, anyBelow-none, not-true}
 use Rattle.sets.proofs.BoundLaws.{all-ext, any-or, any-and, none-as}
 use Rattle.clashes.specs.Permits.{anyOf, involves}
-use Rattle.clashes.specs.Beside.{serves, permitsAnybody, names, beside, otherHolder, unserved, writerFits, writersFit, entryFits}
+use Rattle.clashes.specs.Beside.{serves, permitsAnybody, names, beside, otherHolder, unserved, writerFits, writersFit, othersFit, entryFits}
 use Rattle.clashes.proofs.PlaceLaws.{any-same}
 
 -- ADDED TO A SET
@@ -30,6 +31,28 @@ named-added r x a k g t e o s sv h = rw h (go (same? t k))
     go : {b : Bool} → Same t k b → s || b && (eqb g a && serves o (r t) (x t)) || rest ≡ s || (eqb g a && (b && serves o (r k) (x k)) || rest)
     go (same q) = or-assoc s (eqb g a && serves o (r t) (x t)) rest ∙ ap (λ c. s || (eqb g a && serves o (r c) (x c) || rest)) q
     go (other n) = rw (or-false s, and-false (eqb g a))
+
+-- one permit g, t, e, o, beside the writer a: what is added says of any other change k what the permit does
+module _ (r x : Set) (a k g t e o : ℕ) (others : k ≢ a) (s s′ : Bool) where
+  -- the writer gives it to anybody
+  pub anybody-added : g ≡ a → t ≡ 0 → (m : Bool) → m ≡ s || r k && (eqb o 1 || eqb o 3) → s′ ≡ m || x k && (eqb o 2 || eqb o 3) → s′ ≡ s || beside r x a k (makePermit g t e o)
+  unfolding beside serves makePermit contains
+  anybody-added eg et m em es = es ∙ rw (em, eg, et, eqb-same a, or-true (eqb 0 k), eqb-other a k (λ q. others (sym q)))
+      (or-assoc s (r k && (eqb o 1 || eqb o 3)) (x k && (eqb o 2 || eqb o 3)) ∙ ap (λ w. s || w) (sym (or-false _)))
+
+  -- it gives it to one
+  pub taker-added : g ≡ a → t ≢ 0 → (sv : Bool) → sv ≡ serves o (r t) (x t) → s′ ≡ s || eqb t k && sv → s′ ≡ s || beside r x a k (makePermit g t e o)
+  unfolding beside makePermit
+  taker-added eg et sv ev es = es ∙ rw (ev, eg, eqb-same a, eqb-other t 0 et, eqb-other a k (λ q. others (sym q))) (go (same? t k))
+    where
+      go : {b : Bool} → Same t k b → s || b && serves o (r t) (x t) ≡ s || ((b || false) && serves o (r k) (x k) || false)
+      go (same q) = rw q (ap (λ w. s || w) (sym (or-false _)))
+      go (other n) = refl
+
+  -- another gives it
+  pub giver-added : g ≢ a → s′ ≡ s || eqb g k && ((eqb t a || eqb t 0) && (eqb o 2 || eqb o 3)) → s′ ≡ s || beside r x a k (makePermit g t e o)
+  unfolding beside makePermit contains
+  giver-added n es = es ∙ rw (eqb-other g a n)
 
 -- a permit with which a change has nothing to do names no two of which it is one
 pub names-none : (r x : Set) (a b : ℕ) (p : PermitRecord) → involves a p ≡ false → names r x a b p ≡ false
@@ -101,25 +124,43 @@ module _ (n : ℕ) (t : ℕ → PermitRecord) (r x u v : Set) (a : ℕ) (left : 
   unfolding writerFits
   none-rest found rest named minus e = e ∙ none-as 256 rest (λ b. not (unserved r x u v a b && not (anyOf n t (names r x a b)))) (λ b h. rw (minus b, known b, named b))
 
-cell : (o w m : Bool) → not (o && not w && not m) ≡ not o || (w || m)
-cell true true m = refl
-cell true false true = refl
-cell true false false = refl
-cell false w m = refl
+-- not left over: not asked for, or found
+left-over : (o f : Bool) → not (o && not f) ≡ not o || f
+left-over true f = Bool·not-not f
+left-over false f = refl
+
+-- one writer at once: `found` are those whom the permits let stand beside it, `rest` the other holders without them
+pub none-beside : (n : ℕ) (t : ℕ → PermitRecord) (r x : Set) (a : ℕ) (holders others found rest : Set) (none : Bool) → ((k : ℕ) → holders k ≡ r k || x k)
+    → ((k : ℕ) → others k ≡ not (eqb k a) && holders k) → ((k : ℕ) → k ≢ a → found k ≡ anyOf n t (beside r x a k)) → ((k : ℕ) → rest k ≡ others k && not (found k))
+    → none ≡ not (anyBelow 256 rest) → none ≡ othersFit n t r x a
+unfolding othersFit otherHolder
+none-beside n t r x a holders others found rest none eh eo ef er e = e ∙ none-as 256 rest _ (λ b h. rw (er b, eo b, eh b) (go b (same? b a)))
+  where
+    go : (b : ℕ) {i : Bool} → Same b a i → not (not i && (r b || x b)) || anyOf n t (beside r x a b) ≡ not (not i && (r b || x b) && not (found b))
+    go b (same q) = refl
+    go b (other n) = rw (ef b n) (sym (left-over (r b || x b) _))
 
 -- the writers looked at with the permits to anybody set apart, and at once
 writers-entry : (n : ℕ) (t : ℕ → PermitRecord) (r x u v : Set) → ((k : ℕ) → u k ≡ anyOf n t (permitsAnybody 1 k)) → ((k : ℕ) → v k ≡ anyOf n t (permitsAnybody 2 k))
     → writersFit n t r x u v ≡ entryFits n t r x
-unfolding writersFit entryFits writerFits unserved
+unfolding writersFit entryFits writerFits othersFit unserved
 writers-entry n t r x u v hu hv = all-ext _ _ 256 (λ a ha. ap (λ w. not (x a) || w) (all-ext _ _ 256 (λ b hb.
     cell (otherHolder r x a b) (v b || r b && u a || x b && v a) (anyOf n t (names r x a b)) ∙ rw (hu a, hv a, hv b) (ap (λ w. not (otherHolder r x a b) || w) (sym (split-any r x a b n t))))))
+  where
+    cell : (o w m : Bool) → not (o && not w && not m) ≡ not o || (w || m)
+    cell o w m = left-over (o && not w) m ∙ ap (λ u. u || m) (left-over o w) ∙ or-assoc (not o) w m
 
 -- permits that say the same
 entry-same : (n : ℕ) (t t′ : ℕ → PermitRecord) (r x : Set) → ((j : ℕ) → j < n → t j ≡ t′ j) → entryFits n t r x ≡ entryFits n t′ r x
-unfolding entryFits
+unfolding entryFits othersFit
 entry-same n t t′ r x h = all-ext _ _ 256 (λ a ha. ap (λ w. not (x a) || w) (all-ext _ _ 256 (λ b hb. ap (λ w. not (otherHolder r x a b) || w) (any-same n t t′ _ _ (λ j l. ap (beside r x a b) (h j l))))))
 
 -- what the code finds of an entry: r′ and x′ are its readers and writers in code, t its permits there
-pub entry-found : (n : ℕ) (t t′ : ℕ → PermitRecord) (r x r′ x′ u v : Set) (found : Bool) → ((j : ℕ) → j < n → t j ≡ t′ j) → ((k : ℕ) → r′ k ≡ r k) → ((k : ℕ) → x′ k ≡ x k)
-    → ((k : ℕ) → u k ≡ anyOf n t (permitsAnybody 1 k)) → ((k : ℕ) → v k ≡ anyOf n t (permitsAnybody 2 k)) → found ≡ writersFit n t r′ x′ u v → found ≡ entryFits n t′ r x
-entry-found n t t′ r x r′ x′ u v found ht hr hx hu hv e = e ∙ writers-entry n t r′ x′ u v hu hv ∙ ap₂ (entryFits n t) (fun-ext hr) (fun-ext hx) ∙ entry-same n t t′ r x ht
+module _ (n : ℕ) (t t′ : ℕ → PermitRecord) (r x r′ x′ : Set) (found : Bool) (ht : (j : ℕ) → j < n → t j ≡ t′ j) (hr : (k : ℕ) → r′ k ≡ r k) (hx : (k : ℕ) → x′ k ≡ x k) where
+  -- of few permits
+  pub few-found : found ≡ entryFits n t r′ x′ → found ≡ entryFits n t′ r x
+  few-found e = e ∙ ap₂ (entryFits n t) (fun-ext hr) (fun-ext hx) ∙ entry-same n t t′ r x ht
+
+  -- of many, with the givers of those to anybody
+  pub many-found : (u v : Set) → ((k : ℕ) → u k ≡ anyOf n t (permitsAnybody 1 k)) → ((k : ℕ) → v k ≡ anyOf n t (permitsAnybody 2 k)) → found ≡ writersFit n t r′ x′ u v → found ≡ entryFits n t′ r x
+  many-found u v hu hv e = few-found (e ∙ writers-entry n t r′ x′ u v hu hv)

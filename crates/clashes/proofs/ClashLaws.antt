@@ -21,7 +21,7 @@ use Rattle.locks.proofs.PermitLaws.{permit-read}
 use Rattle.locks.specs.Permits.{permitAt}
 use Rattle.clashes.specs.Holds.{Holds}
 use Rattle.clashes.specs.Permits.{permitFrom, anyOf, fromEntry, FirstOf}
-use Rattle.clashes.specs.Beside.{serves, beside, otherHolder, entryFits, contested}
+use Rattle.clashes.specs.Beside.{serves, beside, otherHolder, othersFit, entryFits, contested}
 use Rattle.clashes.proofs.PlaceLaws.{any-same, entries-rise}
 use Rattle.clashes.proofs.WriterLaws.{contested-none}
 
@@ -220,7 +220,7 @@ module _ (W : Window) (modes : Modes W.held) (given : W.given < 256) (none-above
         beside-between a b hb h ∙ between f a b (ne-of b a (not-true (eqb b a) (and-left (not (eqb b a)) _ o))) (eqb-eq (row a) 2 (sym (mode-set 2 a ha) ∙ xa)) h
 
     entry-permitted : entryFits n t (inMode 1 row) (inMode 2 row) ≡ entryPermitted W e
-    unfolding entryFits
+    unfolding entryFits othersFit
     entry-permitted = both-ways _ _
         (λ f. pairs-permitted (λ a b ha hb xa o h. sym (beside-between a b hb h) ∙ unless _ _ o (allBelow-at 256 _ (unless _ _ xa (allBelow-at 256 _ f a ha)) b hb)))
         (λ f. allBelow-intro 256 _ (λ a ha. unless-not (inMode 2 row a) _ (λ xa. allBelow-intro 256 _ (λ b hb. unless-not (otherHolder (inMode 1 row) (inMode 2 row) a b) _ (found-beside f a b ha hb xa)))))

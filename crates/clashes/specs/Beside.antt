@@ -47,6 +47,10 @@ writerFits n t r x u v a = allBelow 256 (λ b. not (unserved r x u v a b && not 
 unfoldable pub writersFit : ℕ → (ℕ → PermitRecord) → Set → Set → Set → Set → Bool
 writersFit n t r x u v = allBelow 256 (λ a. not (x a) || writerFits n t r x u v a)
 
--- every other holder than a writer has a permit from or to it
+-- every other holder than the writer a has a permit from or to it
+unfoldable pub othersFit : ℕ → (ℕ → PermitRecord) → Set → Set → ℕ → Bool
+othersFit n t r x a = allBelow 256 (λ b. not (otherHolder r x a b) || anyOf n t (beside r x a b))
+
+-- so of every writer
 unfoldable pub entryFits : ℕ → (ℕ → PermitRecord) → Set → Set → Bool
-entryFits n t r x = allBelow 256 (λ a. not (x a) || allBelow 256 (λ b. not (otherHolder r x a b) || anyOf n t (beside r x a b)))
+entryFits n t r x = allBelow 256 (λ a. not (x a) || othersFit n t r x a)

@@ -2,6 +2,7 @@
 // A clashing pair has a writer in it: each writer of an entry is held against the entry's other holders.
 use sets::ChangeSet;
 ghost use mathlib.Core.Path.{_≡_};
+ghost use mathlib.Core.Logic.{_≢_};
 ghost use mathlib.Core.Bool.{_&&_, _||_};
 ghost use Prim.Native.Nat.{ℕ, _+_, _-_, _*_, _≤_};
 ghost use lib.Dec.{eqb};
@@ -15,11 +16,11 @@ ghost use Rattle.locks.specs.Held.{inMode};
 ghost use Rattle.clashes.specs.Holds.{Holds};
 ghost use Rattle.locks.specs.Permits.{permitAt};
 ghost use Rattle.clashes.specs.Permits.{permitFrom, anyOf, FirstOf, NoneBefore, fromEntry, involves, byteIs};
-ghost use Rattle.clashes.specs.Beside.{serves, permitsAnybody, names, unserved, writerFits, writersFit, entryFits, contested};
+ghost use Rattle.clashes.specs.Beside.{serves, permitsAnybody, names, beside, unserved, writerFits, writersFit, entryFits, contested};
 
 // The bytes of a permit.
 const PERMIT: usize = layout::Permits::SIZE / layout::Permits::MOST;
-// The permits that are passed over at once.
+// The permits that are passed over at once. An entry with fewer has each looked at.
 const BLOCK: usize = 16;
 
 // The set, with c where a test passed.
@@ -256,6 +257,73 @@ fn writers_permitted(
     true
 }
 
+// The set, with whom a permit lets stand beside a writer: the taker, every holder that it serves where anybody may take it, or the giver.
+fn add_beside(
+    s: ChangeSet,
+    permits: &[u8],
+    place: usize,
+    readers: ChangeSet,
+    writers: ChangeSet,
+    writer: u8,
+) -> ChangeSet
+    requires { ⌜ 4 * place + 4 ≤ length (now permits) ⌝ }
+    ensures { λ r. ⌜ ((k : ℕ) → k ≢ writer → members r k ≡ members s k || beside (members readers) (members writers) writer k (permitAt (now (permits .entry)) place)) ⌝ }
+{
+    let at = place * PERMIT;
+    let giver = permits[at + 1];
+    let taker = permits[at + 2];
+    let operations = permits[at + 3];
+    let write = (operations == 2) | (operations == 3);
+    if giver == writer {
+        if taker == 0 {
+            let read = (operations == 1) | (operations == 3);
+            return unite_if(unite_if(s, readers, read), writers, write);
+        }
+        return add_if(s, taker, serves(operations, readers, writers, taker));
+    }
+    add_if(s, giver, ((taker == writer) | (taker == 0)) & write)
+}
+
+// Whom the permits let stand beside a writer, by name or as anybody. Whether the writer itself is among them is left open.
+fn beside(
+    permits: &[u8],
+    count: usize,
+    readers: ChangeSet,
+    writers: ChangeSet,
+    writer: u8,
+) -> ChangeSet
+    requires { ⌜ 4 * count ≤ length (now permits) ⌝ }
+    ensures { λ r. ⌜ ((k : ℕ) → k ≢ writer → members r k ≡ anyOf count (permitAt (now (permits .entry))) (beside (members readers) (members writers) writer k)) ⌝ }
+{
+    let mut s = ChangeSet::empty();
+    let mut j = 0;
+    while j < count {
+        s = add_beside(s, permits, j, readers, writers, writer);
+        j += 1;
+    }
+    s
+}
+
+// Whether every other holder has a permit from or to a writer, for each writer: one pass over the permits for each of them.
+fn few_permitted(permits: &[u8], count: usize, readers: ChangeSet, writers: ChangeSet) -> bool
+    requires { ⌜ 4 * count ≤ length (now permits) ⌝ }
+    ensures { λ r. ⌜ r ≡ entryFits count (permitAt (now (permits .entry))) (members readers) (members writers) ⌝ }
+{
+    let holders = readers.unite(writers);
+    let mut left = writers;
+    let mut writer = left.lowest();
+    while writer < 256 {
+        let c = writer as u8;
+        let found = beside(permits, count, readers, writers, c);
+        if !holders.without(c).minus(found).is_empty() {
+            return false;
+        }
+        left = left.without(c);
+        writer = left.lowest();
+    }
+    true
+}
+
 // Whether each clashing pair of an entry has a permit among those from a place on, up to another.
 fn entry_permitted(locks: &[u8], entry: u8, permits: &[u8], from: usize, to: usize) -> bool
     requires { ⌜ 4 * to ≤ length (now permits) ⌝ }
@@ -268,6 +336,9 @@ fn entry_permitted(locks: &[u8], entry: u8, permits: &[u8], from: usize, to: usi
     let end = to * PERMIT;
     let own = &permits[start..end];
     let count = to - from;
+    if count < BLOCK {
+        return few_permitted(own, count, readers, writers);
+    }
     let reading = givers_to_anybody(own, count, 1);
     let writing = givers_to_anybody(own, count, 2);
     writers_permitted(own, count, readers, writers, reading, writing)
