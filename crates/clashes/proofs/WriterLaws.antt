@@ -1,16 +1,26 @@
--- The writers of an entry, one after the other, the lowest first. Assumes nothing.
+-- The writers of an entry, one after the other, the lowest first; and whether another holder is beside one. Assumes nothing.
 use mathlib.Core.Path.{_≡_, refl, sym, _∙_, ap}
 use mathlib.Core.Bool.{Bool, true, false, not, _&&_, _||_, false≢true, Bool·not-not}
-use Prim.Native.Nat.{ℕ, _≤_, _<_}
+use mathlib.Core.List.{List}
+use Prim.Native.Nat.{ℕ, suc, _+_, _*_, _/_, _%_, _≤_, _<_}
 use native.Mathlib.Decide.{decLt}
 use native.Mathlib.Omega.{arith}
-use lib.Dec.{eqb}
+use borrow.Author.Tests.{eq-eqb}
+use lib.Dec.{ltb, eqb}
+use lib.ListN.{length, getD}
 use Rattle.rules.specs.Base.{allBelow, anyBelow, lowestBelow}
 use Rattle.rules.specs.Sets.{Set}
-use Rattle.rules.proofs.BaseLaws.{Same, same, other, same?, eqb-other, or-true, and-both, and-left, and-right, both-ways, no-true, allBelow-intro, allBelow-at, any-intro, any-elim}
+use Rattle.rules.proofs.BaseLaws.{Same, same, other, same?, eqb-eq, eqb-other, or-true, and-both, and-left, and-right, both-ways, not-true, allBelow-intro, allBelow-at, any-intro, any-elim, anyBelow-none, none-below}
+use Rattle.layout.specs.Codec.{unpack, lockSection}
+use Rattle.cells.specs.Part.{zeroAt}
+use Rattle.sets.specs.Members.{loaded}
+use Rattle.sets.proofs.Bytes.{loaded-full}
 use Rattle.sets.proofs.BoundLaws.{any-ext}
+use Rattle.sets.proofs.Digits.{unpack-zero, unpack-ext}
 use Rattle.sets.proofs.TurnLaws.{turn-failed, turns-done}
 use Rattle.sets.proofs.WalkLaws.{Lowest, lowest-of, lowest-rises}
+use Rattle.locks.specs.Held.{inMode}
+use Rattle.locks.proofs.SectionLaws.{row-loaded}
 use Rattle.clashes.specs.Beside.{otherHolder, contested}
 
 -- a test of every writer
@@ -59,29 +69,72 @@ module _ (x : Set) (q : ℕ → Bool) where
   pub walk-done : (left : Set) (a : ℕ) → Walked x q left a → 256 ≤ a → true ≡ allBelow 256 (λ k. not (x k) || q k)
   walk-done left a w h = turns-done 256 (λ k. not (x k) || q k) a (w .passed) (omega (arith, w .lowest .within))
 
+-- A SET'S BYTES
+-- the or of its bytes is 0 where it has no member
+module _ (bs : List ℕ) (at : ℕ) (room : at + 32 ≤ length bs) (small : (i : ℕ) → i < 32 → getD bs (at + i) 0 < 256) where
+  zeros-none : allBelow 32 (zeroAt bs at) ≡ not (anyBelow 256 (loaded bs at))
+  unfolding zeroAt
+  zeros-none = both-ways _ _
+      (λ e. ap not (none-below 256 (loaded bs at) (λ k h t.
+      let z : getD bs (at + k / 8) 0 ≡ 0 = eqb-eq _ 0 (allBelow-at 32 (zeroAt bs at) e (k / 8) (omega arith)) in
+      false≢true (sym (loaded-full bs at room k h ∙ rw z (unpack-zero (k % 8))) ∙ t))))
+      (λ e. allBelow-intro 32 _ (λ i h. eq-eqb _ 0 (unpack-ext 8 (getD bs (at + i) 0) 0 (small i h) (omega arith) (λ b l. digit e i b h l ∙ sym (unpack-zero b)))))
+    where
+      digit : not (anyBelow 256 (loaded bs at)) ≡ true → (i b : ℕ) → i < 32 → b < 8 → unpack (getD bs (at + i) 0) b ≡ false
+      digit e i b h l =
+          let x : (i * 8 + b) / 8 ≡ i = omega arith in
+          let y : (i * 8 + b) % 8 ≡ b = omega arith in
+          rw (x, y) at (sym (loaded-full bs at room (i * 8 + b) (omega arith)) ∙ anyBelow-none 256 (loaded bs at) (not-true _ e) (i * 8 + b) (omega arith))
+
+  pub any-loaded : (acc : ℕ) → eqb acc 0 ≡ allBelow 32 (zeroAt bs at) → not (eqb acc 0) ≡ anyBelow 256 (loaded bs at)
+  any-loaded acc e = ap not (e ∙ zeros-none) ∙ Bool·not-not (anyBelow 256 (loaded bs at))
+
+-- a set of an entry's row: its readers (m is 0) or its writers (m is 1)
+pub any-in-mode : (bs : List ℕ) (held : ℕ → ℕ → ℕ) → bs ≡ lockSection held → (e m at : ℕ) → e < 256 → m < 2 → at ≡ e * 64 + m * 32
+    → (found : Bool) → found ≡ anyBelow 256 (loaded bs at) → found ≡ anyBelow 256 (inMode (suc m) (held e))
+any-in-mode bs held section e m at he hm place found q = q ∙ rw section (any-ext _ _ 256 (λ k h. row-loaded held e m at he hm place k))
+
+-- a reader is no writer
+pub modes-apart : (row : ℕ → ℕ) (k : ℕ) → inMode 1 row k ≡ true → inMode 2 row k ≡ true → ⊥
+unfolding inMode
+modes-apart row k r x = omega (arith, eqb-eq (row k) 1 (and-right (ltb k 256) _ r), eqb-eq (row k) 2 (and-right (ltb k 256) _ x))
+
 -- A WRITER AND ANOTHER HOLDER
 module _ (r x : Set) where
-  -- looked for beside one writer
-  contested-at : (a : ℕ) → a < 256 → x a ≡ true → anyBelow 256 (otherHolder r x a) ≡ contested r x
+  -- there is no writer
+  pub contested-not : anyBelow 256 x ≡ false → false ≡ contested r x
+  unfolding contested
+  contested-not e = sym (none-below 256 _ (λ a h f. false≢true (sym (anyBelow-none 256 x e a h) ∙ and-left (x a) _ f)))
+
+  -- there is a reader, who is no writer
+  pub contested-reader : ((k : ℕ) → r k ≡ true → x k ≡ true → ⊥) → anyBelow 256 x ≡ true → anyBelow 256 r ≡ true → true ≡ contested r x
   unfolding contested otherHolder
-  contested-at a ha e = both-ways _ _ (λ f. any-intro 256 _ a ha (and-both (x a) _ e f)) (λ f. let (c, hc, g) = any-elim 256 _ f in
-      let (b, hb, o) = any-elim 256 _ (and-right (x c) _ g) in go c hc (and-left (x c) _ g) b hb o (same? c a))
+  contested-reader apart ex er =
+      let (a, ha, xa) = any-elim 256 x ex in
+      let (b, hb, rb) = any-elim 256 r er in
+      sym (any-intro 256 _ a ha (and-both (x a) _ xa (any-intro 256 _ b hb (rw (eqb-other b a (λ p. apart b rb (rw p xa)), rb)))))
+
+  -- there is no reader: a writer besides one of them
+  contested-at : (a : ℕ) → a < 256 → x a ≡ true → anyBelow 256 r ≡ false → anyBelow 256 (λ k. not (eqb k a) && x k) ≡ contested r x
+  unfolding contested otherHolder
+  contested-at a ha e none = both-ways _ _
+      (λ f. let (b, hb, o) = any-elim 256 _ f in
+      any-intro 256 _ a ha (and-both (x a) _ e (any-intro 256 _ b hb (rw (anyBelow-none 256 r none b hb) o))))
+      (λ f. let (c, hc, g) = any-elim 256 _ f in let (b, hb, o) = any-elim 256 _ (and-right (x c) _ g) in
+      go c hc (and-left (x c) _ g) b hb (rw (anyBelow-none 256 r none b hb) at o) (same? c a))
     where
-      go : (c : ℕ) → c < 256 → x c ≡ true → (b : ℕ) → b < 256 → not (eqb b c) && (r b || x b) ≡ true → {i : Bool} → Same c a i → anyBelow 256 (λ k. not (eqb k a) && (r k || x k)) ≡ true
+      go : (c : ℕ) → c < 256 → x c ≡ true → (b : ℕ) → b < 256 → not (eqb b c) && x b ≡ true → {i : Bool} → Same c a i → anyBelow 256 (λ k. not (eqb k a) && x k) ≡ true
       go c hc xc b hb o (same p) = any-intro 256 _ b hb (rw p at o)
-      go c hc xc b hb o (other n) = any-intro 256 _ c hc (rw (eqb-other c a n, xc, or-true))
+      go c hc xc b hb o (other n) = any-intro 256 _ c hc (rw (eqb-other c a n, xc))
 
-  -- r′ and x′ are the readers and writers in code, and a the lowest writer
+  -- x′ are the writers in code, and a the lowest
   module _ (x′ : Set) (hx : (k : ℕ) → x′ k ≡ x k) (a : ℕ) (low : a ≡ lowestBelow 256 x′) where
-    -- `others` are the holders without a
-    pub contested-some : (r′ others : Set) (none : Bool) → ((k : ℕ) → r′ k ≡ r k) → ((k : ℕ) → others k ≡ not (eqb k a) && (r′ k || x′ k)) → a < 256 → none ≡ not (anyBelow 256 others)
-        → not none ≡ contested r x
-    unfolding otherHolder
-    contested-some r′ others none hr ho ha e = ap not e ∙ Bool·not-not (anyBelow 256 others) ∙ any-ext others (otherHolder r x a) 256 (λ k h. ho k ∙ rw (hr k, hx k)) ∙ contested-at a ha (sym (hx a) ∙ lowest-of x′ a low .hit ha)
+    -- `others` are the writers without a
+    pub contested-writers : anyBelow 256 r ≡ false → (others : Set) → ((k : ℕ) → others k ≡ not (eqb k a) && x′ k) → a < 256 → (none : Bool) → none ≡ not (anyBelow 256 others) → not none ≡ contested r x
+    contested-writers er others ho ha none e = ap not e ∙ Bool·not-not (anyBelow 256 others) ∙ any-ext others _ 256 (λ k h. ho k ∙ rw (hx k)) ∙ contested-at a ha (sym (hx a) ∙ lowest-of x′ a low .hit ha) er
 
-    pub contested-not : 256 ≤ a → false ≡ contested r x
-    unfolding contested
-    contested-not h = sym (no-true _ (λ f. let (c, hc, g) = any-elim 256 _ f in false≢true (sym (lowest-of x′ a low .before c (omega arith)) ∙ hx c ∙ and-left (x c) _ g)))
+    pub contested-past : 256 ≤ a → false ≡ contested r x
+    contested-past h = contested-not (none-below 256 x (λ k l t. false≢true (sym (lowest-of x′ a low .before k (omega arith)) ∙ hx k ∙ t)))
 
 -- where there is none, no writer has another holder beside it
 pub contested-none : (r x : Set) → contested r x ≡ false → (a b : ℕ) → a < 256 → b < 256 → x a ≡ true → otherHolder r x a b ≡ true → ⊥

@@ -11,12 +11,17 @@ ghost use Rattle.rules.specs.Base.{anyBelow};
 ghost use Rattle.rules.specs.Window.{Window};
 ghost use Rattle.rules.specs.Locks.{clashesPermitted};
 ghost use Rattle.layout.specs.Codec.{locksSize, permitsSize, lockSection};
-ghost use Rattle.sets.specs.Members.{members};
+ghost use Rattle.sets.specs.Members.{members, loaded};
 ghost use Rattle.locks.specs.Held.{inMode};
 ghost use Rattle.clashes.specs.Holds.{Holds};
 ghost use Rattle.locks.specs.Permits.{permitAt};
 ghost use Rattle.clashes.specs.Permits.{permitFrom, anyOf, FirstOf, NoneBefore, fromEntry, involves, byteIs};
 ghost use Rattle.clashes.specs.Beside.{serves, permitsAnybody, names, beside, unserved, writerFits, writersFit, entryFits, contested};
+
+// The bytes of an entry's locks, and of one of its two sets.
+const ENTRY: usize = layout::Locks::SIZE / layout::Entries::MOST;
+
+const SET: usize = ENTRY / 2;
 
 // The bytes of a permit.
 const PERMIT: usize = layout::Permits::SIZE / layout::Permits::MOST;
@@ -43,18 +48,38 @@ fn unite_if(s: ChangeSet, other: ChangeSet, test: bool) -> ChangeSet
     s
 }
 
-// Whether an entry has a writer and another holder.
+// Whether the set in the 32 bytes at a place has a member. No early way out: the or of the bytes.
+fn any_held(locks: &[u8], at: usize) -> bool
+    requires { ⌜ at + 32 ≤ length (now locks) ⌝ }
+    ensures { λ r. ⌜ r ≡ anyBelow 256 (loaded (now (locks .entry)) at) ⌝ }
+{
+    let mut acc: u8 = 0;
+    let mut i: usize = 0;
+    while i < SET {
+        acc = acc | locks[at + i];
+        i += 1;
+    }
+    acc != 0
+}
+
+// Whether an entry has a writer and another holder. A reader is another than any writer.
 fn contested(locks: &[u8], entry: u8) -> bool
+    requires { ⌜ length (now locks) ≡ locksSize ⌝ }
     ensures { λ r. ⌜ ((held : ℕ → ℕ → ℕ) → now (locks .entry) ≡ lockSection held → r ≡ contested (inMode 1 (held entry)) (inMode 2 (held entry))) ⌝ }
 {
+    let at = entry as usize * ENTRY;
+    if !any_held(locks, at + SET) {
+        return false;
+    }
+    if any_held(locks, at) {
+        return true;
+    }
     let writers = locks::writers(locks, entry);
     let first = writers.lowest();
     if first < 256 {
-        let holders = locks::readers(locks, entry).unite(writers);
-        !holders.without(first as u8).is_empty()
-    } else {
-        false
+        return !writers.without(first as u8).is_empty();
     }
+    false
 }
 
 // The place of the first permit from `start` on whose entry is not below a number; the count where there is none.

@@ -1,38 +1,56 @@
--- `clashes::contested` meets its contract: a holder other than the lowest writer is looked for. Assumes nothing.
-use mathlib.Core.Path.{_∙_}
+-- `clashes::contested` meets its contract: there is no writer, there is a reader beside one, or a writer besides the lowest is looked for. Assumes nothing.
+use mathlib.Core.Path.{sym, _∙_}
+use Prim.Native.Nat.{_+_, _*_}
 use native.Mathlib.Omega.{arith}
 use borrow.Author.Needs.{needs}
+use borrow.Author.Tests.{not-true, not-false}
 use Rattle.sets.specs.Members.{members}
 use Rattle.locks.specs.Held.{inMode}
-use Rattle.clashes.proofs.WriterLaws.{contested-some, contested-not}
+use Rattle.clashes.proofs.WriterLaws.{any-in-mode, modes-apart, contested-not, contested-reader, contested-writers, contested-past}
 use Rattle.clashes.proofs.contested.Statement.{statement}
 use Rattle.clashes.proofs.contested.Tie as tie
 
 returns : tie.Need-returns
 returns c held e =
-    let a = c .before .before .before .before .before .before .before .before .args in
-    let w = c .before .before .before .before .before .before .writers in
-    let low = c .before .before .before .before .before .lowest in
-    let r = c .before .before .before .readers in
-    contested-some (inMode 1 (held (a .entry))) (inMode 2 (held (a .entry))) (members (w .result)) (w .ensures held e) (low .result) (low .ensures)
-    (members (r .result)) (members (c .before .without .result)) (c .is-empty .result) (r .ensures held e) (λ k. c .before .without .ensures k ∙ rw (c .before .before .unite .ensures k)) (omega arith) (c .is-empty .ensures)
+    let a = c .before .before .before .args in
+    let w = any-in-mode (a .locks .now) held e (a .entry) 1 (a .entry * 64 + 32) (search needs) (omega arith) (omega arith) (c .before .any-held .result) (c .before .any-held .ensures) in
+    contested-not (inMode 1 (held (a .entry))) (inMode 2 (held (a .entry))) (sym w ∙ not-true _ (c .if1 .taken))
 
 returns-2 : tie.Need-returns-2
 returns-2 c held e =
-    let a = c .before .before .before .before .args in
+    let a = c .before .before .before .before .before .args in
+    let w = any-in-mode (a .locks .now) held e (a .entry) 1 (a .entry * 64 + 32) (search needs) (omega arith) (omega arith) (c .before .before .before .any-held .result) (c .before .before .before .any-held .ensures) in
+    let r = any-in-mode (a .locks .now) held e (a .entry) 0 (a .entry * 64) (search needs) (omega arith) (omega arith) (c .before .any-held2 .result) (c .before .any-held2 .ensures) in
+    contested-reader (inMode 1 (held (a .entry))) (inMode 2 (held (a .entry))) (modes-apart (held (a .entry))) (sym w ∙ not-false _ (c .before .before .if1 .left)) (sym r ∙ c .if2 .taken)
+
+returns-3 : tie.Need-returns-3
+returns-3 c held e =
+    let a = c .before .before .before .before .before .before .before .before .before .before .args in
+    let r = any-in-mode (a .locks .now) held e (a .entry) 0 (a .entry * 64) (search needs) (omega arith) (omega arith) (c .before .before .before .before .before .before .any-held2 .result) (c .before .before .before .before .before .before .any-held2 .ensures) in
+    let w = c .before .before .before .before .writers in
+    let low = c .before .before .before .lowest in
+    contested-writers (inMode 1 (held (a .entry))) (inMode 2 (held (a .entry))) (members (w .result)) (w .ensures held e) (low .result) (low .ensures) (sym r ∙ c .before .before .before .before .before .if2 .left) (members (c .before .without .result)) (c .before .without .ensures) (omega arith) (c .is-empty .result) (c .is-empty .ensures)
+
+returns-4 : tie.Need-returns-4
+returns-4 c held e =
+    let a = c .before .before .before .before .before .before .before .before .args in
     let w = c .before .before .writers in
-    contested-not (inMode 1 (held (a .entry))) (inMode 2 (held (a .entry))) (members (w .result)) (w .ensures held e) (c .before .lowest .result) (c .before .lowest .ensures) (c .if1 .left)
+    contested-past (inMode 1 (held (a .entry))) (inMode 2 (held (a .entry))) (members (w .result)) (w .ensures held e) (c .before .lowest .result) (c .before .lowest .ensures) (omega arith)
 
 pub contested-spec : {M : Type 1} → statement M
 contested-spec =
     tie.close
     (tie.spec
+    (λ c. search needs)
+    (λ c. search needs)
     (λ c κs. search needs)
+    returns
     (λ c κs. search needs)
+    returns-2
     (λ c κs. search needs)
     (λ c κs. search needs)
     (λ c. search needs)
     (λ c κs. search needs)
     (λ c κs. search needs)
-    returns
-    returns-2)
+    returns-3
+    returns-4)
