@@ -4,5 +4,6 @@ pub mod PlaceLaws
 pub mod HeadLaws
 pub mod ChangeLaws
 pub mod TableLaws
+pub mod RowLaws
 pub mod LockLaws
 pub mod LogLaws

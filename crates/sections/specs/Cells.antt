@@ -21,6 +21,10 @@ changeFits bs c = not (outside 1 5 (getD bs (c * 4) 0)) && ltb (getD bs (c * 4 +
 unfoldable pub nextFits : List ℕ → ℕ → Bool
 nextFits bs c = changeFits bs (c + 1)
 
+-- the set of these bytes: bit k % 8 of byte k / 8
+unfoldable pub bytesHave : List ℕ → Set
+bytesHave bs k = unpack (getD bs (k / 8) 0) (k % 8)
+
 -- a change's bit among an entry's readers, and among its writers
 unfoldable pub reads : List ℕ → ℕ → ℕ → Bool
 reads bs e c = unpack (getD bs (e * 64 + c / 8) 0) (c % 8)

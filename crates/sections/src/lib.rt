@@ -23,7 +23,7 @@ ghost use Rattle.rules.specs.Sets.{Set};
 ghost use Rattle.rules.specs.Sound.{permitSound, tieSound};
 ghost use Rattle.sets.specs.Members.{members};
 ghost use Rattle.sets.specs.Closing.{tieOf};
-ghost use Rattle.sections.specs.Cells.{changeFits, nextFits, writes, rowFits, inOrder, permitFits, tieFits, recordFits};
+ghost use Rattle.sections.specs.Cells.{changeFits, nextFits, bytesHave, writes, rowFits, inOrder, permitFits, tieFits, recordFits};
 ghost use Rattle.sections.specs.Sections.{HeadSound, ValuesSound, ChangesSound, LocksSound, LogSound, PermitsSound, TiesSound};
 
 // Every figure is in its range, and the rest of the header is 0.
@@ -237,22 +237,31 @@ pub fn ties(ties: &[u8], count: usize, live: ChangeSet) -> bool
     all_zero(ties, count * 4, Ties::SIZE)
 }
 
-// An entry's locks: no change both reads and writes, and each is live.
-fn row(locks: &[u8], e: usize, live: ChangeSet) -> bool
+// An entry's locks, against the live changes' bytes: no change both reads and writes, and each is live. No early way out: the or of what does not fit.
+fn row(locks: &[u8], e: usize, live: &[u8]) -> bool
     requires { ⌜ length (now locks) ≡ locksSize ⌝ }
     requires { ⌜ e < 256 ⌝ }
-    ensures { λ r. ⌜ r ≡ rowFits (now (locks .entry)) (members live) e ⌝ }
+    requires { ⌜ length (now live) ≡ 32 ⌝ }
+    ensures { λ r. ⌜ r ≡ rowFits (now (locks .entry)) (bytesHave (now (live .entry))) e ⌝ }
 {
-    let r = ChangeSet::load(locks, e * 64);
-    let w = ChangeSet::load(locks, e * 64 + 32);
-    r.common(w).unite(r.unite(w).minus(live)).is_empty()
+    let at = e * 64;
+    let mut acc: u8 = 0;
+    let mut i: usize = 0;
+    while i < 32 {
+        let r = locks[at + i];
+        let w = locks[at + 32 + i];
+        acc = acc | (r & w) | ((r | w) & !live[i]);
+        i += 1;
+    }
+    acc == 0
 }
 
-// The locks on the entries that there are.
-fn rows(locks: &[u8], entries: usize, live: ChangeSet) -> bool
+// The locks on the entries that there are, against the live changes' bytes.
+fn rows_against(locks: &[u8], entries: usize, live: &[u8]) -> bool
     requires { ⌜ length (now locks) ≡ locksSize ⌝ }
     requires { ⌜ entries ≤ 256 ⌝ }
-    ensures { λ r. ⌜ r ≡ allBelow entries (rowFits (now (locks .entry)) (members live)) ⌝ }
+    requires { ⌜ length (now live) ≡ 32 ⌝ }
+    ensures { λ r. ⌜ r ≡ allBelow entries (rowFits (now (locks .entry)) (bytesHave (now (live .entry)))) ⌝ }
 {
     let mut e = 0;
     while e < entries {
@@ -262,6 +271,17 @@ fn rows(locks: &[u8], entries: usize, live: ChangeSet) -> bool
         e += 1;
     }
     true
+}
+
+// The locks on the entries that there are. The live changes are laid out once, as bytes like an entry's.
+fn rows(locks: &[u8], entries: usize, live: ChangeSet) -> bool
+    requires { ⌜ length (now locks) ≡ locksSize ⌝ }
+    requires { ⌜ entries ≤ 256 ⌝ }
+    ensures { λ r. ⌜ r ≡ allBelow entries (rowFits (now (locks .entry)) (members live)) ⌝ }
+{
+    let mut bytes = [0u8; 32];
+    live.store(&mut bytes, 0);
+    rows_against(locks, entries, &bytes)
 }
 
 // Locks of live changes on entries that there are, and 0 on the others.

@@ -1,44 +1,49 @@
--- `sections::row` meets its contract: the set of what does not fit is empty. Assumes nothing.
-use mathlib.Core.Path.{_∙_}
-use Prim.Native.Nat.{_+_, _*_}
+-- `sections::row` meets its contract: what does not fit in the bytes passed is gathered. Assumes nothing.
+use mathlib.Core.Path.{refl}
+use Prim.Native.Nat.{_≤_, _+_, _-_, _*_}
 use native.Mathlib.Omega.{arith}
-use Rattle.sets.proofs.Bytes.{loaded-full}
-use Rattle.sets.proofs.BoundLaws.{none-as}
-use Rattle.sections.specs.Cells.{reads, writes, lockFits, rowFits}
 use borrow.Author.Needs.{needs}
+use Rattle.sections.specs.Cells.{bytesHave}
+use Rattle.sections.proofs.RowLaws.{Gathered, none-gathered, gather-more, all-gathered}
 use Rattle.sections.proofs.row.Statement.{statement}
 use Rattle.sections.proofs.row.Tie as tie
 
-returns : tie.Need-returns
-unfolding rowFits lockFits reads writes
+abbrev Inv-loop : tie.InvT-loop
+Inv-loop locks e live at acc₀ i₀ acc i = (i ≤ 32) × Gathered locks (bytesHave live) e acc i
+
+abbrev μ-loop : tie.MeasureT-loop
+μ-loop locks e live at acc₀ i₀ acc i = 32 - i
+
+loop-holds : tie.Need-loop-holds Inv-loop μ-loop
+loop-holds c = (search needs, none-gathered _ _ _)
+
+loop-again : tie.Need-loop-again Inv-loop μ-loop
+loop-again c =
+    let a = c .before .before .before .before .before .args in
+    let l = c .before .before .before .before .loop in
+    (search needs, gather-more (a .locks .now) (a .live .now) (a .e) (l .acc) (l .i) _ _ _ refl refl refl (c .before .before .shared-slice-known .given (a .e * 64 + l .i) .fits) (c .shared-slice-known3 .given (l .i) .fits) (l .inv .1))
+
+returns : tie.Need-returns Inv-loop μ-loop
 returns c =
-    let a = c .before .before .before .before .before .before .before .before .args in
-    let bs = a .locks .now in
-    let size = c .before .before .before .before .before .before .before .before .pre .0 in
-    let low = c .before .before .before .before .before .before .before .before .pre .1 in
-    c .is-empty .ensures ∙ none-as 256 _ _ (λ k h. rw (
-      c .before .unite2 .ensures k,
-      c .before .before .before .before .common .ensures k,
-      c .before .before .minus .ensures k,
-      c .before .before .before .unite .ensures k,
-      c .before .before .before .before .before .before .load .ensures k,
-      c .before .before .before .before .before .load2 .ensures k,
-      loaded-full bs (a .e * 64) (omega (arith, size, low)) k h,
-      loaded-full bs (a .e * 64 + 32) (omega (arith, size, low)) k h,
-    ))
+    let a = c .before .before .args in
+    let l = c .before .loop in
+    all-gathered (a .locks .now) (bytesHave (a .live .now)) (a .e) (l .acc) (l .i) (omega arith) (l .inv .1)
 
 pub row-spec : {M : Type 1} → statement M
 row-spec =
     tie.close
     (tie.spec
+    Inv-loop
+    μ-loop
     (λ c. search needs)
-    (λ c κs. search needs)
+    loop-holds
     (λ c. search needs)
     (λ c. search needs)
-    (λ c κs. search needs)
-    (λ c κs. search needs)
-    (λ c κs. search needs)
-    (λ c κs. search needs)
-    (λ c κs. search needs)
-    (λ c κs. search needs)
+    (λ c. search needs)
+    (λ c. search needs)
+    (λ c. search needs)
+    (λ c. search needs)
+    (λ c. search needs)
+    (λ c. search needs)
+    loop-again
     returns)

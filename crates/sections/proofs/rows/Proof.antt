@@ -1,35 +1,15 @@
--- `sections::rows` meets its contract: the entries passed fit. Assumes nothing.
-use mathlib.Core.Path.{_≡_}
-use mathlib.Core.Bool.{true}
-use Prim.Native.Nat.{_≤_, _-_}
-use native.Mathlib.Omega.{arith}
+-- `sections::rows` meets its contract: the bytes that the set is laid out in are read again as the set. Assumes nothing.
+use mathlib.Core.Path.{_∙_, refl}
 use borrow.Author.Needs.{needs}
-use Rattle.rules.specs.Base.{allBelow}
 use Rattle.sets.specs.Members.{members}
-use Rattle.sets.proofs.TurnLaws.{none-yet, turn-failed, turn-passed, turns-done}
-use Rattle.sections.specs.Cells.{rowFits}
+use Rattle.sections.proofs.RowLaws.{rows-stored}
 use Rattle.sections.proofs.rows.Statement.{statement}
 use Rattle.sections.proofs.rows.Tie as tie
 
-abbrev Inv-loop : tie.InvT-loop
-Inv-loop locks entries live e₀ e = (e ≤ entries) × (allBelow e (rowFits locks (members live)) ≡ true)
-
-abbrev μ-loop : tie.MeasureT-loop
-μ-loop locks entries live e₀ e = entries - e
-
-loop-holds : tie.Need-loop-holds Inv-loop μ-loop
-loop-holds c = (search needs, none-yet _)
-
-returns : tie.Need-returns Inv-loop μ-loop
-returns c = turn-failed _ _ (c .before .before .before .loop .e) _ (omega arith) (c .before .row .ensures) (c .if1 .taken)
-
-loop-again : tie.Need-loop-again Inv-loop μ-loop
-loop-again c = (search needs, turn-passed _ _ _ (c .before .before .before .loop .inv .1) (c .before .row .ensures) (c .if1 .left))
-
-returns-2 : tie.Need-returns-2 Inv-loop μ-loop
-returns-2 c = turns-done _ _ _ (c .before .loop .inv .1) (omega arith)
+returns : tie.Need-returns
+returns c =
+    let a = c .before .before .before .before .before .before .args in
+    c .rows-against .ensures ∙ rows-stored (a .locks .now) (a .entries) (members (a .live)) _ _ refl (c .before .before .before .store .ensures)
 
 pub rows-spec : {M : Type 1} → statement M
-rows-spec =
-    tie.close
-    (tie.spec Inv-loop μ-loop loop-holds (λ c κs. search needs) returns (λ c. search needs) (λ c. search needs) loop-again returns-2)
+rows-spec = tie.close (tie.spec (λ c. search needs) (λ c κs. search needs) (λ c. search needs) (λ c κs. search needs) returns)
