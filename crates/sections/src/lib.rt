@@ -11,19 +11,22 @@ use layout::Permits;
 use layout::Ties;
 use rows::key_at;
 use sets::ChangeSet;
+use sets::among;
 ghost use mathlib.Core.Path.{_≡_};
-ghost use mathlib.Core.Bool.{true};
+ghost use mathlib.Core.Bool.{true, _&&_};
 ghost use mathlib.Core.Logic.{_↔_};
 ghost use Prim.Native.Nat.{ℕ, _+_, _*_, _≤_, _<_};
-ghost use lib.ListN.{length};
+ghost use lib.Dec.{eqb};
+ghost use lib.ListN.{length, getD};
 ghost use Rattle.layout.specs.Codec.{headSize, valuesSize, changesSize, lineSize, locksSize, permitsSize, tiesSize, logSize, lineSection};
 ghost use Rattle.rules.specs.Base.{allBelow};
 ghost use Rattle.rules.specs.Locks.{makePermit};
 ghost use Rattle.rules.specs.Sets.{Set};
 ghost use Rattle.rules.specs.Sound.{permitSound, tieSound};
-ghost use Rattle.sets.specs.Members.{members};
-ghost use Rattle.sets.specs.Closing.{tieOf};
-ghost use Rattle.sections.specs.Cells.{changeFits, nextFits, bytesHave, writes, rowFits, inOrder, permitFits, tieFits, recordFits};
+ghost use Rattle.sets.specs.Members.{wordsHave, members};
+ghost use Rattle.sets.specs.Closing.{tieOf, tieAt};
+ghost use Rattle.locks.specs.Permits.{permitAt};
+ghost use Rattle.sections.specs.Cells.{changeFits, nextFits, bytesHave, writes, rowFits, permitFits, tieFits, recordFits};
 ghost use Rattle.sections.specs.Sections.{HeadSound, ValuesSound, ChangesSound, LocksSound, LogSound, PermitsSound, TiesSound};
 
 // Every figure is in its range, and the rest of the header is 0.
@@ -122,32 +125,21 @@ pub fn changes(changes: &[u8], given: usize) -> bool
     all_zero(changes, given * 4 + 4, Changes::SIZE)
 }
 
-// Whether row j is above the one before it.
-fn in_order(rows: &[u8], j: usize) -> bool
-    requires { ⌜ j * 4 + 4 ≤ length (now rows) ⌝ }
-    ensures { λ r. ⌜ r ≡ inOrder (now (rows .entry)) j ⌝ }
+// A permit: giver live, taker live or 0, an entry that there is, operations from 1 to 3, two different parties. The live set is lent as its words.
+fn permit(entry: u8, giver: u8, taker: u8, ops: u8, entries: usize, live: &[u64; 4]) -> bool
+    ensures { λ r. ⌜ r ≡ permitSound entries (wordsHave (now (live .entry))) (makePermit giver taker entry ops) ⌝ }
 {
-    if j == 0 {
-        return true;
-    }
-    key_at(rows, j - 1) < key_at(rows, j)
-}
-
-// A permit: giver live, taker live or 0, an entry that there is, operations from 1 to 3, two different parties.
-fn permit(entry: u8, giver: u8, taker: u8, ops: u8, entries: usize, live: ChangeSet) -> bool
-    ensures { λ r. ⌜ r ≡ permitSound entries (members live) (makePermit giver taker entry ops) ⌝ }
-{
-    live.has(giver)
-        & ((taker == 0) | live.has(taker))
+    among(live, giver)
+        & ((taker == 0) | among(live, taker))
         & (wide(entry) < entries)
         & !((ops < 1) | (3 < ops))
         & !(giver == taker)
 }
 
-// The permit at place j, in order.
-fn permit_at(permits: &[u8], j: usize, entries: usize, live: ChangeSet) -> bool
+// The permit at place j.
+fn permit_at(permits: &[u8], j: usize, entries: usize, live: &[u64; 4]) -> bool
     requires { ⌜ j * 4 + 4 ≤ length (now permits) ⌝ }
-    ensures { λ r. ⌜ r ≡ permitFits (now (permits .entry)) entries (members live) j ⌝ }
+    ensures { λ r. ⌜ r ≡ permitSound entries (wordsHave (now (live .entry))) (permitAt (now (permits .entry)) j) ⌝ }
 {
     let at = j * 4;
     permit(
@@ -158,20 +150,25 @@ fn permit_at(permits: &[u8], j: usize, entries: usize, live: ChangeSet) -> bool
         entries,
         live,
     )
-        & in_order(permits, j)
 }
 
-// The permits that stand.
-fn standing_permits(permits: &[u8], count: usize, entries: usize, live: ChangeSet) -> bool
+// The permits that stand, in order: each key at least one more than the last.
+fn standing_permits(permits: &[u8], count: usize, entries: usize, live: &[u64; 4]) -> bool
     requires { ⌜ length (now permits) ≡ permitsSize ⌝ }
     requires { ⌜ count ≤ 1024 ⌝ }
-    ensures { λ r. ⌜ r ≡ allBelow count (permitFits (now (permits .entry)) entries (members live)) ⌝ }
+    ensures { λ r. ⌜ r ≡ allBelow count (permitFits (now (permits .entry)) entries (wordsHave (now (live .entry)))) ⌝ }
 {
+    let mut next: u32 = 0;
     let mut j = 0;
     while j < count {
         if !permit_at(permits, j, entries, live) {
             return false;
         }
+        let permit_key = key_at(permits, j);
+        if permit_key < next {
+            return false;
+        }
+        next = permit_key + 1;
         j += 1;
     }
     true
@@ -183,43 +180,50 @@ pub fn permits(permits: &[u8], count: usize, entries: usize, live: ChangeSet) ->
     requires { ⌜ count ≤ 1024 ⌝ }
     ensures { λ r. ⌜ (r ≡ true ↔ PermitsSound (now (permits .entry)) count entries (members live)) ⌝ }
 {
-    if !standing_permits(permits, count, entries, live) {
+    let words = live.words;
+    if !standing_permits(permits, count, entries, &words) {
         return false;
     }
     all_zero(permits, count * 4, Permits::SIZE)
 }
 
 // A tie: kind from 1 to 3, both ends live and different, the lower one leading a group tie.
-fn tie(kind: u8, leader: u8, follower: u8, live: ChangeSet) -> bool
-    ensures { λ r. ⌜ r ≡ tieSound (members live) (tieOf kind leader follower) ⌝ }
+fn tie(kind: u8, leader: u8, follower: u8, live: &[u64; 4]) -> bool
+    ensures { λ r. ⌜ r ≡ tieSound (wordsHave (now (live .entry))) (tieOf kind leader follower) ⌝ }
 {
     !((kind < 1) | (3 < kind))
-        & live.has(leader)
-        & live.has(follower)
+        & among(live, leader)
+        & among(live, follower)
         & !(leader == follower)
         & (!(kind == 3) | (leader < follower))
 }
 
-// The tie at place j, in order.
-fn tie_at(ties: &[u8], j: usize, live: ChangeSet) -> bool
+// The tie at place j, and its last byte 0.
+fn tie_at(ties: &[u8], j: usize, live: &[u64; 4]) -> bool
     requires { ⌜ j * 4 + 4 ≤ length (now ties) ⌝ }
-    ensures { λ r. ⌜ r ≡ tieFits (now (ties .entry)) (members live) j ⌝ }
+    ensures { λ r. ⌜ r ≡ tieSound (wordsHave (now (live .entry))) (tieAt (now (ties .entry)) j) && eqb (getD (now (ties .entry)) (j * 4 + 3) 0) 0 ⌝ }
 {
     let at = j * 4;
-    tie(ties[at], ties[at + 1], ties[at + 2], live) & (ties[at + 3] == 0) & in_order(ties, j)
+    tie(ties[at], ties[at + 1], ties[at + 2], live) & (ties[at + 3] == 0)
 }
 
-// The ties that stand.
-fn standing_ties(ties: &[u8], count: usize, live: ChangeSet) -> bool
+// The ties that stand, in order: each key at least one more than the last.
+fn standing_ties(ties: &[u8], count: usize, live: &[u64; 4]) -> bool
     requires { ⌜ length (now ties) ≡ tiesSize ⌝ }
     requires { ⌜ count ≤ 512 ⌝ }
-    ensures { λ r. ⌜ r ≡ allBelow count (tieFits (now (ties .entry)) (members live)) ⌝ }
+    ensures { λ r. ⌜ r ≡ allBelow count (tieFits (now (ties .entry)) (wordsHave (now (live .entry)))) ⌝ }
 {
+    let mut next: u32 = 0;
     let mut t = 0;
     while t < count {
         if !tie_at(ties, t, live) {
             return false;
         }
+        let tie_key = key_at(ties, t);
+        if tie_key < next {
+            return false;
+        }
+        next = tie_key + 1;
         t += 1;
     }
     true
@@ -231,13 +235,14 @@ pub fn ties(ties: &[u8], count: usize, live: ChangeSet) -> bool
     requires { ⌜ count ≤ 512 ⌝ }
     ensures { λ r. ⌜ (r ≡ true ↔ TiesSound (now (ties .entry)) count (members live)) ⌝ }
 {
-    if !standing_ties(ties, count, live) {
+    let words = live.words;
+    if !standing_ties(ties, count, &words) {
         return false;
     }
     all_zero(ties, count * 4, Ties::SIZE)
 }
 
-// An entry's locks, against the live changes' bytes: no change both reads and writes, and each is live. No early way out: the or of what does not fit.
+// An entry's locks: no change both reads and writes, and each is among the live ones' bytes. No early way out: the or of what does not fit.
 fn row(locks: &[u8], e: usize, live: &[u8]) -> bool
     requires { ⌜ length (now locks) ≡ locksSize ⌝ }
     requires { ⌜ e < 256 ⌝ }
@@ -256,7 +261,7 @@ fn row(locks: &[u8], e: usize, live: &[u8]) -> bool
     acc == 0
 }
 
-// The locks on the entries that there are, against the live changes' bytes.
+// The locks on the entries that there are, held against the live ones' bytes.
 fn rows_against(locks: &[u8], entries: usize, live: &[u8]) -> bool
     requires { ⌜ length (now locks) ≡ locksSize ⌝ }
     requires { ⌜ entries ≤ 256 ⌝ }
@@ -273,7 +278,7 @@ fn rows_against(locks: &[u8], entries: usize, live: &[u8]) -> bool
     true
 }
 
-// The locks on the entries that there are. The live changes are laid out once, as bytes like an entry's.
+// The same, held against a set: its bytes are laid out once, as an entry's are.
 fn rows(locks: &[u8], entries: usize, live: ChangeSet) -> bool
     requires { ⌜ length (now locks) ≡ locksSize ⌝ }
     requires { ⌜ entries ≤ 256 ⌝ }

@@ -8,7 +8,7 @@ use Rattle.sections.proofs.permit.Tie as tie
 
 returns : tie.Need-returns
 unfolding permitSound makePermit outside
-returns c = rw (c .before .before .has .ensures, c .before .has2 .ensures, c .wide .ensures)
+returns c = rw (c .before .before .among .ensures, c .before .among2 .ensures, c .wide .ensures)
 
 pub permit-spec : {M : Type 1} → statement M
 permit-spec = tie.close (tie.spec (λ c κs. search needs) (λ c κs. search needs) (λ c κs. search needs) returns)

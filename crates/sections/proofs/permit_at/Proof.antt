@@ -1,13 +1,12 @@
 -- `sections::permit_at` meets its contract. Assumes nothing.
 use Rattle.locks.specs.Permits.{permitAt}
-use Rattle.sections.specs.Cells.{permitFits}
 use borrow.Author.Needs.{needs}
 use Rattle.sections.proofs.permit_at.Statement.{statement}
 use Rattle.sections.proofs.permit_at.Tie as tie
 
 returns : tie.Need-returns
-unfolding permitFits permitAt
-returns c = rw (c .before .permit .ensures, c .in-order .ensures)
+unfolding permitAt
+returns c = c .permit .ensures
 
 pub permit-at-spec : {M : Type 1} → statement M
 permit-at-spec =
@@ -21,6 +20,5 @@ permit-at-spec =
     (λ c. search needs)
     (λ c. search needs)
     (λ c. search needs)
-    (λ c κs. search needs)
     (λ c κs. search needs)
     returns)

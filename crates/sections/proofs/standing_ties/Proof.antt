@@ -1,33 +1,41 @@
--- `sections::standing_ties` meets its contract: the places passed fit. Assumes nothing.
-use mathlib.Core.Path.{_≡_}
-use mathlib.Core.Bool.{true}
+-- `sections::standing_ties` meets its contract: the places passed fit, and the next key has its bound. Assumes nothing.
+use mathlib.Core.Path.{refl}
 use Prim.Native.Nat.{_≤_, _-_}
 use native.Mathlib.Omega.{arith}
 use borrow.Author.Needs.{needs}
-use Rattle.rules.specs.Base.{allBelow}
-use Rattle.sets.specs.Members.{members}
-use Rattle.sets.proofs.TurnLaws.{none-yet, turn-failed, turn-passed, turns-done}
+use Rattle.sets.specs.Members.{wordsHave}
+use Rattle.sets.proofs.TurnLaws.{turns-done}
 use Rattle.sections.specs.Cells.{tieFits}
+use Rattle.sections.proofs.RiseLaws.{rank-small, Risen, none-risen, row-fails, row-low, row-rises}
 use Rattle.sections.proofs.standing_ties.Statement.{statement}
 use Rattle.sections.proofs.standing_ties.Tie as tie
 
 abbrev Inv-loop : tie.InvT-loop
-Inv-loop ties count live t₀ t = (t ≤ count) × (allBelow t (tieFits ties (members live)) ≡ true)
+Inv-loop ties count live next₀ t₀ next t = (t ≤ count) × Risen ties (tieFits ties (wordsHave live)) next t
 
 abbrev μ-loop : tie.MeasureT-loop
-μ-loop ties count live t₀ t = count - t
+μ-loop ties count live next₀ t₀ next t = count - t
 
 loop-holds : tie.Need-loop-holds Inv-loop μ-loop
-loop-holds c = (search needs, none-yet _)
+loop-holds c = (search needs, none-risen _ _)
 
 returns : tie.Need-returns Inv-loop μ-loop
-returns c = turn-failed _ _ (c .before .before .before .loop .t) _ (omega arith) (c .before .tie-at .ensures) (c .if1 .taken)
-
-loop-again : tie.Need-loop-again Inv-loop μ-loop
-loop-again c = (search needs, turn-passed _ _ _ (c .before .before .before .loop .inv .1) (c .before .tie-at .ensures) (c .if1 .left))
+unfolding tieFits
+returns c = row-fails _ _ (c .before .before .before .loop .t) _ _ (c .before .tie-at .ensures) refl _ (omega arith) (c .if1 .taken)
 
 returns-2 : tie.Need-returns-2 Inv-loop μ-loop
-returns-2 c = turns-done _ _ _ (c .before .loop .inv .1) (omega arith)
+unfolding tieFits
+returns-2 c = row-low _ _ (c .before .before .before .before .before .loop .t) _ _ (c .before .before .before .tie-at .ensures) refl _ _ _ (omega arith) (c .before .before .before .before .before .loop .inv .1) (c .before .key-at .ensures) (c .if2 .taken)
+
+add-next : tie.Need-add-next Inv-loop μ-loop
+add-next c = omega (arith, c .before .key-at .ensures, rank-small (c .before .before .before .before .before .before .before .args .ties .now) (λ i. c .before .before .before .before .before .before .shared-slice-known .given i .fits) (c .before .before .before .before .before .loop .t))
+
+loop-again : tie.Need-loop-again Inv-loop μ-loop
+unfolding tieFits
+loop-again c = (search needs, row-rises _ _ _ _ _ (c .before .before .before .tie-at .ensures) refl _ _ (c .before .before .before .before .before .loop .inv .1) (c .before .before .if1 .left) (c .before .key-at .ensures) (c .if2 .left))
+
+returns-3 : tie.Need-returns-3 Inv-loop μ-loop
+returns-3 c = turns-done _ _ _ (c .before .loop .inv .1 .passed) (omega arith)
 
 pub standing-ties-spec : {M : Type 1} → statement M
 standing-ties-spec =
@@ -38,7 +46,10 @@ standing-ties-spec =
     loop-holds
     (λ c κs. search needs)
     returns
+    (λ c κs. search needs)
+    returns-2
+    add-next
     (λ c. search needs)
     (λ c. search needs)
     loop-again
-    returns-2)
+    returns-3)

@@ -8,7 +8,7 @@ use Rattle.sections.proofs.tie.Tie as tie
 
 returns : tie.Need-returns
 unfolding tieSound outside isGroup
-returns c = rw (c .before .has .ensures, c .has2 .ensures)
+returns c = rw (c .before .among .ensures, c .among2 .ensures)
 
 pub tie-spec : {M : Type 1} → statement M
 tie-spec = tie.close (tie.spec (λ c κs. search needs) (λ c κs. search needs) returns)
