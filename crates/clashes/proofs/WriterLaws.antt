@@ -15,10 +15,10 @@ use Rattle.layout.specs.Codec.{unpack, lockSection}
 use Rattle.cells.specs.Part.{zeroAt}
 use Rattle.sets.specs.Members.{loaded}
 use Rattle.sets.proofs.Bytes.{loaded-full}
-use Rattle.sets.proofs.BoundLaws.{any-ext}
+use Rattle.sets.proofs.BoundLaws.{any-ext, lowest-hit}
 use Rattle.sets.proofs.Digits.{unpack-zero, unpack-ext}
 use Rattle.sets.proofs.TurnLaws.{turn-failed, turns-done}
-use Rattle.sets.proofs.WalkLaws.{Lowest, lowest-of, lowest-rises}
+use Rattle.sets.proofs.WalkLaws.{Lowest, lowest-rises}
 use Rattle.locks.specs.Held.{inMode}
 use Rattle.locks.proofs.SectionLaws.{row-loaded}
 use Rattle.clashes.specs.Beside.{otherHolder, contested}
@@ -127,14 +127,12 @@ module _ (r x : Set) where
       go c hc xc b hb o (same p) = any-intro 256 _ b hb (rw p at o)
       go c hc xc b hb o (other n) = any-intro 256 _ c hc (rw (eqb-other c a n, xc))
 
-  -- x′ are the writers in code, and a the lowest
-  module _ (x′ : Set) (hx : (k : ℕ) → x′ k ≡ x k) (a : ℕ) (low : a ≡ lowestBelow 256 x′) where
-    -- `others` are the writers without a
-    pub contested-writers : anyBelow 256 r ≡ false → (others : Set) → ((k : ℕ) → others k ≡ not (eqb k a) && x′ k) → a < 256 → (none : Bool) → none ≡ not (anyBelow 256 others) → not none ≡ contested r x
-    contested-writers er others ho ha none e = ap not e ∙ Bool·not-not (anyBelow 256 others) ∙ any-ext others _ 256 (λ k h. ho k ∙ rw (hx k)) ∙ contested-at a ha (sym (hx a) ∙ lowest-of x′ a low .hit ha) er
-
-    pub contested-past : 256 ≤ a → false ≡ contested r x
-    contested-past h = contested-not (none-below 256 x (λ k l t. false≢true (sym (lowest-of x′ a low .before k (omega arith)) ∙ hx k ∙ t)))
+  -- x′ are the writers in code, and `others` those without the lowest
+  pub contested-writers : (x′ : Set) → ((k : ℕ) → x′ k ≡ x k) → anyBelow 256 x ≡ true → anyBelow 256 r ≡ false
+      → (others : Set) → ((k : ℕ) → others k ≡ not (eqb k (lowestBelow 256 x′)) && x′ k) → (none : Bool) → none ≡ not (anyBelow 256 others) → not none ≡ contested r x
+  contested-writers x′ hx ex er others ho none e =
+      let hit = lowest-hit x′ 256 (any-ext x′ x 256 (λ k h. hx k) ∙ ex) in
+      ap not e ∙ Bool·not-not (anyBelow 256 others) ∙ any-ext others _ 256 (λ k h. ho k ∙ rw (hx k)) ∙ contested-at (lowestBelow 256 x′) (hit .0) (sym (hx _) ∙ hit .1) er
 
 -- where there is none, no writer has another holder beside it
 pub contested-none : (r x : Set) → contested r x ≡ false → (a b : ℕ) → a < 256 → b < 256 → x a ≡ true → otherHolder r x a b ≡ true → ⊥

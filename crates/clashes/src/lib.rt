@@ -74,12 +74,7 @@ fn contested(locks: &[u8], entry: u8) -> bool
     if any_held(locks, at) {
         return true;
     }
-    let writers = locks::writers(locks, entry);
-    let first = writers.lowest();
-    if first < 256 {
-        return !writers.without(first as u8).is_empty();
-    }
-    false
+    !locks::writers(locks, entry).rest().is_empty()
 }
 
 // The place of the first permit from `start` on whose entry is not below a number; the count where there is none.
@@ -276,7 +271,7 @@ fn writers_permitted(
         if !writer_permitted(permits, count, readers, writers, reading, writing, c) {
             return false;
         }
-        left = left.without(c);
+        left = left.rest();
         writer = left.lowest();
     }
     true
@@ -343,7 +338,7 @@ fn few_permitted(permits: &[u8], count: usize, readers: ChangeSet, writers: Chan
         if !holders.without(c).minus(found).is_empty() {
             return false;
         }
-        left = left.without(c);
+        left = left.rest();
         writer = left.lowest();
     }
     true

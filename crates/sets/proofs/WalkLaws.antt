@@ -8,7 +8,7 @@ use lib.Dec.{eqb}
 use Rattle.rules.specs.Base.{lowestBelow}
 use Rattle.rules.specs.Sets.{Set}
 use Rattle.rules.proofs.BaseLaws.{Same, same, other, same?}
-use Rattle.sets.proofs.BoundLaws.{lowest-most, lowest-found, lowest-below}
+use Rattle.sets.proofs.BoundLaws.{lowest-is, lowest-most, lowest-found, lowest-below}
 
 -- a number is the lowest member of a set of changes, or 256
 pub record Lowest (s : Set) (a : ℕ) : Type 0 where
@@ -18,6 +18,10 @@ pub record Lowest (s : Set) (a : ℕ) : Type 0 where
 
 pub lowest-of : (s : Set) (a : ℕ) → a ≡ lowestBelow 256 s → Lowest s a
 lowest-of s a e = rw e (record { within = lowest-most s 256; hit = lowest-found s 256; before = lowest-below s 256 })
+
+-- without its lowest member is without a
+pub rest-without : (left : Set) (a : ℕ) → Lowest left a → (left′ : Set) → ((k : ℕ) → left′ k ≡ not (eqb k (lowestBelow 256 left)) && left k) → (k : ℕ) → left′ k ≡ not (eqb k a) && left k
+rest-without left a low left′ e k = e k ∙ rw (lowest-is left 256 a (low .within) (low .hit) (low .before))
 
 -- the walk goes on without a: `left` are those still to come
 module _ (left : Set) (a : ℕ) (low : Lowest left a) (left′ : Set) (without : (k : ℕ) → left′ k ≡ not (eqb k a) && left k) where

@@ -6,7 +6,7 @@ use borrow.Author.Needs.{needs}
 use borrow.Author.Tests.{not-true, not-false}
 use Rattle.sets.specs.Members.{members}
 use Rattle.locks.specs.Held.{inMode}
-use Rattle.clashes.proofs.WriterLaws.{any-in-mode, modes-apart, contested-not, contested-reader, contested-writers, contested-past}
+use Rattle.clashes.proofs.WriterLaws.{any-in-mode, modes-apart, contested-not, contested-reader, contested-writers}
 use Rattle.clashes.proofs.contested.Statement.{statement}
 use Rattle.clashes.proofs.contested.Tie as tie
 
@@ -25,17 +25,11 @@ returns-2 c held e =
 
 returns-3 : tie.Need-returns-3
 returns-3 c held e =
-    let a = c .before .before .before .before .before .before .before .before .before .before .args in
-    let r = any-in-mode (a .locks .now) held e (a .entry) 0 (a .entry * 64) (search needs) (omega arith) (omega arith) (c .before .before .before .before .before .before .any-held2 .result) (c .before .before .before .before .before .before .any-held2 .ensures) in
-    let w = c .before .before .before .before .writers in
-    let low = c .before .before .before .lowest in
-    contested-writers (inMode 1 (held (a .entry))) (inMode 2 (held (a .entry))) (members (w .result)) (w .ensures held e) (low .result) (low .ensures) (sym r ∙ c .before .before .before .before .before .if2 .left) (members (c .before .without .result)) (c .before .without .ensures) (omega arith) (c .is-empty .result) (c .is-empty .ensures)
-
-returns-4 : tie.Need-returns-4
-returns-4 c held e =
     let a = c .before .before .before .before .before .before .before .before .args in
-    let w = c .before .before .writers in
-    contested-past (inMode 1 (held (a .entry))) (inMode 2 (held (a .entry))) (members (w .result)) (w .ensures held e) (c .before .lowest .result) (c .before .lowest .ensures) (omega arith)
+    let w = any-in-mode (a .locks .now) held e (a .entry) 1 (a .entry * 64 + 32) (search needs) (omega arith) (omega arith) (c .before .before .before .before .before .before .any-held .result) (c .before .before .before .before .before .before .any-held .ensures) in
+    let r = any-in-mode (a .locks .now) held e (a .entry) 0 (a .entry * 64) (search needs) (omega arith) (omega arith) (c .before .before .before .before .any-held2 .result) (c .before .before .before .before .any-held2 .ensures) in
+    contested-writers (inMode 1 (held (a .entry))) (inMode 2 (held (a .entry))) (members (c .before .before .writers .result)) (c .before .before .writers .ensures held e) (sym w ∙ not-false _ (c .before .before .before .before .before .if1 .left)) (sym r ∙ c .before .before .before .if2 .left)
+    (members (c .before .rest .result)) (c .before .rest .ensures) (c .is-empty .result) (c .is-empty .ensures)
 
 pub contested-spec : {M : Type 1} → statement M
 contested-spec =
@@ -49,8 +43,5 @@ contested-spec =
     returns-2
     (λ c κs. search needs)
     (λ c κs. search needs)
-    (λ c. search needs)
     (λ c κs. search needs)
-    (λ c κs. search needs)
-    returns-3
-    returns-4)
+    returns-3)

@@ -4,7 +4,7 @@ use native.Mathlib.Omega.{arith}
 use borrow.Author.Needs.{needs}
 use borrow.Author.Tests.{not-true, not-false}
 use Rattle.sets.specs.Members.{members}
-use Rattle.sets.proofs.WalkLaws.{lowest-of}
+use Rattle.sets.proofs.WalkLaws.{lowest-of, rest-without}
 use Rattle.locks.specs.Permits.{permitAt}
 use Rattle.clashes.specs.Beside.{othersFit, entryFits}
 use Rattle.clashes.proofs.BesideLaws.{none-beside}
@@ -43,7 +43,7 @@ loop-less c =
     omega (
       arith,
       walk-rises (members (a .writers)) fits (members (l .left)) (l .writer) (l .inv) (omega arith)
-          (members (c .before .without2 .result)) (c .lowest2 .result) (c .before .without2 .ensures) (lowest-of (members (c .before .without2 .result)) (c .lowest2 .result) (c .lowest2 .ensures)),
+          (members (c .before .rest .result)) (c .lowest2 .result) (rest-without (members (l .left)) (l .writer) (l .inv .lowest) (members (c .before .rest .result)) (c .before .rest .ensures)) (lowest-of (members (c .before .rest .result)) (c .lowest2 .result) (c .lowest2 .ensures)),
     )
 
 loop-again : tie.Need-loop-again Inv-loop μ-loop
@@ -55,7 +55,7 @@ loop-again c =
     let one = none-beside (a .count) (permitAt (a .permits .now)) (members (a .readers)) (members (a .writers)) (l .writer) (members (e .before .before .before .before .before .before .before .unite .result)) (members (e .before .before .without .result)) (members (e .before .before .before .beside .result)) (members (e .before .minus .result)) (e .is-empty .result)
     (e .before .before .before .before .before .before .before .unite .ensures) (e .before .before .without .ensures) (e .before .before .before .beside .ensures) (e .before .minus .ensures) (e .is-empty .ensures) in
     walk-next (members (a .writers)) fits (members (l .left)) (l .writer) (l .inv) (omega arith)
-    (members (c .before .without2 .result)) (c .lowest2 .result) (c .before .without2 .ensures) (lowest-of (members (c .before .without2 .result)) (c .lowest2 .result) (c .lowest2 .ensures))
+    (members (c .before .rest .result)) (c .lowest2 .result) (rest-without (members (l .left)) (l .writer) (l .inv .lowest) (members (c .before .rest .result)) (c .before .rest .ensures)) (lowest-of (members (c .before .rest .result)) (c .lowest2 .result) (c .lowest2 .ensures))
     (e .is-empty .result) one (not-false _ (c .before .before .if1 .left))
 
 returns-2 : tie.Need-returns-2 Inv-loop μ-loop

@@ -6,7 +6,7 @@ use borrow.Author.Tests.{not-true, not-false}
 use Rattle.sets.specs.Members.{members}
 use Rattle.locks.specs.Permits.{permitAt}
 use Rattle.clashes.specs.Beside.{writerFits, writersFit}
-use Rattle.sets.proofs.WalkLaws.{lowest-of}
+use Rattle.sets.proofs.WalkLaws.{lowest-of, rest-without}
 use Rattle.clashes.proofs.WriterLaws.{Walked, walk-start, walk-failed, walk-rises, walk-next, walk-done}
 use Rattle.clashes.proofs.writers_permitted.Statement.{statement}
 use Rattle.clashes.proofs.writers_permitted.Tie as tie
@@ -39,7 +39,7 @@ loop-less c =
     omega (
       arith,
       walk-rises (members (a .writers)) fits (members (l .left)) (l .writer) (l .inv) (omega arith)
-          (members (c .before .without .result)) (c .lowest2 .result) (c .before .without .ensures) (lowest-of (members (c .before .without .result)) (c .lowest2 .result) (c .lowest2 .ensures)),
+          (members (c .before .rest .result)) (c .lowest2 .result) (rest-without (members (l .left)) (l .writer) (l .inv .lowest) (members (c .before .rest .result)) (c .before .rest .ensures)) (lowest-of (members (c .before .rest .result)) (c .lowest2 .result) (c .lowest2 .ensures)),
     )
 
 loop-again : tie.Need-loop-again Inv-loop μ-loop
@@ -48,7 +48,7 @@ loop-again c =
     let fits = writerFits (a .count) (permitAt (a .permits .now)) (members (a .readers)) (members (a .writers)) (members (a .reading)) (members (a .writing)) in
     let l = c .before .before .before .before .before .loop in
     walk-next (members (a .writers)) fits (members (l .left)) (l .writer) (l .inv) (omega arith)
-    (members (c .before .without .result)) (c .lowest2 .result) (c .before .without .ensures) (lowest-of (members (c .before .without .result)) (c .lowest2 .result) (c .lowest2 .ensures))
+    (members (c .before .rest .result)) (c .lowest2 .result) (rest-without (members (l .left)) (l .writer) (l .inv .lowest) (members (c .before .rest .result)) (c .before .rest .ensures)) (lowest-of (members (c .before .rest .result)) (c .lowest2 .result) (c .lowest2 .ensures))
     (c .before .before .before .writer-permitted .result) (c .before .before .before .writer-permitted .ensures) (not-false _ (c .before .before .if1 .left))
 
 returns-2 : tie.Need-returns-2 Inv-loop μ-loop
