@@ -92,7 +92,7 @@ pub fn set_statuses(changes: &mut [u8], ended: ChangeSet, s: u8)
     while member < 256 {
         let c = member as u8;
         store_status(changes, c, s);
-        left = left.without(c);
+        left = left.rest();
         member = left.lowest();
     }
 }

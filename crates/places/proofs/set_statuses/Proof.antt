@@ -6,7 +6,7 @@ use lib.ListN.{length}
 use borrow.Author.Needs.{needs}
 use Rattle.layout.specs.Codec.{changeSection}
 use Rattle.sets.specs.Members.{members}
-use Rattle.sets.proofs.WalkLaws.{lowest-of}
+use Rattle.sets.proofs.WalkLaws.{lowest-of, rest-without}
 use Rattle.places.specs.Statuses.{withStatuses}
 use Rattle.places.proofs.StatusLaws.{passed, Walk, statuses-none, walk-rises, walk-next, statuses-turn, statuses-all}
 use Rattle.places.proofs.set_statuses.Statement.{statement}
@@ -32,17 +32,19 @@ loop-less : tie.Need-loop-less Inv-loop μ-loop
 loop-less c =
     let a = c .before .before .before .before .before .before .before .before .before .before .args in
     let l = c .before .before .before .before .before .before .before .loop in
-    let w = c .before .without in
-    omega (arith, walk-rises (members (a .ended)) (members (l .left)) (l .member) (l .inv .1) (omega arith) (members (w .result)) (w .ensures) (c .lowest2 .result) (lowest-of (members (w .result)) (c .lowest2 .result) (c .lowest2 .ensures)))
+    let w = c .before .rest in
+    let left = rest-without (members (l .left)) (l .member) (l .inv .1 .lowest) (members (w .result)) (w .ensures) in
+    omega (arith, walk-rises (members (a .ended)) (members (l .left)) (l .member) (l .inv .1) (omega arith) (members (w .result)) left (c .lowest2 .result) (lowest-of (members (w .result)) (c .lowest2 .result) (c .lowest2 .ensures)))
 
 loop-again : tie.Need-loop-again Inv-loop μ-loop
 loop-again c =
     let a = c .before .before .before .before .before .before .before .before .before .before .args in
     let l = c .before .before .before .before .before .before .before .loop in
-    let w = c .before .without in (
+    let w = c .before .rest in
+    let left = rest-without (members (l .left)) (l .member) (l .inv .1 .lowest) (members (w .result)) (w .ensures) in (
       search needs,
-      walk-next (members (a .ended)) (members (l .left)) (l .member) (l .inv .1) (omega arith) (members (w .result)) (w .ensures) (c .lowest2 .result) (lowest-of (members (w .result)) (c .lowest2 .result) (c .lowest2 .ensures)),
-      λ st pa e. statuses-turn (members (a .ended)) (members (l .left)) (l .member) (l .inv .1) (omega arith) (members (w .result)) (w .ensures) (a .s) (l .changes) _ st pa (l .inv .2 st pa e) (c .before .before .before .before .store-status .ensures),
+      walk-next (members (a .ended)) (members (l .left)) (l .member) (l .inv .1) (omega arith) (members (w .result)) left (c .lowest2 .result) (lowest-of (members (w .result)) (c .lowest2 .result) (c .lowest2 .ensures)),
+      λ st pa e. statuses-turn (members (a .ended)) (members (l .left)) (l .member) (l .inv .1) (omega arith) (members (w .result)) left (a .s) (l .changes) _ st pa (l .inv .2 st pa e) (c .before .before .before .before .store-status .ensures),
     )
 
 returns : tie.Need-returns Inv-loop μ-loop
