@@ -7,7 +7,9 @@ ghost use Rattle.cells.specs.Part.{part, patch, zeroAt};
 ghost use Rattle.cells.specs.Num.{le, num};
 
 // How many bytes are looked at together where zeros are looked for.
-const BLOCK: usize = 512;
+const BLOCK: usize = 1_024;
+
+const HALF: usize = BLOCK / 2;
 
 // The number of two bytes, the lowest first.
 fn join2(a: u8, b: u8) -> u16
@@ -112,15 +114,31 @@ fn run_zero(s: &[u8], at: usize, n: usize) -> bool
     acc == 0
 }
 
+// The same of fewer bytes than a block: by two halves of a block that may overlap, or as they are where there are fewer still.
+fn few_zero(s: &[u8], from: usize, to: usize) -> bool
+    requires { ⌜ from ≤ to ⌝ }
+    requires { ⌜ to ≤ length (now s) ⌝ }
+    requires { ⌜ to - from ≤ 1024 ⌝ }
+    ensures { λ r. ⌜ r ≡ allBelow (to - from) (zeroAt (now (s .entry)) from) ⌝ }
+{
+    if to - from < HALF {
+        return run_zero(s, from, to - from);
+    }
+    if !run_zero(s, from, HALF) {
+        return false;
+    }
+    run_zero(s, to - HALF, HALF)
+}
+
 // Whether every byte from an index up to another is 0: block by block, to the first that is not. The last block ends at `to`
-// and may overlap the one before it, so that there is no rest of another length; fewer bytes than a block are looked at as they are.
+// and may overlap the one before it, so that there is no rest of another length.
 pub fn all_zero(s: &[u8], from: usize, to: usize) -> bool
     requires { ⌜ from ≤ to ⌝ }
     requires { ⌜ to ≤ length (now s) ⌝ }
     ensures { λ r. ⌜ r ≡ allBelow (to - from) (zeroAt (now (s .entry)) from) ⌝ }
 {
     if to - from < BLOCK {
-        return run_zero(s, from, to - from);
+        return few_zero(s, from, to);
     }
     let mut i = from;
     while BLOCK < to - i {

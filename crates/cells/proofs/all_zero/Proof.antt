@@ -24,17 +24,17 @@ loop-holds c = (search needs, search needs, rw (sub-self (c .before .before .arg
 returns-2 : tie.Need-returns-2 Inv-loop μ-loop
 returns-2 c =
     let l = c .before .before .before .loop in let a = c .before .before .before .before .before .before .args in
-    block-failed (a .s .now) (a .from) (l .i) 512 (a .to) _ (l .inv .0) (omega arith) (c .before .run-zero2 .ensures) (c .if2 .taken)
+    block-failed (a .s .now) (a .from) (l .i) 1024 (a .to) _ (l .inv .0) (omega arith) (c .before .run-zero .ensures) (c .if2 .taken)
 
 loop-again : tie.Need-loop-again Inv-loop μ-loop
 loop-again c =
     let l = c .before .before .before .loop in let a = c .before .before .before .before .before .before .args in
-    (search needs, search needs, block-passed (a .s .now) (a .from) (l .i) 512 _ (l .inv .0) (l .inv .2) (c .before .run-zero2 .ensures) (c .if2 .left))
+    (search needs, search needs, block-passed (a .s .now) (a .from) (l .i) 1024 _ (l .inv .0) (l .inv .2) (c .before .run-zero .ensures) (c .if2 .left))
 
 returns-3 : tie.Need-returns-3 Inv-loop μ-loop
 returns-3 c =
     let l = c .before .before .loop in let a = c .before .before .before .before .before .args in
-    block-last (a .s .now) (a .from) (l .i) 512 (a .to) _ (omega arith) (omega arith) (l .inv .1) (l .inv .2) (c .run-zero3 .ensures)
+    block-last (a .s .now) (a .from) (l .i) 1024 (a .to) _ (omega arith) (omega arith) (l .inv .1) (l .inv .2) (c .run-zero2 .ensures)
 
 pub all-zero-spec : {M : Type 1} → statement M
 all-zero-spec =
@@ -43,9 +43,8 @@ all-zero-spec =
     Inv-loop
     μ-loop
     (λ c. search needs)
-    (λ c. search needs)
     (λ c κs. search needs)
-    (λ c. c .run-zero .ensures)
+    (λ c. c .few-zero .ensures)
     loop-holds
     (λ c. search needs)
     (λ c κs. search needs)
