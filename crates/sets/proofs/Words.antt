@@ -92,20 +92,6 @@ bit-here c i j e h =
 pub bit-elsewhere : (c i j : ℕ) → (c / 64 ≡ i → ⊥) → j < 64 → unpack 0 j ≡ eqb (64 * i + j) c
 bit-elsewhere c i j n h = unpack-zero j ∙ sym (ne-eqb (64 * i + j) c (λ q. n (omega arith)))
 
--- the words with the digit of c
-pub insert-word : (ws : List ℕ) (c : ℕ) → c / 64 < length ws → (k : ℕ) → wordsHave (set ws (c / 64) (bitOr (getD ws (c / 64) 0) ((1 * 2 ^ (c % 64)) % 2 ^ 64))) k ≡ eqb k c || wordsHave ws k
-unfolding wordsHave
-insert-word ws c h k = go (ℕ-discrete (k / 64) (c / 64))
-  where
-    go : Dec (k / 64 ≡ c / 64) → unpack (getD (set ws (c / 64) (bitOr (getD ws (c / 64) 0) ((1 * 2 ^ (c % 64)) % 2 ^ 64))) (k / 64) 0) (k % 64) ≡ eqb k c || unpack (getD ws (k / 64) 0) (k % 64)
-    go (yes e) =
-        let q : 64 * (c / 64) + k % 64 ≡ k = omega arith in
-        rw (e, getD-set-same ws (c / 64) _ 0 h)
-        (unpack-or (getD ws (c / 64) 0) ((1 * 2 ^ (c % 64)) % 2 ^ 64) (k % 64)
-        ∙ or-comm (unpack (getD ws (c / 64) 0) (k % 64)) _
-        ∙ ap (λ (t : Bool). t || unpack (getD ws (c / 64) 0) (k % 64)) (bit-here c (c / 64) (k % 64) refl (omega arith) ∙ ap (λ (x : ℕ). eqb x c) q))
-    go (no n) = rw (getD-set-other ws (c / 64) (k / 64) _ 0 n, ne-eqb k c (λ e. n (ap (λ (x : ℕ). x / 64) e)))
-
 -- `a & !b` is a digit of a and not of b
 pub word-minus : (a b : ℕ) → b < 2 ^ 64 → (j : ℕ) → j < 64 → unpack (bitAnd a (2 ^ 64 - 1 - b)) j ≡ unpack a j && not (unpack b j)
 word-minus a b h j l = unpack-and a (2 ^ 64 - 1 - b) j ∙ ap (λ (t : Bool). unpack a j && t) (unpack-not 64 b j h l)
@@ -115,6 +101,30 @@ pub word-without : (a t : ℕ) → t < 64 → (j : ℕ) → j < 64 → unpack (b
 word-without a t h j l =
     let e : (1 * 2 ^ t) % 2 ^ 64 ≡ 2 ^ t = ap (λ (x : ℕ). x % 2 ^ 64) (one-mul (2 ^ t)) ∙ mod-eq-of-lt (pow-lt h) in
     rw e (word-minus a (2 ^ t) (pow-lt h) j l ∙ and-comm (unpack a j) _ ∙ rw (unpack-power t j))
+
+-- the word of c in place of the old one: where its digits are P of whether they are c's and of the old digits, so are the members
+word-changed : (P : Bool → Bool → Bool) → ((b : Bool) → P false b ≡ b) → (ws : List ℕ) (c w : ℕ) → c / 64 < length ws
+    → ((j : ℕ) → j < 64 → unpack w j ≡ P (eqb (64 * (c / 64) + j) c) (unpack (getD ws (c / 64) 0) j)) → (k : ℕ) → wordsHave (set ws (c / 64) w) k ≡ P (eqb k c) (wordsHave ws k)
+unfolding wordsHave
+word-changed P keeps ws c w h each k = go (ℕ-discrete (k / 64) (c / 64))
+  where
+    go : Dec (k / 64 ≡ c / 64) → unpack (getD (set ws (c / 64) w) (k / 64) 0) (k % 64) ≡ P (eqb k c) (unpack (getD ws (k / 64) 0) (k % 64))
+    go (yes e) =
+        let q : 64 * (c / 64) + k % 64 ≡ k = omega arith in
+        rw (e, getD-set-same ws (c / 64) w 0 h) (each (k % 64) (omega arith) ∙ ap (λ (x : ℕ). P (eqb x c) (unpack (getD ws (c / 64) 0) (k % 64))) q)
+    go (no n) = rw (getD-set-other ws (c / 64) (k / 64) w 0 n, ne-eqb k c (λ e. n (ap (λ (x : ℕ). x / 64) e))) (sym (keeps _))
+
+-- the words with the digit of c
+pub insert-word : (ws : List ℕ) (c : ℕ) → c / 64 < length ws → (k : ℕ) → wordsHave (set ws (c / 64) (bitOr (getD ws (c / 64) 0) ((1 * 2 ^ (c % 64)) % 2 ^ 64))) k ≡ eqb k c || wordsHave ws k
+insert-word ws c h = word-changed (λ p b. p || b) (λ b. refl) ws c _ h (λ j l.
+    unpack-or (getD ws (c / 64) 0) ((1 * 2 ^ (c % 64)) % 2 ^ 64) j ∙ or-comm (unpack (getD ws (c / 64) 0) j) _
+    ∙ ap (λ (t : Bool). t || unpack (getD ws (c / 64) 0) j) (bit-here c (c / 64) j refl l))
+
+-- and without it
+pub remove-word : (ws : List ℕ) (c : ℕ) → c / 64 < length ws → (k : ℕ) → wordsHave (set ws (c / 64) (bitAnd (getD ws (c / 64) 0) (2 ^ 64 - 1 - (1 * 2 ^ (c % 64)) % 2 ^ 64))) k ≡ not (eqb k c) && wordsHave ws k
+remove-word ws c h = word-changed (λ p b. not p && b) (λ b. refl) ws c _ h (λ j l.
+    word-minus (getD ws (c / 64) 0) ((1 * 2 ^ (c % 64)) % 2 ^ 64) (omega arith) j l ∙ and-comm (unpack (getD ws (c / 64) 0) j) _
+    ∙ ap (λ (t : Bool). not t && unpack (getD ws (c / 64) 0) j) (bit-here c (c / 64) j refl l))
 
 -- `|` and `^` that come to 0
 or-zero : (a b : ℕ) → bitOr a b ≡ 0 → (a ≡ 0) × (b ≡ 0)

@@ -241,13 +241,23 @@ pub fn among(words: &[u64; 4], c: u8) -> bool
 }
 
 // c becomes a member of the set of these words.
-fn insert(words: &mut [u64; 4], c: u8)
+pub fn insert(words: &mut [u64; 4], c: u8)
     requires { ⌜ length (now words) ≡ 4 ⌝ }
     ensures { λ _. ⌜ length (now (words .exit)) ≡ 4 ⌝ }
     ensures { λ _. ⌜ ((k : ℕ) → wordsHave (now (words .exit)) k ≡ eqb k c || wordsHave (now (words .entry)) k) ⌝ }
 {
     let i = (c / 64) as usize;
     words[i] = words[i] | (1 << (c % 64));
+}
+
+// c is a member of the set of these words no more.
+pub fn remove(words: &mut [u64; 4], c: u8)
+    requires { ⌜ length (now words) ≡ 4 ⌝ }
+    ensures { λ _. ⌜ length (now (words .exit)) ≡ 4 ⌝ }
+    ensures { λ _. ⌜ ((k : ℕ) → wordsHave (now (words .exit)) k ≡ not (eqb k c) && wordsHave (now (words .entry)) k) ⌝ }
+{
+    let i = (c / 64) as usize;
+    words[i] = words[i] & !(1 << (c % 64));
 }
 
 // What one tie adds to the set of these words.
