@@ -1,6 +1,6 @@
--- A set's words and its 32 bytes: what a loop that gathers a word keeps, what is stored word by word, and that it is read again. Assumes nothing.
+-- A set's words and its 32 bytes: a word gathered byte by byte, what is stored word by word, and that it is read again. Assumes nothing.
 use mathlib.Core.Path.{_≡_, refl, sym, ap, ap₂, _∙_}
-use mathlib.Core.Bool.{false}
+use mathlib.Core.Bool.{false, _&&_, _||_, or-false}
 use mathlib.Core.List.{List, [], _∷_, _++_}
 use Prim.Native.Nat.{ℕ, zero, suc, _+_, _-_, _*_, _/_, _%_, _^_, _≤_, _<_}
 use native.Mathlib.Nat.{mod-lt, div-one, div-div-eq-div-mul, add-zero, add-suc, zero-lt-suc}
@@ -23,28 +23,46 @@ use Rattle.cells.specs.Num.{le}
 use Rattle.cells.proofs.NumLaws.{length-le}
 use Rattle.sets.specs.Members.{members, loaded, setByte, setBytes, stored}
 use Rattle.sets.specs.declared.ChangeSet.{ChangeSet}
-use Rattle.sets.proofs.Digits.{unpack-push-low, unpack-push-high, unpack-mod, unpack-shr, unpack-ext}
+use Rattle.sets.proofs.Digits.{unpack-above, unpack-or, unpack-mod, unpack-shl, unpack-shl-low, unpack-shr, unpack-ext}
 use Rattle.sets.proofs.Words.{ofWords, by-words, each-of-4}
 use Rattle.sets.proofs.MemberLaws.{members-above}
 
 -- GATHERED
--- the digits of w are those of the bytes from i on; a turn takes in the byte before them
-pub push-byte : (bs : List ℕ) (at i w b : ℕ) → 0 < i → i ≤ 8 → b < 256 → b ≡ getD bs (at + (i - 1)) 0
-    → ((k : ℕ) → k + 8 * i < 64 → unpack w k ≡ unpack (getD bs (at + (i + k / 8)) 0) (k % 8))
-    → (k : ℕ) → k + 8 * (i - 1) < 64 → unpack (bitOr ((w * 2 ^ 8) % 2 ^ 64) b) k ≡ unpack (getD bs (at + (i - 1 + k / 8)) 0) (k % 8)
-push-byte bs at i w b p h hb e inv k l = go (decLt k 8)
+-- the digits of w are those of the first i bytes, and no more
+abbrev pub Gathered : List ℕ → ℕ → ℕ → ℕ → Type 0
+Gathered bs at i w = (k : ℕ) → k < 64 → unpack w k ≡ ltb k (8 * i) && unpack (getD bs (at + k / 8) 0) (k % 8)
+
+-- the first byte
+pub first-byte : (bs : List ℕ) (at b : ℕ) → b < 256 → b ≡ getD bs at 0 → Gathered bs at 1 b
+first-byte bs at b hb e k h = go (decLt k 8)
   where
-    go : Dec (k < 8) → unpack (bitOr ((w * 2 ^ 8) % 2 ^ 64) b) k ≡ unpack (getD bs (at + (i - 1 + k / 8)) 0) (k % 8)
-    go (yes q) =
-        let x : at + (i - 1) ≡ at + (i - 1 + k / 8) = omega arith in
-        let y : k ≡ k % 8 = omega arith in
-        unpack-push-low 64 8 w b k q (omega arith) ∙ ap (λ (v : ℕ). unpack v k) e ∙ ap₂ (λ (u v : ℕ). unpack (getD bs u 0) v) x y
-    go (no n) =
-        let q : k ≡ 8 + (k - 8) = omega arith in
-        let x : at + (i + (k - 8) / 8) ≡ at + (i - 1 + k / 8) = omega arith in
-        let y : (k - 8) % 8 ≡ k % 8 = omega arith in
-        ap (unpack (bitOr ((w * 2 ^ 8) % 2 ^ 64) b)) q ∙ unpack-push-high 64 8 w b (k - 8) hb (omega arith) ∙ inv (k - 8) (omega arith)
-        ∙ ap₂ (λ (u v : ℕ). unpack (getD bs u 0) v) x y
+    go : Dec (k < 8) → unpack b k ≡ ltb k 8 && unpack (getD bs (at + k / 8) 0) (k % 8)
+    go (yes l) =
+        let x : at + k / 8 ≡ at = omega arith in
+        let y : k % 8 ≡ k = omega arith in
+        rw (ltb-true k 8 l, x, y, e)
+    go (no n) = rw (ltb-false k 8 (omega arith)) (unpack-above b 8 k hb (omega arith))
+
+-- one byte more
+pub next-byte : (bs : List ℕ) (at i w b : ℕ) → b < 256 → b ≡ getD bs (at + i) 0 → Gathered bs at i w → Gathered bs at (i + 1) (bitOr w ((b * 2 ^ (8 * i)) % 2 ^ 64))
+next-byte bs at i w b hb e g k h = unpack-or w ((b * 2 ^ (8 * i)) % 2 ^ 64) k ∙ rw (g k h, unpack-mod 64 (b * 2 ^ (8 * i)) k h) (go (decLt k (8 * i)) (decLt k (8 * (i + 1))))
+  where
+    go : Dec (k < 8 * i) → Dec (k < 8 * (i + 1))
+        → ltb k (8 * i) && unpack (getD bs (at + k / 8) 0) (k % 8) || unpack (b * 2 ^ (8 * i)) k ≡ ltb k (8 * (i + 1)) && unpack (getD bs (at + k / 8) 0) (k % 8)
+    go (yes l) m = rw (ltb-true k (8 * i) l, ltb-true k (8 * (i + 1)) (omega arith), unpack-shl-low (8 * i) b k l, or-false (unpack (getD bs (at + k / 8) 0) (k % 8)))
+    go (no n) (yes l) =
+        let q : k ≡ 8 * i + k % 8 = omega arith in
+        let x : at + k / 8 ≡ at + i = omega arith in
+        let y = unpack-shl (8 * i) b (k % 8) in
+        rw (ltb-false k (8 * i) (omega arith), ltb-true k (8 * (i + 1)) l, x, ← e) (ap (unpack (b * 2 ^ (8 * i))) q ∙ y)
+    go (no n) (no m) =
+        let q : k ≡ 8 * i + (k - 8 * i) = omega arith in
+        rw (ltb-false k (8 * i) (omega arith), ltb-false k (8 * (i + 1)) (omega arith))
+        (ap (unpack (b * 2 ^ (8 * i))) q ∙ unpack-shl (8 * i) b (k - 8 * i) ∙ unpack-above b 8 (k - 8 * i) hb (omega arith))
+
+-- all eight
+pub eight-bytes : (bs : List ℕ) (at w : ℕ) → Gathered bs at 8 w → (k : ℕ) → k < 64 → unpack w k ≡ unpack (getD bs (at + k / 8) 0) (k % 8)
+eight-bytes bs at w g k h = g k h ∙ rw (ltb-true k 64 h)
 
 -- where there are not 32 bytes, nothing
 pub loaded-short : (bs : List ℕ) (at : ℕ) → length bs < at + 32 → (k : ℕ) → loaded bs at k ≡ false

@@ -1,6 +1,6 @@
 -- The binary digits of a number, lowest first, as `unpack` reads them: of 0 and of a power, of the operators on words, of the place of the lowest. Assumes nothing.
 use mathlib.Core.Path.{_≡_, refl, sym, ap, ap₂, _∙_}
-use mathlib.Core.Bool.{Bool, true, false, not, _&&_, _||_, or-false, true≢false, false≢true}
+use mathlib.Core.Bool.{true, false, not, _&&_, _||_, true≢false, false≢true}
 use Prim.Native.Nat.{ℕ, zero, suc, _+_, _-_, _*_, _/_, _%_, _^_, _≤_, _<_, min, max}
 use native.Mathlib.Nat.{zero-add, suc-add, mul-one, div-div-eq-div-mul, div-one, pow-succ', mod-lt, zero-lt-suc, div-eq-of-lt}
 use native.Mathlib.Numerals.{add-one}
@@ -148,18 +148,6 @@ unpack-shl-low (suc s) w (suc k) l =
 pub unpack-shr : (s w k : ℕ) → unpack (w / 2 ^ s) k ≡ unpack w (s + k)
 unfolding unpack
 unpack-shr s w k = ap (λ (x : ℕ). eqb (x % 2) 1) (shr-shr w s k)
-
--- `(w << s) | b` of n digits, for a b of s digits
-pub unpack-push-low : (n s w b k : ℕ) → k < s → s ≤ n → unpack (bitOr ((w * 2 ^ s) % 2 ^ n) b) k ≡ unpack b k
-unpack-push-low n s w b k l h =
-    unpack-or ((w * 2 ^ s) % 2 ^ n) b k ∙ ap (λ (t : Bool). t || unpack b k) (unpack-mod n (w * 2 ^ s) k (omega arith) ∙ unpack-shl-low s w k l)
-
--- above, the digits of w
-pub unpack-push-high : (n s w b k : ℕ) → b < 2 ^ s → s + k < n → unpack (bitOr ((w * 2 ^ s) % 2 ^ n) b) (s + k) ≡ unpack w k
-unpack-push-high n s w b k hb h =
-    unpack-or ((w * 2 ^ s) % 2 ^ n) b (s + k)
-    ∙ ap₂ _||_ (unpack-mod n (w * 2 ^ s) (s + k) h ∙ unpack-shl s w k) (unpack-above b s (s + k) hb (omega arith))
-    ∙ or-false (unpack w k)
 
 -- `trailing_zeros`: the lowest digit that is set, and none before it
 hit-step : (n w d : ℕ) → Digit d → w % 2 ≡ d → w < 2 ^ suc n → 0 < w

@@ -340,18 +340,19 @@ fn wide(x: u8) -> u64
     x as u64
 }
 
-// The eight bytes from a place on, lowest first, as a number.
+// The eight bytes from a place on, lowest first, as a number. Written out, they are loaded as one.
 fn word_at(bytes: &[u8], at: usize) -> u64
     requires { ⌜ at + 8 ≤ length (now bytes) ⌝ }
     ensures { λ r. ⌜ ((k : ℕ) → k < 64 → unpack r k ≡ unpack (getD (now (bytes .entry)) (at + k / 8) 0) (k % 8)) ⌝ }
 {
-    let mut w: u64 = 0;
-    let mut i: usize = 8;
-    while i > 0 {
-        i -= 1;
-        w = (w << 8) | wide(bytes[at + i]);
-    }
-    w
+    wide(bytes[at])
+        | (wide(bytes[at + 1]) << 8)
+        | (wide(bytes[at + 2]) << 16)
+        | (wide(bytes[at + 3]) << 24)
+        | (wide(bytes[at + 4]) << 32)
+        | (wide(bytes[at + 5]) << 40)
+        | (wide(bytes[at + 6]) << 48)
+        | (wide(bytes[at + 7]) << 56)
 }
 
 // A number as eight bytes at a place, lowest first.

@@ -1,51 +1,55 @@
--- `sets::word_at` meets its contract: the digits gathered are those of the bytes from i on. The measure is i. Assumes nothing.
-use mathlib.Core.Path.{_≡_, ap, _∙_}
-use Prim.Native.Nat.{ℕ, _+_, _*_, _-_, _/_, _%_, _<_, _≤_}
+-- `sets::word_at` meets its contract: each byte brings its eight digits. Assumes nothing.
+use mathlib.Core.Path.{_≡_}
+use Prim.Native.Nat.{ℕ, _+_, _*_, _%_, _^_, _<_}
 use native.Mathlib.Omega.{arith}
 use borrow.Author.Needs.{needs}
+use lib.Bits.{bitOr}
 use lib.ListN.{getD}
-use Rattle.layout.specs.Codec.{unpack}
-use Rattle.sets.proofs.Bytes.{push-byte}
+use Rattle.sets.proofs.Bytes.{Gathered, first-byte, next-byte, eight-bytes}
 use Rattle.sets.proofs.word_at.Statement.{statement}
 use Rattle.sets.proofs.word_at.Tie as tie
 
-abbrev Inv-loop : tie.InvT-loop
-Inv-loop bytes at w₀ i₀ w i = (i ≤ 8) × ((k : ℕ) → k + 8 * i < 64 → unpack w k ≡ unpack (getD bytes (at + (i + k / 8)) 0) (k % 8))
-
-abbrev μ-loop : tie.MeasureT-loop
-μ-loop bytes at w₀ i₀ w i = i
-
-loop-holds : tie.Need-loop-holds Inv-loop μ-loop
-loop-holds c = (omega arith, λ k h. absurd (omega arith))
-
-loop-again : tie.Need-loop-again Inv-loop μ-loop
-loop-again c =
-    let l = c .before .before .before .loop in
-    let a = c .before .before .before .before .before .args in (
-      omega arith,
-      push-byte (a .bytes .now) (a .at) (l .i) (l .w) (c .wide .result) (omega arith) (omega arith)
-          (omega (arith, c .before .shared-slice-known2 .given (a .at + (l .i - 1)))) (c .wide .ensures) (l .inv .1),
-    )
-
-returns : tie.Need-returns Inv-loop μ-loop
+returns : tie.Need-returns
 returns c =
-    λ k h.
-    let l = c .before .loop in
-    let a = c .before .before .before .args in
-    let e : a .at + (l .i + k / 8) ≡ a .at + k / 8 = omega arith in
-    l .inv .1 k (omega arith) ∙ ap (λ (u : ℕ). unpack (getD (a .bytes .now) u 0) (k % 8)) e
+    let a = c .before .before .before .before .before .before .before .before .before .before .before .before .before .before .before .before .before .args in
+    let small : (i b : ℕ) → b ≡ getD (a .bytes .now) i 0 → b < 256 = λ i b e. omega (arith, c .before .before .before .before .before .before .before .before .before .before .before .before .before .before .before .before .shared-slice-known .given i) in
+    let more : (i w b : ℕ) → b ≡ getD (a .bytes .now) (a .at + i) 0 → Gathered (a .bytes .now) (a .at) i w → Gathered (a .bytes .now) (a .at) (i + 1) (bitOr w ((b * 2 ^ (8 * i)) % 2 ^ 64)) =
+    λ i w b e. next-byte (a .bytes .now) (a .at) i w b (small (a .at + i) b e) e in
+    let g1 = first-byte (a .bytes .now) (a .at) (c .before .before .before .before .before .before .before .before .before .before .before .before .before .before .wide .result) (small (a .at) _ (c .before .before .before .before .before .before .before .before .before .before .before .before .before .before .wide .ensures)) (c .before .before .before .before .before .before .before .before .before .before .before .before .before .before .wide .ensures) in
+    let g2 = more 1 _ (c .before .before .before .before .before .before .before .before .before .before .before .before .wide2 .result) (c .before .before .before .before .before .before .before .before .before .before .before .before .wide2 .ensures) g1 in
+    let g3 = more 2 _ (c .before .before .before .before .before .before .before .before .before .before .wide3 .result) (c .before .before .before .before .before .before .before .before .before .before .wide3 .ensures) g2 in
+    let g4 = more 3 _ (c .before .before .before .before .before .before .before .before .wide4 .result) (c .before .before .before .before .before .before .before .before .wide4 .ensures) g3 in
+    let g5 = more 4 _ (c .before .before .before .before .before .before .wide5 .result) (c .before .before .before .before .before .before .wide5 .ensures) g4 in
+    let g6 = more 5 _ (c .before .before .before .before .wide6 .result) (c .before .before .before .before .wide6 .ensures) g5 in
+    let g7 = more 6 _ (c .before .before .wide7 .result) (c .before .before .wide7 .ensures) g6 in
+    let g8 = more 7 _ (c .wide8 .result) (c .wide8 .ensures) g7 in
+    eight-bytes (a .bytes .now) (a .at) _ g8
 
 pub word-at-spec : {M : Type 1} → statement M
 word-at-spec =
     tie.close
     (tie.spec
-    Inv-loop
-    μ-loop
-    loop-holds
     (λ c. search needs)
+    (λ c κs. search needs)
     (λ c. search needs)
     (λ c. search needs)
     (λ c κs. search needs)
     (λ c. search needs)
-    loop-again
+    (λ c. search needs)
+    (λ c κs. search needs)
+    (λ c. search needs)
+    (λ c. search needs)
+    (λ c κs. search needs)
+    (λ c. search needs)
+    (λ c. search needs)
+    (λ c κs. search needs)
+    (λ c. search needs)
+    (λ c. search needs)
+    (λ c κs. search needs)
+    (λ c. search needs)
+    (λ c. search needs)
+    (λ c κs. search needs)
+    (λ c. search needs)
+    (λ c. search needs)
+    (λ c κs. search needs)
     returns)
