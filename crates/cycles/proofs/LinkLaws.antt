@@ -12,8 +12,11 @@ use lib.Seq.{getD-set-same, getD-set-other}
 use Rattle.rules.specs.Base.{anyBelow, countBelow}
 use Rattle.rules.specs.Sets.{only}
 use Rattle.rules.proofs.BaseLaws.{or-true, count-le, Below, under, over, below, eqb-same, eqb-other, Same, same, other, same?}
+use Rattle.sets.specs.Members.{members, wordsHave}
+use Rattle.sets.proofs.Words.{ofWords}
+use Rattle.sets.proofs.MemberLaws.{words-none}
 use Rattle.cycles.specs.Graph.{Graph, everyone, comes, leads, lastFrom}
-use Rattle.cycles.specs.Links.{Lists, Room, Blank, withArrow, withTie, Linked}
+use Rattle.cycles.specs.Links.{Lists, Room, Ends, Blank, NoEnds, withArrow, withTie, Linked}
 use Rattle.cycles.proofs.CountLaws.{comes-none, comes-other, comes-one, last-none, last-other, last-one}
 
 -- empty lists hold no arrow
@@ -116,3 +119,12 @@ linked-few G m s p l k = go (below k 256)
 -- blank lists have room
 pub blank-room : (ties : List ℕ) (count : ℕ) (labels f n w : List ℕ) → Blank ties count labels f n w → Room f n w
 blank-room ties count labels f n w b = record { by-label = ap length (b .no-heads) ∙ length-replicate {A = ℕ} 256 0; by-place = b .next-long; counts = ap length (b .no-counts) ∙ length-replicate {A = ℕ} 256 0 }
+
+-- words that are 0 hold no label
+pub blank-words : (ws : List ℕ) → ws ≡ replicate 4 0 → (k : ℕ) → wordsHave ws k ≡ false
+unfolding members wordsHave
+blank-words ws e = words-none (ofWords ws) (ap length e ∙ length-replicate {A = ℕ} 4 0) (λ i h. rw e (getD-replicate 4 i 0 0 h))
+
+-- and are four
+pub blank-ends : (l b : List ℕ) → NoEnds l b → Ends l b
+blank-ends l b e = record { leading = ap length (e .no-leaders) ∙ length-replicate {A = ℕ} 4 0; led = ap length (e .no-blocked) ∙ length-replicate {A = ℕ} 4 0 }

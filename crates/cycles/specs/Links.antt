@@ -6,8 +6,7 @@ use Prim.Native.Nat.{ℕ, _+_, _*_, _≤_, _<_}
 use lib.Dec.{eqb}
 use lib.ListN.{length, getD, set, replicate}
 use Rattle.rules.specs.Sets.{Set, only}
-use Rattle.sets.specs.Members.{members}
-use Rattle.sets.specs.declared.ChangeSet.{ChangeSet}
+use Rattle.sets.specs.Members.{wordsHave}
 use Rattle.cycles.specs.Graph.{Graph, everyone, comes, leads, lastFrom}
 
 -- the lists, and the sets of labels at the ends of arrows
@@ -24,8 +23,8 @@ pub record Lists : Type 0 where
   pub blocked : Set
 
 -- with the sets as words
-abbrev pub listsOf : List ℕ → List ℕ → List ℕ → ChangeSet → ChangeSet → Lists
-listsOf heads next incoming leaders blocked = record { heads = heads; next = next; incoming = incoming; leaders = members leaders; blocked = members blocked }
+abbrev pub listsOf : List ℕ → List ℕ → List ℕ → List ℕ → List ℕ → Lists
+listsOf heads next incoming leaders blocked = record { heads = heads; next = next; incoming = incoming; leaders = wordsHave leaders; blocked = wordsHave blocked }
 
 -- lists that are long enough
 pub record Room (heads next incoming : List ℕ) : Type 0 where
@@ -35,6 +34,13 @@ pub record Room (heads next incoming : List ℕ) : Type 0 where
   pub by-place : length next ≡ 512
   -- a count for each label
   pub counts : length incoming ≡ 256
+
+-- the words of the sets of labels at the ends of arrows
+pub record Ends (leaders blocked : List ℕ) : Type 0 where
+  -- four for those that arrows go from
+  pub leading : length leaders ≡ 4
+  -- and four for those that arrows come to
+  pub led : length blocked ≡ 4
 
 -- ties and labels to start with, and lists that hold no arrow
 pub record Blank (ties : List ℕ) (count : ℕ) (labels heads next incoming : List ℕ) : Type 0 where
@@ -50,6 +56,11 @@ pub record Blank (ties : List ℕ) (count : ℕ) (labels heads next incoming : L
   pub next-long : length next ≡ 512
   -- a count for each label, and none counted
   pub no-counts : incoming ≡ replicate 256 0
+
+-- words of sets that hold no label
+pub record NoEnds (leaders blocked : List ℕ) : Type 0 where
+  pub no-leaders : leaders ≡ replicate 4 0
+  pub no-blocked : blocked ≡ replicate 4 0
 
 -- the arrow at place j put at the head of its list, and counted
 unfoldable pub withArrow : ℕ → ℕ → ℕ → Lists → Lists

@@ -1,6 +1,8 @@
 // Whether the arrows between groups of changes close a cycle (a topological sort of the groups).
 use layout::Ties;
 use sets::ChangeSet;
+use sets::insert;
+use sets::remove;
 ghost use mathlib.Core.Path.{_≡_};
 ghost use mathlib.Core.Bool.{true, not, _&&_};
 ghost use mathlib.Core.List.{List, map};
@@ -11,10 +13,10 @@ ghost use Rattle.rules.specs.Base.{anyBelow, lowestBelow};
 ghost use Rattle.rules.specs.Window.{TieRecord};
 ghost use Rattle.rules.specs.Ties.{isArrow, acyclic};
 ghost use Rattle.layout.specs.Codec.{tieSection};
-ghost use Rattle.sets.specs.Members.{members};
+ghost use Rattle.sets.specs.Members.{wordsHave};
 ghost use Rattle.sets.specs.Closing.{endsBelow, tieOf, tieAt};
 ghost use Rattle.cycles.specs.Graph.{ownLabels, instead, joined, labelled, arrowAt, graphOf, noCycle, sources};
-ghost use Rattle.cycles.specs.Links.{Room, Blank, listsOf, withArrow, withTie, Linked, Removable, Removed};
+ghost use Rattle.cycles.specs.Links.{Room, Ends, Blank, NoEnds, listsOf, withArrow, withTie, Linked, Removable, Removed};
 
 // Whether no path of arrows returns to its group, of the first `count` ties of the section.
 pub fn acyclic(ties: &[u8], count: usize) -> bool
@@ -126,36 +128,29 @@ fn label_of(labels: &[u8], change: u8) -> u8
     labels[change as usize]
 }
 
-// The labels that arrows go from, and those that arrows come to.
-struct Ends {
-    leaders: ChangeSet,
-    blocked: ChangeSet,
-}
-
 // The arrow at place j is put at the head of the list of the label that it goes from, and counted at the label that it comes to.
+// The labels that arrows go from and those that arrows come to are sets in lent words: one word of each changes, and no set is copied.
 fn link_arrow(
     heads: &mut [u16],
     next: &mut [u16],
     incoming: &mut [u16],
-    ends: Ends,
+    leaders: &mut [u64; 4],
+    blocked: &mut [u64; 4],
     j: usize,
     from: u8,
     to: u8,
-) -> Ends
-    requires { ⌜ Room (now heads) (now next) (now incoming) × (j < 512) × (getD (now incoming) to 0 ≤ j) ⌝ }
-    ensures { λ r. ⌜ listsOf (now (heads .exit)) (now (next .exit)) (now (incoming .exit)) (r .leaders) (r .blocked) ≡ withArrow j from to (listsOf (now (heads .entry)) (now (next .entry)) (now (incoming .entry)) (ends .leaders) (ends .blocked)) ⌝ }
+)
+    requires { ⌜ Room (now heads) (now next) (now incoming) × Ends (now leaders) (now blocked) × (j < 512) × (getD (now incoming) to 0 ≤ j) ⌝ }
+    ensures { λ _. ⌜ Ends (now (leaders .exit)) (now (blocked .exit)) ⌝ }
+    ensures { λ _. ⌜ listsOf (now (heads .exit)) (now (next .exit)) (now (incoming .exit)) (now (leaders .exit)) (now (blocked .exit)) ≡ withArrow j from to (listsOf (now (heads .entry)) (now (next .entry)) (now (incoming .entry)) (now (leaders .entry)) (now (blocked .entry))) ⌝ }
 {
     let a = from as usize;
     let b = to as usize;
     next[j] = heads[a];
     heads[a] = (j + 1) as u16;
     incoming[b] = incoming[b] + 1;
-    let leaders = ends.leaders;
-    let blocked = ends.blocked;
-    Ends {
-        leaders: leaders.add(from),
-        blocked: blocked.add(to),
-    }
+    insert(leaders, from);
+    insert(blocked, to);
 }
 
 // The tie at place j, linked if it is an arrow.
@@ -164,21 +159,22 @@ fn link_tie(
     heads: &mut [u16],
     next: &mut [u16],
     incoming: &mut [u16],
-    ends: Ends,
+    leaders: &mut [u64; 4],
+    blocked: &mut [u64; 4],
     j: usize,
     kind: u8,
     leader: u8,
     follower: u8,
-) -> Ends
-    requires { ⌜ (length (now labels) ≡ 256) × Room (now heads) (now next) (now incoming) × (j < 512) × ((k : ℕ) → getD (now incoming) k 0 ≤ j) ⌝ }
-    ensures { λ r. ⌜ listsOf (now (heads .exit)) (now (next .exit)) (now (incoming .exit)) (r .leaders) (r .blocked) ≡ withTie (isArrow kind) j (getD (now (labels .entry)) leader 0) (getD (now (labels .entry)) follower 0) (listsOf (now (heads .entry)) (now (next .entry)) (now (incoming .entry)) (ends .leaders) (ends .blocked)) ⌝ }
+)
+    requires { ⌜ (length (now labels) ≡ 256) × Room (now heads) (now next) (now incoming) × Ends (now leaders) (now blocked) × (j < 512) × ((k : ℕ) → getD (now incoming) k 0 ≤ j) ⌝ }
+    ensures { λ _. ⌜ Ends (now (leaders .exit)) (now (blocked .exit)) ⌝ }
+    ensures { λ _. ⌜ listsOf (now (heads .exit)) (now (next .exit)) (now (incoming .exit)) (now (leaders .exit)) (now (blocked .exit)) ≡ withTie (isArrow kind) j (getD (now (labels .entry)) leader 0) (getD (now (labels .entry)) follower 0) (listsOf (now (heads .entry)) (now (next .entry)) (now (incoming .entry)) (now (leaders .entry)) (now (blocked .entry))) ⌝ }
 {
     if is_arrow(kind) {
         let from = labels[leader as usize];
         let to = labels[follower as usize];
-        return link_arrow(heads, next, incoming, ends, j, from, to);
+        link_arrow(heads, next, incoming, leaders, blocked, j, from, to);
     }
-    ends
 }
 
 // All arrows are linked.
@@ -189,23 +185,23 @@ fn link_ties(
     heads: &mut [u16],
     next: &mut [u16],
     incoming: &mut [u16],
-) -> Ends
-    requires { ⌜ Blank (now ties) count (now labels) (now heads) (now next) (now incoming) ⌝ }
-    ensures { λ r. ⌜ Linked (graphOf (now (ties .entry)) (now (labels .entry))) count (listsOf (now (heads .exit)) (now (next .exit)) (now (incoming .exit)) (r .leaders) (r .blocked)) ⌝ }
+    leaders: &mut [u64; 4],
+    blocked: &mut [u64; 4],
+)
+    requires { ⌜ Blank (now ties) count (now labels) (now heads) (now next) (now incoming) × NoEnds (now leaders) (now blocked) ⌝ }
+    ensures { λ _. ⌜ Ends (now (leaders .exit)) (now (blocked .exit)) ⌝ }
+    ensures { λ _. ⌜ Linked (graphOf (now (ties .entry)) (now (labels .entry))) count (listsOf (now (heads .exit)) (now (next .exit)) (now (incoming .exit)) (now (leaders .exit)) (now (blocked .exit))) ⌝ }
 {
-    let mut ends = Ends {
-        leaders: ChangeSet::empty(),
-        blocked: ChangeSet::empty(),
-    };
     let mut j: usize = 0;
     while j < count {
         let at = j * 4;
-        ends = link_tie(
+        link_tie(
             labels,
             heads,
             next,
             incoming,
-            ends,
+            leaders,
+            blocked,
             j,
             ties[at],
             ties[at + 1],
@@ -213,22 +209,21 @@ fn link_ties(
         );
         j += 1;
     }
-    ends
 }
 
 // One arrow to k is removed; without the last of them k is blocked no more.
-fn remove_arrow(incoming: &mut [u16], blocked: ChangeSet, k: u8) -> ChangeSet
-    requires { ⌜ length (now incoming) ≡ 256 ⌝ }
+fn remove_arrow(incoming: &mut [u16], blocked: &mut [u64; 4], k: u8)
+    requires { ⌜ (length (now incoming) ≡ 256) × (length (now blocked) ≡ 4) ⌝ }
     requires { ⌜ 0 < getD (now incoming) k 0 ⌝ }
-    ensures { λ r. ⌜ (now (incoming .exit) ≡ set (now (incoming .entry)) k (getD (now (incoming .entry)) k 0 - 1)) × ((i : ℕ) → members r i ≡ not (eqb i k && eqb (getD (now (incoming .entry)) k 0 - 1) 0) && members blocked i) ⌝ }
+    ensures { λ _. ⌜ length (now (blocked .exit)) ≡ 4 ⌝ }
+    ensures { λ _. ⌜ (now (incoming .exit) ≡ set (now (incoming .entry)) k (getD (now (incoming .entry)) k 0 - 1)) × ((i : ℕ) → wordsHave (now (blocked .exit)) i ≡ not (eqb i k && eqb (getD (now (incoming .entry)) k 0 - 1) 0) && wordsHave (now (blocked .entry)) i) ⌝ }
 {
     let a = k as usize;
     let n = incoming[a] - 1;
     incoming[a] = n;
     if n == 0 {
-        return blocked.without(k);
+        remove(blocked, k);
     }
-    blocked
 }
 
 // The arrows that go from v are removed, the last first.
@@ -238,29 +233,30 @@ fn remove_arrows(
     heads: &[u16],
     next: &[u16],
     incoming: &mut [u16],
-    blocked: ChangeSet,
+    blocked: &mut [u64; 4],
     v: u8,
-) -> ChangeSet
-    requires { ⌜ (length (now labels) ≡ 256) × Room (now heads) (now next) (now incoming) × (getD (now heads) v 0 ≤ 512) × (4 * getD (now heads) v 0 ≤ length (now ties)) × Removable (graphOf (now ties) (now labels)) v (getD (now heads) v 0) (now next) (now incoming) (members blocked) ⌝ }
-    ensures { λ r. ⌜ Removed (graphOf (now (ties .entry)) (now (labels .entry))) v (getD (now (heads .entry)) v 0) (now (incoming .entry)) (now (incoming .exit)) (members r) ⌝ }
+)
+    requires { ⌜ (length (now labels) ≡ 256) × Room (now heads) (now next) (now incoming) × (length (now blocked) ≡ 4) × (getD (now heads) v 0 ≤ 512) × (4 * getD (now heads) v 0 ≤ length (now ties)) × Removable (graphOf (now ties) (now labels)) v (getD (now heads) v 0) (now next) (now incoming) (wordsHave (now blocked)) ⌝ }
+    ensures { λ _. ⌜ length (now (blocked .exit)) ≡ 4 ⌝ }
+    ensures { λ _. ⌜ Removed (graphOf (now (ties .entry)) (now (labels .entry))) v (getD (now (heads .entry)) v 0) (now (incoming .entry)) (now (incoming .exit)) (wordsHave (now (blocked .exit))) ⌝ }
 {
-    let mut rest = blocked;
     let mut e = heads[v as usize] as usize;
     while e > 0 {
         let j = e - 1;
         let at = j * 4 + 2;
         let k = label_of(labels, ties[at]);
-        rest = remove_arrow(incoming, rest, k);
+        remove_arrow(incoming, blocked, k);
         e = next[j] as usize;
     }
-    rest
 }
 
 // The lowest label that is left and that no arrow comes to; 256 where there is none.
-fn lowest_source(left: ChangeSet, blocked: ChangeSet) -> u32
-    ensures { λ r. ⌜ r ≡ lowestBelow 256 (sources (members left) (members blocked)) ⌝ }
+fn lowest_source(left: [u64; 4], blocked: [u64; 4]) -> u32
+    ensures { λ r. ⌜ r ≡ lowestBelow 256 (sources (wordsHave left) (wordsHave blocked)) ⌝ }
 {
-    left.minus(blocked).lowest()
+    ChangeSet { words: left }
+        .minus(ChangeSet { words: blocked })
+        .lowest()
 }
 
 // Whether the arrows between labels close no cycle: each label that no arrow comes to is taken away with its arrows, and none is left.
@@ -275,15 +271,24 @@ fn eliminate(
     requires { ⌜ Blank (now ties) count (now labels) (now heads) (now next) (now incoming) ⌝ }
     ensures { λ r. ⌜ r ≡ noCycle (graphOf (now (ties .entry)) (now (labels .entry))) count ⌝ }
 {
-    let ends = link_ties(ties, count, labels, heads, next, incoming);
-    let mut left = ends.leaders;
-    let mut blocked = ends.blocked;
+    let mut left: [u64; 4] = [0; 4];
+    let mut blocked: [u64; 4] = [0; 4];
+    link_ties(
+        ties,
+        count,
+        labels,
+        heads,
+        next,
+        incoming,
+        &mut left,
+        &mut blocked,
+    );
     loop {
         let v = lowest_source(left, blocked);
         if v > 255 {
-            return left.is_empty();
+            return ChangeSet { words: left }.is_empty();
         }
-        left = left.without(v as u8);
-        blocked = remove_arrows(ties, labels, heads, next, incoming, blocked, v as u8);
+        remove(&mut left, v as u8);
+        remove_arrows(ties, labels, heads, next, incoming, &mut blocked, v as u8);
     }
 }

@@ -6,10 +6,10 @@ use Rattle.cycles.proofs.remove_arrow.Statement.{statement}
 use Rattle.cycles.proofs.remove_arrow.Tie as tie
 
 returns : tie.Need-returns
-returns c = (refl, last-gone _ _ _ _ (c .before .if1 .taken) (c .without .ensures))
+returns c = (c .remove .ensures .0, (refl, last-gone _ _ _ _ (c .before .before .if1 .taken) (c .remove .ensures .1)))
 
 returns-2 : tie.Need-returns-2
-returns-2 c = (refl, more-left _ _ _ (c .if1 .left))
+returns-2 c = (c .before .before .before .pre .0 .1, (refl, more-left _ _ _ (c .if1 .left)))
 
 pub remove-arrow-spec : {M : Type 1} → statement M
 remove-arrow-spec =
