@@ -6,7 +6,7 @@ use native.Mathlib.Nat.{le-of-suc-le-suc, not-suc-le-zero, suc-add, zero-add, ad
 use native.Mathlib.Omega.{arith}
 use native.Mathlib.Numerals.{add-one}
 use lib.ListN.{length, take, drop, getD, set, length-append, length-take, length-drop, take-append-drop, length-set}
-use lib.Seq.{sets, take-at, drop-at, take-append-le, drop-append-add, getD-take, getD-drop, take-take, drop-drop, length-take-le, drop-cons, set-at, take-suc}
+use lib.Seq.{sets, take-at, drop-at, take-append-le, drop-append-add, getD-take, getD-drop, take-take, drop-drop, length-take-le, drop-cons, set-at}
 use Rattle.cells.specs.Part.{part, patch}
 
 -- LENGTHS: of a part
@@ -120,13 +120,7 @@ patch-next l at xs v m e h =
     ∙ ap (λ (r : List ℕ). take at l ++ r) (sym (append-assoc xs (v ∷ []) (drop (suc n) d)))
     ∙ ap (λ (k : ℕ). take at l ++ ((xs ++ (v ∷ [])) ++ drop k d)) (sym ln)
 
--- ONE ELEMENT MORE, at the end
-pub part-more : (l : List ℕ) (at n : ℕ) → at + n < length l → part l at (n + 1) ≡ part l at n ++ (getD l (at + n) 0 ∷ [])
-unfolding part
-part-more l at n h =
-    ap (λ (m : ℕ). take m (drop at l)) (add-one n) ∙ take-suc (drop at l) n 0 (simp length-drop (omega arith)) ∙ ap (λ (v : ℕ). take n (drop at l) ++ (v ∷ [])) (getD-drop at l n 0)
-
--- at the front
+-- ONE ELEMENT MORE, at the front
 pub part-cons : (l : List ℕ) (at n : ℕ) → at < length l → part l at (suc n) ≡ getD l at 0 ∷ part l (suc at) n
 unfolding part
 part-cons l at n h = rw (drop-cons l at 0 h)

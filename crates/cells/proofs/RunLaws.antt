@@ -6,8 +6,8 @@ use native.Mathlib.Omega.{arith}
 use native.Mathlib.Numerals.{add-one}
 use lib.ListN.{length, take, getD, set, replicate, length-replicate, replicate-append-replicate}
 use lib.Seq.{length-take-le, take-suc}
-use Rattle.cells.specs.Part.{part, patch}
-use Rattle.cells.proofs.PartLaws.{length-part, patch-next, part-more, getD-patch-after}
+use Rattle.cells.specs.Part.{patch}
+use Rattle.cells.proofs.PartLaws.{patch-next}
 
 -- zeros from an index up to another
 pub fill-more : (d : List ℕ) (from i : ℕ) (s : List ℕ) → from ≤ i → i < length d → s ≡ patch d from (replicate (i - from) 0)
@@ -25,13 +25,3 @@ copy-more d at src i s h k e =
     ap (λ (r : List ℕ). set r (at + i) (getD src i 0)) e
     ∙ patch-next d at (take i src) (getD src i 0) (at + i) (ap (λ (n : ℕ). at + n) (length-take-le i src (omega arith))) (omega arith)
     ∙ ap (patch d at) (sym (take-suc src i 0 k) ∙ ap (λ (n : ℕ). take n src) (sym (add-one i)))
-
--- a run of the same slice that lies no lower: what is read has not been written yet
-pub move-more : (d : List ℕ) (from to i : ℕ) (s : List ℕ) → to ≤ from → from + i < length d → s ≡ patch d to (part d from i)
-    → set s (to + i) (getD s (from + i) 0) ≡ patch d to (part d from (i + 1))
-move-more d from to i s h k e =
-    let long : length (part d from i) ≡ i = length-part d from i (omega arith) in
-    ap (λ (r : List ℕ). set r (to + i) (getD r (from + i) 0)) e
-    ∙ ap (set (patch d to (part d from i)) (to + i)) (getD-patch-after d to (part d from i) (from + i) (omega arith) (omega arith))
-    ∙ patch-next d to (part d from i) (getD d (from + i) 0) (to + i) (ap (λ (n : ℕ). to + n) long) (omega arith)
-    ∙ ap (patch d to) (sym (part-more d from i k))

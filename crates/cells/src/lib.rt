@@ -87,19 +87,6 @@ pub fn copy_in(src: &[u8], dst: &mut [u8], at: usize)
     }
 }
 
-// n bytes to a lower index of the same slice; the two runs may overlap.
-pub fn move_run(s: &mut [u8], from: usize, to: usize, n: usize)
-    requires { ⌜ to ≤ from ⌝ }
-    requires { ⌜ from + n ≤ length (now s) ⌝ }
-    ensures { λ _. ⌜ now (s .exit) ≡ patch (now (s .entry)) to (part (now (s .entry)) from n) ⌝ }
-{
-    let mut i = 0;
-    while i < n {
-        s[to + i] = s[from + i];
-        i += 1;
-    }
-}
-
 // Whether n bytes from an index on are 0. No early way out: the or of the bytes.
 fn run_zero(s: &[u8], at: usize, n: usize) -> bool
     requires { ⌜ at + n ≤ length (now s) ⌝ }

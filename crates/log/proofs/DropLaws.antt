@@ -1,11 +1,12 @@
--- The log closed up when changes have ended: one turn of the loop, and its end. Assumes nothing.
+-- The log closed up when changes have ended: one record moved, one turn of the loop, and its end. Assumes nothing.
 use mathlib.Core.Path.{_≡_, refl, sym, ap, _∙_}
 use mathlib.Core.Bool.{Bool, true, false, not, cond}
-use mathlib.Core.List.{List, _++_}
-use Prim.Native.Nat.{ℕ, _+_, _-_, _*_, _≤_, _<_}
+use mathlib.Core.List.{List, [], _∷_, _++_}
+use Prim.Native.Nat.{ℕ, suc, _+_, _-_, _*_, _≤_, _<_}
 use native.Mathlib.Omega.{arith}
 use native.Mathlib.Nat.{add-zero}
-use lib.ListN.{length, getD, replicate, replicate-append-replicate}
+use native.Mathlib.Numerals.{towards-suc}
+use lib.ListN.{length, getD, set, replicate, replicate-append-replicate}
 use Rattle.rules.specs.Base.{keep}
 use Rattle.rules.specs.Sets.{Set}
 use Rattle.rules.specs.Window.{LogRecord, Window}
@@ -14,7 +15,8 @@ use Rattle.rules.proofs.ListLaws.{length-keep}
 use Rattle.layout.specs.Codec.{noRecord, recordBytes, logSection}
 use Rattle.layout.proofs.RecordLaws.{flat, log-flat}
 use Rattle.cells.specs.Part.{part, patch}
-use Rattle.cells.proofs.PartLaws.{getD-part}
+use Rattle.cells.proofs.PartLaws.{getD-part, part-cons, sets-patch}
+use Rattle.cells.proofs.NumLaws.{part4}
 use Rattle.cells.proofs.CloseLaws.{Closing, closing-none, closing-here, closing-turn, closing-all}
 use Rattle.log.specs.Records.{isUnowned, unowned, Dropped}
 use Rattle.log.proofs.LogLaws.{length-record}
@@ -24,7 +26,18 @@ pub unowned-ended : (how : ℕ) (s : Set) (W : Window) → endAll how s W .log �
 unfolding endAll unowned isUnowned
 unowned-ended how s W = refl
 
--- the zeros behind the records
+-- A RECORD MOVED: its six bytes, as straight-line code reads them
+pub record-bytes : (l : List ℕ) (at : ℕ) → at + 6 ≤ length l
+    → part l at 6 ≡ getD l at 0 ∷ getD l (at + 1) 0 ∷ getD l (at + 2) 0 ∷ getD l (at + 3) 0 ∷ getD l (at + 4) 0 ∷ getD l (at + 5) 0 ∷ []
+record-bytes l at h = simp towards-suc (part-cons l at 5 (omega arith) ∙ ap (λ (r : List ℕ). getD l at 0 ∷ r) (part-cons l (suc at) 4 (omega arith)
+    ∙ ap (λ (r : List ℕ). getD l (suc at) 0 ∷ r) (simp towards-suc at (part4 l (suc (suc at)) (omega arith)))))
+
+-- and the stores of six bytes that such code leaves
+pub record-stores : (l : List ℕ) (at a b c d e f : ℕ) → at + 6 ≤ length l
+    → set (set (set (set (set (set l at a) (at + 1) b) (at + 2) c) (at + 3) d) (at + 4) e) (at + 5) f ≡ patch l at (a ∷ b ∷ c ∷ d ∷ e ∷ f ∷ [])
+record-stores l at a b c d e f h = simp towards-suc (sets-patch l at (a ∷ b ∷ c ∷ d ∷ e ∷ f ∷ []) h)
+
+-- THE LOOP: the zeros behind the records
 abbrev pub unused : List LogRecord → List ℕ
 unused l = replicate ((2048 - length l) * 6) 0
 

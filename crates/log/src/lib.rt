@@ -1,10 +1,10 @@
 // The log in its section: records read, appended, dropped, handed over and undone.
 use cells::clear;
-use cells::move_run;
 use cells::read_u32;
 use cells::write_u32;
 use places::store_value;
 use sets::ChangeSet;
+use sets::among;
 ghost use mathlib.Core.Path.{_≡_};
 ghost use mathlib.Core.Bool.{cond};
 ghost use mathlib.Core.List.{List, [], _∷_, _++_};
@@ -14,7 +14,7 @@ ghost use Rattle.rules.specs.Window.{LogRecord};
 ghost use Rattle.rules.specs.Effects.{moveLog, undo as undone};
 ghost use Rattle.layout.specs.Codec.{noRecord, valuesSize, logSize, valueSection, logSection};
 ghost use Rattle.cells.specs.Part.{part, patch};
-ghost use Rattle.sets.specs.Members.{members};
+ghost use Rattle.sets.specs.Members.{members, wordsHave};
 ghost use Rattle.sets.specs.Entries.{onEntries};
 ghost use Rattle.log.specs.Records.{Dropped, movedRecord};
 
@@ -60,18 +60,41 @@ pub fn append(log: &mut [u8], count: usize, owner: u8, entry: u8, before: u32)
     write_u32(log, at + 2, before);
 }
 
+// A record's six bytes, from a place to a place. All are read before any is stored, so that they move as two numbers.
+fn move_record(log: &mut [u8], i: usize, j: usize)
+    requires { ⌜ length (now log) ≡ logSize ⌝ }
+    requires { ⌜ i < 2048 ⌝ }
+    requires { ⌜ j ≤ i ⌝ }
+    ensures { λ _. ⌜ now (log .exit) ≡ patch (now (log .entry)) (j * 6) (part (now (log .entry)) (i * 6) 6) ⌝ }
+{
+    let from = i * RECORD;
+    let to = j * RECORD;
+    let a = log[from];
+    let b = log[from + 1];
+    let c = log[from + 2];
+    let d = log[from + 3];
+    let e = log[from + 4];
+    let f = log[from + 5];
+    log[to] = a;
+    log[to + 1] = b;
+    log[to + 2] = c;
+    log[to + 3] = d;
+    log[to + 4] = e;
+    log[to + 5] = f;
+}
+
 // Record i goes to place `to`, unless its owner has ended. What comes back is the place of the next.
-fn keep_record(log: &mut [u8], i: usize, to: usize, ended: ChangeSet) -> usize
+fn keep_record(log: &mut [u8], i: usize, to: usize, ended: &[u64; 4]) -> usize
     requires { ⌜ length (now log) ≡ logSize ⌝ }
     requires { ⌜ i < 2048 ⌝ }
     requires { ⌜ to ≤ i ⌝ }
-    ensures { λ r. ⌜ r ≡ cond (members ended (getD (now (log .entry)) (i * 6) 0)) to (to + 1) ⌝ }
-    ensures { λ _. ⌜ now (log .exit) ≡ cond (members ended (getD (now (log .entry)) (i * 6) 0)) (now (log .entry)) (patch (now (log .entry)) (to * 6) (part (now (log .entry)) (i * 6) 6)) ⌝ }
+    ensures { λ r. ⌜ r ≡ cond (wordsHave (now (ended .entry)) (getD (now (log .entry)) (i * 6) 0)) to (to + 1) ⌝ }
+    ensures { λ _. ⌜ now (log .exit) ≡ cond (wordsHave (now (ended .entry)) (getD (now (log .entry)) (i * 6) 0)) (now (log .entry)) (patch (now (log .entry)) (to * 6) (part (now (log .entry)) (i * 6) 6)) ⌝ }
 {
-    if ended.has(log[i * RECORD]) {
+    if among(ended, log[i * RECORD]) {
         return to;
     }
-    move_run(log, i * RECORD, to * RECORD, RECORD);
+    move_record(log, i, to);
     to + 1
 }
 
@@ -81,10 +104,11 @@ pub fn drop_owned(log: &mut [u8], count: usize, ended: ChangeSet) -> usize
     requires { ⌜ count ≤ 2048 ⌝ }
     ensures { λ r. ⌜ ((l : List LogRecord) → length l ≡ count → now (log .entry) ≡ logSection l → Dropped (members ended) l r (now (log .exit))) ⌝ }
 {
+    let words = ended.words;
     let mut kept = 0;
     let mut i = 0;
     while i < count {
-        kept = keep_record(log, i, kept, ended);
+        kept = keep_record(log, i, kept, &words);
         i += 1;
     }
     clear(log, kept * RECORD, count * RECORD);
@@ -117,13 +141,13 @@ pub fn hand_over(log: &mut [u8], count: usize, from: u8, to: u8, every: bool, en
 }
 
 // The value before of record i is stored, where the owner has ended.
-fn undo_record(values: &mut [u8], log: &[u8], i: usize, ended: ChangeSet)
+fn undo_record(values: &mut [u8], log: &[u8], i: usize, ended: &[u64; 4])
     requires { ⌜ length (now values) ≡ valuesSize ⌝ }
     requires { ⌜ length (now log) ≡ logSize ⌝ }
     requires { ⌜ i < 2048 ⌝ }
-    ensures { λ _. ⌜ ((v : ℕ → ℕ) (l : List LogRecord) → now (values .entry) ≡ valueSection v → now (log .entry) ≡ logSection l → getD l i noRecord .before < 2 ^ 32 → now (values .exit) ≡ valueSection (undone (members ended) (getD l i noRecord ∷ []) v)) ⌝ }
+    ensures { λ _. ⌜ ((v : ℕ → ℕ) (l : List LogRecord) → now (values .entry) ≡ valueSection v → now (log .entry) ≡ logSection l → getD l i noRecord .before < 2 ^ 32 → now (values .exit) ≡ valueSection (undone (wordsHave (now (ended .entry))) (getD l i noRecord ∷ []) v)) ⌝ }
 {
-    if ended.has(owner_at(log, i)) {
+    if among(ended, owner_at(log, i)) {
         store_value(values, entry_at(log, i), before_at(log, i));
     }
 }
@@ -135,9 +159,10 @@ pub fn undo(values: &mut [u8], log: &[u8], count: usize, ended: ChangeSet)
     requires { ⌜ count ≤ 2048 ⌝ }
     ensures { λ _. ⌜ ((v : ℕ → ℕ) (l : List LogRecord) → length l ≡ count → ((k : ℕ) → getD l k noRecord .before < 2 ^ 32) → now (values .entry) ≡ valueSection v → now (log .entry) ≡ logSection l → now (values .exit) ≡ valueSection (undone (members ended) l v)) ⌝ }
 {
+    let words = ended.words;
     let mut i = count;
     while i > 0 {
         i -= 1;
-        undo_record(values, log, i, ended);
+        undo_record(values, log, i, &words);
     }
 }

@@ -7,38 +7,39 @@ use lib.ListN.{length, getD}
 use borrow.Author.Needs.{needs}
 use Rattle.rules.specs.Window.{LogRecord}
 use Rattle.layout.specs.Codec.{logSection}
-use Rattle.sets.specs.Members.{members}
+use Rattle.sets.specs.Members.{members, wordsHave}
 use Rattle.log.proofs.DropLaws.{Dropping, dropping-none, kept-most, dropping-turn, dropping-all}
 use Rattle.log.proofs.drop_owned.Statement.{statement}
 use Rattle.log.proofs.drop_owned.Tie as tie
 
 abbrev Inv-loop : tie.InvT-loop
-Inv-loop log₀ count ended kept₀ i₀ log kept i =
-    (i ≤ count) × (kept ≤ i) × (length log ≡ 12288) × ((l : List LogRecord) → length l ≡ count → log₀ ≡ logSection l → Dropping (members ended) l log i kept)
+Inv-loop log₀ count words kept₀ i₀ log kept i =
+    (i ≤ count) × (kept ≤ i) × (length log ≡ 12288) × ((l : List LogRecord) → length l ≡ count → log₀ ≡ logSection l → Dropping (wordsHave words) l log i kept)
 
 abbrev μ-loop : tie.MeasureT-loop
-μ-loop log₀ count ended kept₀ i₀ log kept i = count - i
+μ-loop log₀ count words kept₀ i₀ log kept i = count - i
 
 loop-holds : tie.Need-loop-holds Inv-loop μ-loop
 loop-holds c =
-    let a = c .before .args in
-    (search needs, search needs, c .before .pre .0, λ l e q. dropping-none (members (a .ended)) l (a .log .now) (omega arith) q)
+    let s = c .before .before in let a = s .args in
+    (search needs, search needs, s .pre .0, λ l e q. dropping-none (wordsHave (a .ended .words)) l (a .log .now) (omega arith) q)
 
 loop-again : tie.Need-loop-again Inv-loop μ-loop
 loop-again c =
-    let a = c .before .before .before .before .before .before .before .args in let l = c .before .before .before .before .before .loop in
-    let k = c .before .before .keep-record in (
+    let a = c .before .before .before .before .before .before .before .before .before .args in let l = c .before .before .before .before .before .before .loop in
+    let k = c .before .before .keep-record in let s = wordsHave (a .ended .words) in (
       search needs,
-      kept-most (members (a .ended) (getD (l .log) (l .i * 6) 0)) (l .i) (l .kept) (k .result) (l .inv .1) (k .ensures .0),
+      kept-most (s (getD (l .log) (l .i * 6) 0)) (l .i) (l .kept) (k .result) (l .inv .1) (k .ensures .0),
       search needs,
-      λ r e q. dropping-turn (members (a .ended)) r (l .log) (l .i) (l .kept) (l .inv .3 r e q) (omega arith) (k .result) _ (omega arith) (k .ensures .0) (k .ensures .1),
+      λ r e q. dropping-turn s r (l .log) (l .i) (l .kept) (l .inv .3 r e q) (omega arith) (k .result) _ (omega arith) (k .ensures .0) (k .ensures .1),
     )
 
 returns : tie.Need-returns Inv-loop μ-loop
+unfolding members wordsHave
 returns c =
-    let s = c .before .before .before .before .before .before .before in let a = s .args in let l = c .before .before .before .before .before .loop in
+    let s = c .before .before .before .before .before .before .before .before in let a = s .args in let l = c .before .before .before .before .before .loop in
     let done : l .i ≡ a .count = omega arith in
-    λ r e q. dropping-all (members (a .ended)) r (l .log) (a .count) (l .kept) _ e (s .pre .1) (rw done at (l .inv .3 r e q)) (c .before .before .clear .ensures)
+    λ r e q. dropping-all (wordsHave (a .ended .words)) r (l .log) (a .count) (l .kept) _ e (s .pre .1) (rw done at (l .inv .3 r e q)) (c .before .before .clear .ensures)
 
 pub drop-owned-spec : {M : Type 1} → statement M
 drop-owned-spec =

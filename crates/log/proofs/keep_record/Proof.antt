@@ -3,7 +3,7 @@ use mathlib.Core.Path.{_≡_, sym, _∙_}
 use mathlib.Core.Bool.{true, false}
 use Prim.Native.Nat.{_*_}
 use lib.ListN.{getD}
-use Rattle.sets.specs.Members.{members}
+use Rattle.sets.specs.Members.{wordsHave}
 use borrow.Author.Needs.{needs}
 use Rattle.log.proofs.keep_record.Statement.{statement}
 use Rattle.log.proofs.keep_record.Tie as tie
@@ -11,14 +11,14 @@ use Rattle.log.proofs.keep_record.Tie as tie
 returns : tie.Need-returns
 returns c =
     let a = c .before .before .before .before .args in
-    let t : members (a .ended) (getD (a .log .now) (a .i * 6) 0) ≡ true = sym (c .before .has .ensures) ∙ c .if1 .taken in
+    let t : wordsHave (a .ended .now) (getD (a .log .now) (a .i * 6) 0) ≡ true = sym (c .before .among .ensures) ∙ c .if1 .taken in
     rw t (search needs)
 
 returns-2 : tie.Need-returns-2
 returns-2 c =
     let a = c .before .before .before .before .before .before .before .before .args in
-    let t : members (a .ended) (getD (a .log .now) (a .i * 6) 0) ≡ false = sym (c .before .before .before .before .before .has .ensures) ∙ c .before .before .before .before .if1 .left in
-    rw t (search needs, c .before .before .move-run .ensures)
+    let t : wordsHave (a .ended .now) (getD (a .log .now) (a .i * 6) 0) ≡ false = sym (c .before .before .before .before .before .among .ensures) ∙ c .before .before .before .before .if1 .left in
+    rw t (search needs, c .before .before .move-record .ensures)
 
 pub keep-record-spec : {M : Type 1} → statement M
 keep-record-spec =
@@ -28,8 +28,6 @@ keep-record-spec =
     (λ c. search needs)
     (λ c κs. search needs)
     returns
-    (λ c. search needs)
-    (λ c. search needs)
     (λ c κs. search needs)
     (λ c. search needs)
     (λ c. search needs)

@@ -8,34 +8,35 @@ use borrow.Author.Needs.{needs}
 use Rattle.rules.specs.Window.{LogRecord}
 use Rattle.rules.specs.Effects.{undo as undone}
 use Rattle.layout.specs.Codec.{noRecord, valueSection, logSection}
-use Rattle.sets.specs.Members.{members}
+use Rattle.sets.specs.Members.{members, wordsHave}
 use Rattle.log.proofs.UndoLaws.{undo-none, undo-turn}
 use Rattle.log.proofs.undo.Statement.{statement}
 use Rattle.log.proofs.undo.Tie as tie
 
 abbrev Inv-loop : tie.InvT-loop
-Inv-loop values₀ log count ended i₀ values i =
-    (i ≤ count) × (length values ≡ 1024) × ((v : ℕ → ℕ) (l : List LogRecord) → length l ≡ count → ((k : ℕ) → getD l k noRecord .before < 2 ^ 32) → values₀ ≡ valueSection v → log ≡ logSection l → values ≡ valueSection (undone (members ended) (drop i l) v))
+Inv-loop values₀ log count words i₀ values i =
+    (i ≤ count) × (length values ≡ 1024) × ((v : ℕ → ℕ) (l : List LogRecord) → length l ≡ count → ((k : ℕ) → getD l k noRecord .before < 2 ^ 32) → values₀ ≡ valueSection v → log ≡ logSection l → values ≡ valueSection (undone (wordsHave words) (drop i l) v))
 
 abbrev μ-loop : tie.MeasureT-loop
-μ-loop values₀ log count ended i₀ values i = i
+μ-loop values₀ log count words i₀ values i = i
 
 loop-holds : tie.Need-loop-holds Inv-loop μ-loop
 loop-holds c =
-    let a = c .before .before .args in
-    (search needs, c .before .before .pre .0, λ v l e f p q. p ∙ ap valueSection (undo-none (members (a .ended)) l v (a .count) e))
+    let s = c .before .before .before in let a = s .args in
+    (search needs, s .pre .0, λ v l e f p q. p ∙ ap valueSection (undo-none (wordsHave (a .ended .words)) l v (a .count) e))
 
 loop-again : tie.Need-loop-again Inv-loop μ-loop
 loop-again c =
-    let a = c .before .before .before .before .before .before .before .before .args in let l = c .before .before .before .before .before .loop in (
+    let a = c .before .before .before .before .before .before .before .before .before .before .args in let l = c .before .before .before .before .before .before .loop in (
       search needs,
       search needs,
-      λ v r e f p q. undo-turn (members (a .ended)) r v (l .i) (a .log .now) (l .values) _ (omega arith) (omega arith) f q (l .inv .2 v r e f p q) (c .before .before .undo-record .ensures),
+      λ v r e f p q. undo-turn (wordsHave (a .ended .words)) r v (l .i) (a .log .now) (l .values) _ (omega arith) (omega arith) f q (l .inv .2 v r e f p q) (c .before .before .undo-record .ensures),
     )
 
 returns : tie.Need-returns Inv-loop μ-loop
+unfolding members wordsHave
 returns c =
-    let a = c .before .before .before .before .args in let l = c .before .loop in
+    let l = c .before .loop in
     let done : l .i ≡ 0 = omega arith in
     λ v r e f p q. rw done at (l .inv .2 v r e f p q)
 
