@@ -1,13 +1,14 @@
 // Tables of rows of four bytes in a lent section, in rising order of their first three bytes.
 use cells::clear;
 use sets::ChangeSet;
+use sets::among;
 ghost use mathlib.Core.Path.{_≡_};
 ghost use mathlib.Core.Bool.{true, cond, not};
 ghost use Prim.Native.Nat.{ℕ, _+_, _-_, _*_, _≤_, _<_};
 ghost use lib.ListN.{length, getD, set};
 ghost use Rattle.rules.specs.Base.{any, rising, exceeds};
 ghost use Rattle.rules.specs.Locks.{contains};
-ghost use Rattle.sets.specs.Members.{members};
+ghost use Rattle.sets.specs.Members.{members, wordsHave};
 ghost use Rattle.cells.specs.Part.{part, patch};
 ghost use Rattle.rows.specs.Rows.{row, rowKey, rankOf, rank, rowBytes, rowAt, rows, hasKey, standsAt, Found, addRow, unlessOver, spared, Stored, Closed};
 
@@ -169,12 +170,12 @@ pub fn keep_row(s: &mut [u8], i: usize, j: usize, stays: bool) -> usize
 }
 
 // Whether neither the second nor the third byte of a row is in the set.
-fn apart(s: &[u8], i: usize, ended: ChangeSet) -> bool
+fn apart(s: &[u8], i: usize, ended: &[u64; 4]) -> bool
     requires { ⌜ 4 * i + 4 ≤ length (now s) ⌝ }
-    ensures { λ r. ⌜ r ≡ spared (members ended) (rowAt (now (s .entry)) i) ⌝ }
+    ensures { λ r. ⌜ r ≡ spared (wordsHave (now (ended .entry))) (rowAt (now (s .entry)) i) ⌝ }
 {
     let at = 4 * i;
-    !(ended.has(s[at + 1]) | ended.has(s[at + 2]))
+    !(among(ended, s[at + 1]) | among(ended, s[at + 2]))
 }
 
 // The rows whose second or third byte is in the set go; what comes back is how many are left.
@@ -182,10 +183,11 @@ pub fn drop_involving(s: &mut [u8], n: usize, ended: ChangeSet) -> usize
     requires { ⌜ 4 * n ≤ length (now s) ⌝ }
     ensures { λ r. ⌜ Closed (spared (members ended)) n (now (s .entry)) r (now (s .exit)) ⌝ }
 {
+    let words = ended.words;
     let mut i = 0;
     let mut j = 0;
     while i < n {
-        let stays = apart(s, i, ended);
+        let stays = apart(s, i, &words);
         j = keep_row(s, i, j, stays);
         i += 1;
     }

@@ -8,7 +8,7 @@ use Rattle.rows.proofs.apart.Tie as tie
 
 returns : tie.Need-returns
 unfolding spared rowAt
-returns c = ap₂ (λ (x y : Bool). not (x || y)) (c .before .before .has .ensures) (c .has2 .ensures)
+returns c = ap₂ (λ (x y : Bool). not (x || y)) (c .before .before .among .ensures) (c .among2 .ensures)
 
 pub apart-spec : {M : Type 1} → statement M
 apart-spec =

@@ -4,28 +4,28 @@ use Prim.Native.Nat.{_+_, _-_, _≤_}
 use native.Mathlib.Omega.{arith}
 use lib.ListN.{length}
 use borrow.Author.Needs.{needs}
-use Rattle.sets.specs.Members.{members}
+use Rattle.sets.specs.Members.{members, wordsHave}
 use Rattle.rows.specs.Rows.{spared}
 use Rattle.rows.proofs.CloseLaws.{Moved, moved-none, moved-next, moved-all, moved-few}
 use Rattle.rows.proofs.drop_involving.Statement.{statement}
 use Rattle.rows.proofs.drop_involving.Tie as tie
 
 abbrev Inv-loop : tie.InvT-loop
-Inv-loop s₀ n ended i₀ j₀ s i j = (i ≤ n) × (j ≤ i) × (length s ≡ length s₀) × Moved (spared (members ended)) n s₀ s i j
+Inv-loop s₀ n words i₀ j₀ s i j = (i ≤ n) × (j ≤ i) × (length s ≡ length s₀) × Moved (spared (wordsHave words)) n s₀ s i j
 
 abbrev μ-loop : tie.MeasureT-loop
-μ-loop s₀ n ended i₀ j₀ s i j = n - i
+μ-loop s₀ n words i₀ j₀ s i j = n - i
 
 loop-holds : tie.Need-loop-holds Inv-loop μ-loop
-loop-holds c = (search needs, search needs, refl, moved-none _ (c .before .args .n) (c .before .args .s .now) (c .before .pre))
+loop-holds c = (search needs, search needs, refl, moved-none _ (c .before .before .args .n) (c .before .before .args .s .now) (c .before .before .pre))
 
 loop-again : tie.Need-loop-again Inv-loop μ-loop
 loop-again c =
-    let a = c .before .before .before .before .before .before .before .before .before .args in
-    let l = c .before .before .before .before .before .before .before .loop in
+    let a = c .before .before .before .before .before .before .before .before .before .before .before .args in
+    let l = c .before .before .before .before .before .before .before .before .loop in
     let t = c .before .before .before .before .apart in
     let k = c .before .before .keep-row in
-    let q = spared (members (a .ended)) in
+    let q = spared (wordsHave (a .ended .words)) in
     let next : Moved q (a .n) (a .s .now) (k .last .0) (l .i + 1) (k .result) = rw (k .ensures .1, k .ensures .0) (moved-next q (a .n) (a .s .now) (l .s) (l .i) (l .j) (l .inv .3) (omega arith) (t .result) (t .ensures) (omega arith)) in
     (omega arith, moved-few q (a .n) (a .s .now) (k .last .0) (l .i + 1) (k .result) next (omega arith), k .kept .0 ∙ l .inv .2, next)
 
@@ -33,12 +33,13 @@ same-length : tie.Need-same-length Inv-loop μ-loop
 same-length c = c .before .before .clear .kept .0 ∙ c .before .before .before .before .before .loop .inv .2
 
 returns : tie.Need-returns Inv-loop μ-loop
+unfolding members wordsHave
 returns c =
-    let s = c .before .before .before .before .before .before .before in
+    let s = c .before .before .before .before .before .before .before .before in
     let a = s .args in
     let l = c .before .before .before .before .before .loop in
     let d = c .before .before .clear in
-    let q = spared (members (a .ended)) in
+    let q = spared (wordsHave (a .ended .words)) in
     let done : l .i ≡ a .n = omega arith in
     moved-all q (a .n) (a .s .now) (l .s) (l .j) (rw done at (l .inv .3)) (d .last .0) (d .ensures)
 
