@@ -18,6 +18,7 @@ use Rattle.layout.proofs.PutLaws.{laidAt}
 use Rattle.sets.specs.Entries.{onEntries}
 use Rattle.rows.specs.Rows.{Holds}
 use Rattle.locks.specs.Held.{NoneFrom, everyEntry}
+use Rattle.locks.proofs.SectionLaws.{length-locks}
 use Rattle.handover.specs.Delegated.{tablesOf, AreTables}
 
 -- the entries of which locks are handed over, by the flag
@@ -29,11 +30,7 @@ pub on-one : (all : Bool) (entry : ℕ) → all ≡ false → only entry ≡ onE
 unfolding only onEntries
 on-one all entry e = rw e (fun-ext (λ x. refl))
 
--- LENGTHS: of the sections
-pub length-locks : (held : ℕ → ℕ → ℕ) → length (lockSection held) ≡ locksSize
-unfolding lockSection
-length-locks held = length-table locksSize 0 _
-
+-- how long the section of permits is
 pub length-permits : (ps : List PermitRecord) → length (permitSection ps) ≡ permitsSize
 unfolding permitSection
 length-permits ps = length-table permitsSize 0 _

@@ -9,5 +9,7 @@ pub mod RowLaws
 -- the locks changed by entries, and a walk over them
 pub mod ChangeLaws
 pub mod WalkLaws
+-- a set of changes against the locks of one entry, by bytes
+pub mod TouchLaws
 -- permits by their places
 pub mod PermitLaws

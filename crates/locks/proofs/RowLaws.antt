@@ -97,12 +97,12 @@ row-without row s t u m old minus k = minus k ∙ rw (old k, without-mode (s k) 
     go false = refl
 
 -- where no reader or writer is in the set, the row says the same without it
-pub row-without-none : (row : ℕ → ℕ) (s readers writers holders taken : Set) → ((k : ℕ) → readers k ≡ inMode 1 row k) → ((k : ℕ) → writers k ≡ inMode 2 row k)
-    → ((k : ℕ) → holders k ≡ readers k || writers k) → ((k : ℕ) → taken k ≡ holders k && s k) → anyBelow 256 taken ≡ false
+pub row-without-none : (row : ℕ → ℕ) (s readers writers taken : Set) → ((k : ℕ) → readers k ≡ inMode 1 row k) → ((k : ℕ) → writers k ≡ inMode 2 row k)
+    → ((k : ℕ) → k < 256 → taken k ≡ (readers k || writers k) && s k) → anyBelow 256 taken ≡ false
     → (m c : ℕ) → m < 2 → c < 256 → eqb (row c) (suc m) ≡ eqb (rowWithout s row c) (suc m)
 unfolding inMode rowWithout
-row-without-none row s readers writers holders taken r w either common none m c hm h =
-    let e : taken c ≡ (eqb (row c) 1 || eqb (row c) 2) && s c = common c ∙ rw (either c, r c, w c, ltb-true c 256 h) in
+row-without-none row s readers writers taken r w common none m c hm h =
+    let e : taken c ≡ (eqb (row c) 1 || eqb (row c) 2) && s c = common c h ∙ rw (r c, w c, ltb-true c 256 h) in
     go m hm (s c) (sym e ∙ anyBelow-none 256 taken none c h)
   where
     go : (m : ℕ) → m < 2 → (d : Bool) → (eqb (row c) 1 || eqb (row c) 2) && d ≡ false → eqb (row c) (suc m) ≡ eqb (cond d 0 (row c)) (suc m)

@@ -1,10 +1,12 @@
 -- One entry's locks as sets of changes, and the locks changed by entries. Assumes nothing.
 use mathlib.Core.Path.{_≡_}
-use mathlib.Core.Bool.{true, cond, _&&_}
-use Prim.Native.Nat.{ℕ, _≤_}
+use mathlib.Core.Bool.{true, cond, _&&_, _||_}
+use mathlib.Core.List.{List}
+use Prim.Native.Nat.{ℕ, _+_, _≤_}
 use lib.Dec.{ltb, eqb}
 use Rattle.rules.specs.Sets.{Set}
 use Rattle.rules.specs.Locks.{clash}
+use Rattle.sets.specs.Members.{loaded}
 
 -- every lock is "0 none, 1 read or 2 write"
 unfoldable pub Modes : (ℕ → ℕ → ℕ) → Type 0
@@ -25,6 +27,10 @@ holding row c = ltb c 256 && ltb 0 (row c)
 -- whose lock on it clashes with a mode
 unfoldable pub clashesWith : ℕ → (ℕ → ℕ) → Set
 clashesWith mode row c = ltb c 256 && clash (row c) mode
+
+-- which of the changes of a set, given as its 32 bytes, hold the entry whose locks stand at a place
+unfoldable pub holdersAmong : List ℕ → ℕ → List ℕ → Set
+holdersAmong locks at bytes c = (loaded locks at c || loaded locks (at + 32) c) && loaded bytes 0 c
 
 -- a row without the locks of a set of changes
 unfoldable pub rowWithout : Set → (ℕ → ℕ) → ℕ → ℕ

@@ -2,14 +2,14 @@
 // The contracts speak of every `held`, the lock of each change on each entry, that the section is the bytes of.
 use sets::ChangeSet;
 ghost use mathlib.Core.Path.{_≡_};
-ghost use Prim.Native.Nat.{ℕ, _≤_, _<_, max};
+ghost use Prim.Native.Nat.{ℕ, _+_, _≤_, _<_, max};
 ghost use lib.ListN.{length};
-ghost use Rattle.rules.specs.Base.{put, put2};
+ghost use Rattle.rules.specs.Base.{anyBelow, put, put2};
 ghost use Rattle.rules.specs.Sets.{only};
 ghost use Rattle.rules.specs.Effects.{moveHeld};
 ghost use Rattle.layout.specs.Codec.{lockSection, locksSize};
-ghost use Rattle.sets.specs.Members.{members};
-ghost use Rattle.locks.specs.Held.{Modes, NoneFrom, inMode, holding, clashesWith, rowWithout, released, changedOn, everyEntry};
+ghost use Rattle.sets.specs.Members.{members, loaded};
+ghost use Rattle.locks.specs.Held.{Modes, NoneFrom, inMode, holding, clashesWith, holdersAmong, rowWithout, released, changedOn, everyEntry};
 ghost use Rattle.locks.specs.Entry.{LocksOf};
 
 // The bytes of an entry's locks, and of one of its two sets.
@@ -129,9 +129,6 @@ fn release_entry(locks: &mut [u8], entry: u8, ended: ChangeSet)
     let before = EntryLocks::load(locks, entry);
     let r = before.readers;
     let w = before.writers;
-    if r.unite(w).common(ended).is_empty() {
-        return;
-    }
     let after = EntryLocks {
         readers: r.minus(ended),
         writers: w.minus(ended),
@@ -139,14 +136,45 @@ fn release_entry(locks: &mut [u8], entry: u8, ended: ChangeSet)
     after.store(locks, entry);
 }
 
-// Takes the locks of a set of changes from every entry.
+// Whether a change of a set, given as its 32 bytes, holds the entry whose locks stand at a place. No early way out: the or of the bytes.
+fn touched(locks: &[u8], at: usize, ended: &[u8]) -> bool
+    requires { ⌜ at + 64 ≤ length (now locks) ⌝ }
+    requires { ⌜ length (now ended) ≡ 32 ⌝ }
+    ensures { λ r. ⌜ r ≡ anyBelow 256 (holdersAmong (now (locks .entry)) at (now (ended .entry))) ⌝ }
+{
+    let mut acc: u8 = 0;
+    let mut byte: usize = 0;
+    while byte < SET {
+        acc = acc | ((locks[at + byte] | locks[at + SET + byte]) & ended[byte]);
+        byte += 1;
+    }
+    acc != 0
+}
+
+// Takes the locks of a set of changes, given also as its 32 bytes, from an entry. One that none of them holds is passed over before a set is loaded.
+fn release_touched(locks: &mut [u8], entry: u8, bytes: &[u8], ended: ChangeSet)
+    requires { ⌜ locksSize ≤ length (now locks) ⌝ }
+    requires { ⌜ length (now bytes) ≡ 32 ⌝ }
+    ensures { λ _. ⌜ ((held : ℕ → ℕ → ℕ) → ((k : ℕ) → k < 256 → loaded (now (bytes .entry)) 0 k ≡ members ended k) → now (locks .entry) ≡ lockSection held → now (locks .exit) ≡ lockSection (changedOn (only entry) (rowWithout (members ended)) held)) ⌝ }
+{
+    if touched(locks, entry as usize * ENTRY, bytes) {
+        release_entry(locks, entry, ended);
+    }
+}
+
+// Takes the locks of a set of changes from every entry. Fewer bytes than a section stay as they are.
 pub fn release(locks: &mut [u8], entries: usize, ended: ChangeSet)
     requires { ⌜ entries ≤ 256 ⌝ }
     ensures { λ _. ⌜ ((held : ℕ → ℕ → ℕ) → NoneFrom entries held → now (locks .entry) ≡ lockSection held → now (locks .exit) ≡ lockSection (released (members ended) held)) ⌝ }
 {
+    if locks.len() < layout::Locks::SIZE {
+        return;
+    }
+    let mut bytes = [0u8; SET];
+    ended.store(&mut bytes, 0);
     let mut entry: usize = 0;
     while entry < entries {
-        release_entry(locks, entry as u8, ended);
+        release_touched(locks, entry as u8, &bytes, ended);
         entry += 1;
     }
 }

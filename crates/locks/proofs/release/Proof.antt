@@ -1,12 +1,14 @@
 -- `locks::release` meets its contract: the entries passed have lost the set's locks. The measure is how many are left. Assumes nothing.
-use mathlib.Core.Path.{_≡_, refl, _∙_}
+use mathlib.Core.Path.{_≡_, refl, _∙_, ap}
 use Prim.Native.Nat.{ℕ, _-_, _≤_}
 use native.Mathlib.Omega.{arith}
 use borrow.Author.Needs.{needs}
 use lib.ListN.{length}
 use Rattle.sets.specs.Members.{members}
 use Rattle.locks.specs.Held.{rowWithout, released, changedOn, everyEntry}
+use Rattle.locks.proofs.SectionLaws.{length-locks}
 use Rattle.locks.proofs.ChangeLaws.{without-empty}
+use Rattle.locks.proofs.TouchLaws.{stored-loaded}
 use Rattle.locks.proofs.WalkLaws.{Walked, walked-none, walked-next, walked-all}
 use Rattle.locks.proofs.release.Statement.{statement}
 use Rattle.locks.proofs.release.Tie as tie
@@ -16,29 +18,35 @@ abbrev Any : (ℕ → ℕ → ℕ) → Type 0
 Any held = Unit
 
 abbrev Inv-loop : tie.InvT-loop
-Inv-loop locks₀ entries ended entry₀ locks entry = (entry ≤ entries) × (length locks ≡ length locks₀) × Walked Any (rowWithout (members ended)) locks₀ locks entry
+Inv-loop locks₀ entries ended bytes entry₀ locks entry = (entry ≤ entries) × (length locks ≡ length locks₀) × Walked Any (rowWithout (members ended)) locks₀ locks entry
 
 abbrev μ-loop : tie.MeasureT-loop
-μ-loop locks₀ entries ended entry₀ locks entry = entries - entry
+μ-loop locks₀ entries ended bytes entry₀ locks entry = entries - entry
+
+returns : tie.Need-returns Inv-loop μ-loop
+returns c held none e = absurd (omega (arith, ap length e, length-locks held))
 
 loop-holds : tie.Need-loop-holds Inv-loop μ-loop
-loop-holds c = (omega arith, refl, walked-none Any (rowWithout (members (c .before .args .ended))) (c .before .args .locks .now))
+loop-holds c =
+    let a = c .before .before .before .before .before .args in
+    (omega arith, refl, walked-none Any (rowWithout (members (a .ended))) (a .locks .now))
 
 loop-again : tie.Need-loop-again Inv-loop μ-loop
 loop-again c =
-    let l = c .before .before .before .before .before .loop in
-    let a = c .before .before .before .before .before .before .before .args in
-    let call = c .before .before .release-entry in
-    (omega arith, call .kept .0 ∙ l .inv .1, walked-next Any (rowWithout (members (a .ended))) (a .locks .now) _ _ (l .entry) (λ held g. tt) (λ held g. call .ensures held) (l .inv .2))
+    let l = c .before .before .before .before .before .before .loop in
+    let a = c .before .before .before .before .before .before .before .before .before .before .before .before .args in
+    let call = c .before .before .release-touched in
+    let says = stored-loaded (members (a .ended)) _ _ (search needs) (search needs) (c .before .before .before .before .before .before .before .before .store .ensures) in
+    (omega arith, call .kept .0 ∙ l .inv .1, walked-next Any (rowWithout (members (a .ended))) (a .locks .now) _ _ (l .entry) (λ held g. tt) (λ held g. call .ensures held says) (l .inv .2))
 
 same-length : tie.Need-same-length Inv-loop μ-loop
 same-length c = c .before .loop .inv .1
 
-returns : tie.Need-returns Inv-loop μ-loop
+returns-2 : tie.Need-returns-2 Inv-loop μ-loop
 unfolding released changedOn everyEntry rowWithout
-returns c held none e =
+returns-2 c held none e =
     let l = c .before .loop in
-    let a = c .before .before .before .args in
+    let a = c .before .before .before .before .before .before .before .args in
     walked-all Any (rowWithout (members (a .ended))) (a .locks .now) _ (l .entry) (a .entries) (omega arith) (without-empty (members (a .ended))) (l .inv .2) held tt none e
 
 pub release-spec : {M : Type 1} → statement M
@@ -47,11 +55,15 @@ release-spec =
     (tie.spec
     Inv-loop
     μ-loop
+    returns
+    (λ c. search needs)
+    (λ c κs. search needs)
     loop-holds
+    (λ c. search needs)
     (λ c. search needs)
     (λ c κs. search needs)
     (λ c. search needs)
     (λ c. search needs)
     loop-again
     same-length
-    returns)
+    returns-2)

@@ -1,11 +1,9 @@
--- `locks::release_entry` meets its contract: nothing is stored where the set holds nothing; otherwise both sets without it. Assumes nothing.
-use mathlib.Core.Path.{sym, _∙_, ap}
-use Rattle.rules.proofs.BaseLaws.{not-true}
+-- `locks::release_entry` meets its contract: both sets without the ended. Assumes nothing.
+use mathlib.Core.Path.{_∙_, ap}
 use Rattle.layout.specs.Codec.{lockSection}
 use Rattle.sets.specs.Members.{members}
 use Rattle.locks.specs.Held.{rowWithout}
-use Rattle.locks.proofs.SectionLaws.{row-same}
-use Rattle.locks.proofs.RowLaws.{row-without, row-without-none}
+use Rattle.locks.proofs.RowLaws.{row-without}
 use Rattle.locks.proofs.ChangeLaws.{on-entry}
 use borrow.Author.Needs.{needs}
 use Rattle.locks.proofs.release_entry.Statement.{statement}
@@ -13,16 +11,8 @@ use Rattle.locks.proofs.release_entry.Tie as tie
 
 returns : tie.Need-returns
 returns c held e =
-    let a = c .before .before .before .before .before .before .before .before .before .args in
-    let l = c .before .before .before .before .before .before .load .ensures held e in
-    e ∙ row-same held (a .entry) (rowWithout (members (a .ended)) (held (a .entry)))
-    (row-without-none (held (a .entry)) (members (a .ended)) _ _ _ _ (l .readers) (l .writers) (c .before .before .before .unite .ensures) (c .before .before .common .ensures) (not-true _ (sym (c .before .is-empty .ensures) ∙ c .if1 .taken)))
-    ∙ ap lockSection (on-entry (rowWithout (members (a .ended))) held (a .entry))
-
-returns-2 : tie.Need-returns-2
-returns-2 c held e =
-    let a = c .before .before .before .before .before .before .before .before .before .before .before .before .before .before .before .args in
-    let l = c .before .before .before .before .before .before .before .before .before .before .before .before .load .ensures held e in
+    let a = c .before .before .before .before .before .before .before .before .before .before .before .args in
+    let l = c .before .before .before .before .before .before .before .before .load .ensures held e in
     c .before .before .store .ensures held (rowWithout (members (a .ended)) (held (a .entry))) e
     (record {
       readers = row-without (held (a .entry)) (members (a .ended)) _ _ 0 (l .readers) (c .before .before .before .before .before .minus .ensures);
@@ -39,9 +29,4 @@ release-entry-spec =
     (λ c κs. search needs)
     (λ c κs. search needs)
     (λ c. search needs)
-    returns
-    (λ c κs. search needs)
-    (λ c κs. search needs)
-    (λ c κs. search needs)
-    (λ c. search needs)
-    returns-2)
+    returns)
