@@ -1,5 +1,6 @@
 //! The fifteen calls in passes over a window's bytes, against a model and against their effect alone (docs/BENCHMARKS.md).
 //! `write` also puts the tables and a picture in docs/. `once WINDOW CALL` makes one call, for the count of its instructions.
+//! `check` times nothing: library, model and effect by hand must agree on every row.
 mod busy;
 mod cases;
 mod chart;
@@ -69,8 +70,12 @@ fn main() {
         assert_eq!(mode, "once");
         return once(window, call);
     }
-    let (start, available) = (Instant::now(), counts::available());
     let sets = cases::sets();
+    if arguments == ["check"] {
+        sets.iter().flat_map(|set| &set.cases).for_each(timing::check);
+        return println!("library, model and effect agree on every row of the benchmark");
+    }
+    let (start, available) = (Instant::now(), counts::available());
     let timers = sweep(&sets);
     let counts = || available && start.elapsed() < ENOUGH;
     let all: Vec<Measured> = sets.iter().zip(&timers).map(|(set, timers)| measured(set, timers, counts)).collect();

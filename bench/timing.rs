@@ -237,6 +237,11 @@ impl Timer {
     }
 }
 
+/// Whether library, model and effect agree on the case.
+pub fn check(case: &Case) {
+    Place::new(case);
+}
+
 /// Makes the case's call once, for a count of its instructions.
 pub fn once(case: &Case) {
     let mut memory = model::bytes(&case.window);

@@ -41,10 +41,6 @@ pub answers-opened : (mem : List ℕ) (n : ℕ) (l : List Call) → all fits l �
     → answers perform (perform mem (Open n) .after) l ≡ answers (step limits) (fresh n) l
 answers-opened mem n l a h = let k = opened-holds mem n h in answers-sound l (perform mem (Open n) .after) a (k .sound) ∙ ap (λ X. answers (step limits) X l) (k .window)
 
-pub final-opened : (mem : List ℕ) (n : ℕ) (l : List Call) → all fits l ≡ true → perform mem (Open n) .answer ≡ 0
-    → Holds (final perform (perform mem (Open n) .after) l) (final (step limits) (fresh n) l)
-final-opened mem n l a h = let k = opened-holds mem n h in rw (k .window) at (final-sound l (perform mem (Open n) .after) a (k .sound))
-
 -- a list that begins with an open: on long enough memory, whatever it holds, the answers are the rules'
 pub answers-list : (mem : List ℕ) (W : Window) (n : ℕ) (l : List Call) → long mem ≡ true → all fits l ≡ true → step limits W (Open n) .answer ≡ 0
     → answers perform mem (Open n ∷ l) ≡ answers (step limits) W (Open n ∷ l)

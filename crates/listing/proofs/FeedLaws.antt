@@ -137,17 +137,7 @@ after-written s = rw (append-nil s.out)
 fed-whole : (s : State) (xs : List ℕ) → fed s xs ≡ after s.out (fed (written s) xs)
 fed-whole s xs = ap (λ (t : State). fed t xs) (sym (after-written s)) ∙ fed-after s.out (written s) xs
 
--- what is printed for a piece is the same whatever was printed before
-pub fed-out : (s : State) (xs : List ℕ) → fed s xs .out ≡ s.out ++ fed (written s) xs .out
-unfolding after
-fed-out s xs = ap (λ (t : State). t .out) (fed-whole s xs)
-
--- and so is the rest of the state
-pub fed-written : (s : State) (xs : List ℕ) → written (fed s xs) ≡ written (fed (written s) xs)
-unfolding after written
-fed-written s xs = ap written (fed-whole s xs)
-
--- and what is printed at the end
+-- what is printed at the end is the same whatever was printed before
 pub ended-out : (s : State) → ended s .out ≡ s.out ++ ended (written s) .out
 unfolding after
 ended-out s = ap (λ (t : State). ended t .out) (sym (after-written s)) ∙ ap (λ (t : State). t .out) (ended-after s.out (written s))

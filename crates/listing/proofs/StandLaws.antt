@@ -18,7 +18,6 @@ use Rattle.script_lines.specs.Lines.{replyTo}
 use Rattle.listing.specs.declared.Stand.{Stand}
 use Rattle.listing.specs.Listing.{firstLine, header, printed, zeroMemory}
 use Rattle.listing.specs.Feed.{State, start, firstEnded, laterEnded, lineEnded, fedByte, fed, ended}
-use Rattle.listing.specs.Pieces.{written}
 use Rattle.listing.specs.Stands.{standing}
 use Rattle.listing.proofs.FeedLaws.{fed-append}
 
@@ -85,11 +84,6 @@ module _ (s : Stand) (line mem out : List ℕ) where
   pub end-begun : (t : State) → (s.held ≡ 0 → ⊥) → s.held ≤ length line → t ≡ lineEnded (standing s line mem out) → t ≡ ended (standing s line mem out)
   unfolding standing ended
   end-begun t n h e = rw (length-take-le s.held line h, ne-eqb s.held 0 n) e
-
--- WHAT WAITS is written, and nothing waits
-pub waits-none : (s : Stand) (line mem out : List ℕ) → standing (record { held = s.held; place = s.place; over = s.over; used = 0 }) line mem out ≡ written (standing s line mem out)
-unfolding standing written
-waits-none s line mem out = refl
 
 -- A PIECE: one byte of it after the other
 pub fed-more : (t : State) (input : List ℕ) (i : ℕ) → i < length input → fed t (take (i + 1) input) ≡ fedByte (fed t (take i input)) (getD input i 0)

@@ -1,16 +1,13 @@
 -- The locks changed by entries: the rules' changes as changes of rows. Assumes nothing.
 use mathlib.Core.Path.{_≡_, refl, sym, _∙_, ap, fun-ext}
 use mathlib.Core.Bool.{Bool, true, false, cond, _&&_}
-use Prim.Native.Nat.{ℕ, _≤_, _<_, max}
+use Prim.Native.Nat.{ℕ, _≤_, max}
 use native.Mathlib.Omega.{arith}
 use lib.Dec.{eqb}
 use Rattle.rules.specs.Base.{put, put2}
 use Rattle.rules.specs.Sets.{Set, only}
-use Rattle.rules.specs.Window.{Limits, Window}
-use Rattle.rules.specs.Effects.{every, entriesNamed, endAll}
-use Rattle.rules.proofs.BaseLaws.{Same, same, other, same?, eqb-other}
-use Rattle.rules.proofs.SoundParts.{Sound, held-most, held-no-entry}
-use Rattle.locks.specs.Held.{Modes, NoneFrom, rowWithout, released, changedOn, everyEntry}
+use Rattle.rules.proofs.BaseLaws.{Same, same, other, same?}
+use Rattle.locks.specs.Held.{Modes, rowWithout, changedOn}
 
 -- one change's lock on one entry
 pub put2-row : (held : ℕ → ℕ → ℕ) (e c m : ℕ) → put held e (put (held e) c m) ≡ put2 held e c m
@@ -43,29 +40,6 @@ moved-none from to row e = fun-ext λ c. go c (same? c to) (same? c from)
     go c (same p) q = rw (e, p) (omega arith)
     go c (other p) (same q) = rw q (sym e)
     go c (other p) (other q) = refl
-
--- the locks that commit and abort leave
-pub released-ends : (how : ℕ) (s : Set) (W : Window) → released s W.held ≡ endAll how s W .held
-unfolding released rowWithout endAll
-released-ends how s W = refl
-
--- the locks of a sound window
-pub sound-modes : (L : Limits) (W : Window) → Sound L W → Modes W.held
-unfolding Modes
-sound-modes L W k = held-most W (k .helds)
-
-pub sound-none : (L : Limits) (W : Window) → Sound L W → NoneFrom W.entries W.held
-unfolding NoneFrom
-sound-none L W k = held-no-entry W (k .helds)
-
--- the entries that a delegate names
-pub named-one : (e : ℕ) → e < 256 → entriesNamed e ≡ only e
-unfolding entriesNamed only every
-named-one e h = fun-ext λ x. rw (eqb-other e 65535 (omega arith))
-
-pub named-every : entriesNamed 65535 ≡ everyEntry
-unfolding entriesNamed everyEntry every
-named-every = refl
 
 -- rows where nobody holds anything stay so
 pub without-empty : (s : Set) (row : ℕ → ℕ) → ((c : ℕ) → row c ≡ 0) → (c : ℕ) → rowWithout s row c ≡ 0

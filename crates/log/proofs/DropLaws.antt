@@ -9,8 +9,7 @@ use native.Mathlib.Numerals.{towards-suc}
 use lib.ListN.{length, getD, set, replicate, replicate-append-replicate}
 use Rattle.rules.specs.Base.{keep}
 use Rattle.rules.specs.Sets.{Set}
-use Rattle.rules.specs.Window.{LogRecord, Window}
-use Rattle.rules.specs.Effects.{endAll}
+use Rattle.rules.specs.Window.{LogRecord}
 use Rattle.rules.proofs.ListLaws.{length-keep}
 use Rattle.layout.specs.Codec.{noRecord, recordBytes, logSection}
 use Rattle.layout.proofs.RecordLaws.{flat, log-flat}
@@ -20,11 +19,6 @@ use Rattle.cells.proofs.NumLaws.{part4}
 use Rattle.cells.proofs.CloseLaws.{Closing, closing-none, closing-here, closing-turn, closing-all}
 use Rattle.log.specs.Records.{isUnowned, unowned, Dropped}
 use Rattle.log.proofs.LogLaws.{length-record}
-
--- what is left is the log of rules' `endAll`
-pub unowned-ended : (how : ℕ) (s : Set) (W : Window) → endAll how s W .log ≡ unowned s (W .log)
-unfolding endAll unowned isUnowned
-unowned-ended how s W = refl
 
 -- A RECORD MOVED: its six bytes, as straight-line code reads them
 pub record-bytes : (l : List ℕ) (at : ℕ) → at + 6 ≤ length l

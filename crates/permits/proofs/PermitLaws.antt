@@ -6,9 +6,8 @@ use Prim.Native.Nat.{ℕ, _-_, _*_, _≤_}
 use lib.ListN.{length, replicate}
 use Rattle.rules.specs.Base.{exceeds, rising}
 use Rattle.rules.specs.Sets.{Set}
-use Rattle.rules.specs.Window.{limits, PermitRecord, Window, permitKey}
+use Rattle.rules.specs.Window.{limits, PermitRecord, permitKey}
 use Rattle.rules.specs.Locks.{makePermit, unitePermits, addPermit}
-use Rattle.rules.specs.Effects.{endAll}
 use Rattle.layout.specs.Codec.{permitBytes, permitSection}
 use Rattle.layout.proofs.RecordLaws.{permits-flat}
 use Rattle.rows.specs.Rows.{Row, row, rowKey, rowBytes, rows, uniteRows, addRow, unlessOver, spared, Stored, Closed, Holds}
@@ -32,12 +31,7 @@ pub permit-united : (p q : PermitRecord) → permitRow (unitePermits p q) ≡ un
 unfolding permitRow unitePermits uniteRows
 permit-united p q = refl
 
--- the permits that an ended set leaves are the rules'
-pub permits-ended : (how : ℕ) (s : Set) (W : Window) → endAll how s W .permits ≡ permitsLeft s (W .permits)
-unfolding endAll permitsLeft
-permits-ended how s W = refl
-
--- and the rows that are spared are theirs
+-- the rows that are spared are those that the rules leave
 pub permits-left : (s : Set) (n : ℕ) (bytes : List ℕ) → n ≤ 1024 → (r : ℕ) (after : List ℕ) → Closed (spared s) n bytes r after
     → (r ≤ n) × ((ps : List PermitRecord) → length ps ≡ n → bytes ≡ permitSection ps → Holds permitSection (permitsLeft s ps) r after)
 unfolding permitsLeft spared permitRow

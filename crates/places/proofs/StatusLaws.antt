@@ -13,8 +13,6 @@ use borrow.Author.Tests.{eq-eqb}
 use lib.ListN.{getD}
 use Rattle.rules.specs.Base.{put, outside}
 use Rattle.rules.specs.Sets.{Set}
-use Rattle.rules.specs.Window.{Window}
-use Rattle.rules.specs.Effects.{endAll}
 use Rattle.rules.proofs.BaseLaws.{Same, same, other, same?, ltb-true, ltb-false, Below, under, over, below, and-false, and-right, or-comm, both-ways, eqb-eq, lt-of}
 use Rattle.layout.specs.Codec.{changeSection, bit, unpack}
 use Rattle.sets.specs.Members.{members}
@@ -24,11 +22,6 @@ use Rattle.sets.proofs.MemberLaws.{members-above}
 use Rattle.sets.proofs.WalkLaws.{Lowest, lowest-rises}
 use Rattle.places.specs.Statuses.{withStatuses, firsts, inRange}
 use Rattle.places.proofs.TableLaws.{status-read, change-ext}
-
--- STATUSES: those of rules' `endAll`
-pub statuses-ended : (how : ℕ) (s : Set) (W : Window) → endAll how s W .status ≡ withStatuses s how (W .status)
-unfolding endAll withStatuses
-statuses-ended how s W = refl
 
 -- the members of a set that are not left any more
 unfoldable pub passed : Set → Set → Set

@@ -55,10 +55,6 @@ module _ (n : ℕ) (r : Rel) (ends : Bounded n r) where
 pub closure-bound : (n m : ℕ) (r : Rel) → Bounded n r → Bounded m r → (s : Set) → closure n r s ≡ closure m r s
 closure-bound n m r p q s = fun-ext (λ c. both-ways _ _ (λ e. closure-ways m r q s c .1 (closure-ways n r p s c .0 e)) (λ e. closure-ways n r p s c .1 (closure-ways m r q s c .0 e)))
 
-pub reach-bound : (n m : ℕ) (r : Rel) → Bounded n r → Bounded m r → (c : ℕ) → reach n r c ≡ reach m r c
-unfolding reach
-reach-bound n m r p q c = closure-bound n m r p q _
-
 -- "A wait or fall tie is an arrow from its leader's group to its follower's": from x's group to y's
 pub record Arrow (ts : List TieRecord) (x y : ℕ) : Type 0 where
   pub leader : ℕ

@@ -9,13 +9,10 @@ use lib.ListN.{length, replicate}
 use borrow.Author.Tests.{ltb-true, ltb-false, eqb-true}
 use Rattle.rules.specs.Base.{any, exceeds, rising}
 use Rattle.rules.specs.Sets.{Set, only}
-use Rattle.rules.specs.Window.{limits, TieRecord, Window, tieKey}
+use Rattle.rules.specs.Window.{limits, TieRecord, tieKey}
 use Rattle.rules.specs.Ties.{isGroup, makeTie, addTie, tied}
 use Rattle.rules.specs.Locks.{contains}
-use Rattle.rules.specs.Effects.{endAll}
 use Rattle.rules.proofs.BaseLaws.{and-left, and-right}
-use Rattle.rules.proofs.ListLaws.{any-find}
-use Rattle.rules.proofs.SortLaws.{insert-standing}
 use Rattle.layout.specs.Codec.{tieBytes, tieSection}
 use Rattle.layout.proofs.RecordLaws.{ties-flat}
 use Rattle.rows.specs.Rows.{Row, row, rowKey, rowBytes, rows, hasKey, uniteRows, addRow, unlessOver, spared, Stored, Closed, Holds}
@@ -39,12 +36,7 @@ tie-united : (t u : TieRecord) → tieRow u ≡ uniteRows (tieRow t) (tieRow u)
 unfolding tieRow uniteRows contains
 tie-united t u = refl
 
--- the ties that an ended set leaves are the rules'
-pub ties-ended : (how : ℕ) (s : Set) (W : Window) → endAll how s W .ties ≡ tiesLeft s (W .ties)
-unfolding endAll tiesLeft
-ties-ended how s W = refl
-
--- and the rows that are spared are theirs
+-- the rows that are spared are those that the rules leave
 pub ties-left : (s : Set) (n : ℕ) (bytes : List ℕ) → n ≤ 512 → (r : ℕ) (after : List ℕ) → Closed (spared s) n bytes r after
     → (r ≤ n) × ((ts : List TieRecord) → length ts ≡ n → bytes ≡ tieSection ts → Holds tieSection (tiesLeft s ts) r after)
 unfolding tiesLeft spared tieRow
@@ -58,13 +50,6 @@ same-tie t u e =
     let b : u .leader ≡ t .leader = eqb-true u.leader t.leader (and-right (eqb u.kind t.kind) (eqb u.leader t.leader) d) in
     let c : u .follower ≡ t .follower = eqb-true u.follower t.follower (and-right (eqb u.kind t.kind && eqb u.leader t.leader) (eqb u.follower t.follower) e) in
     λ i. record { kind = a i; leader = b i; follower = c i }
-
--- so the ties stay as they are
-pub stands-same : (t : TieRecord) (ts : List TieRecord) → rising tieKey ts ≡ true → tieStands t ts ≡ true → addTie t ts ≡ ts
-unfolding tieStands tied only addTie
-stands-same t ts r e =
-    let m = any-find (λ u. eqb u.kind t.kind && eqb u.leader t.leader && eqb u.follower t.follower) ts e in
-    insert-standing tieKey (rw (same-tie t (m .0) (m .2)) at (m .1)) r
 
 -- THE ENDS AS STORED
 abbrev stored : Bool → ℕ → ℕ → ℕ → TieRecord
