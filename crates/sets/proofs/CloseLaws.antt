@@ -1,5 +1,5 @@
 -- Ties in bytes as a list of ties, and the least set that none of them adds to as the closure of the rules. Assumes nothing.
-use mathlib.Core.Path.{_≡_, sym, ap, _∙_}
+use mathlib.Core.Path.{_≡_, refl, sym, ap, _∙_}
 use mathlib.Core.Bool.{Bool, true, false, _&&_}
 use mathlib.Core.List.{List}
 use mathlib.Core.Logic.{_⊎_, inl, inr, ⊎-elim}
@@ -19,7 +19,7 @@ use Rattle.layout.proofs.RecordLaws.{placeByte, place-at, first-byte}
 use Rattle.sets.specs.declared.Along.{Along}
 use Rattle.sets.specs.declared.Along.the-variants.{Groups, Falls, Arrows}
 use Rattle.sets.specs.Closing.{relation, lowKind, follows, placeFrom, tieAt, tieFrom, passed}
-use Rattle.sets.proofs.PassLaws.{Inside, passed-keeps, pulled-follower, pulled-leader, pulled-within, Stable, Growing, growing-on, growing-end}
+use Rattle.sets.proofs.PassLaws.{Inside, passed-keeps, pulled-follower, pulled-leader, pulled-within, Stable, Growing, place-below, growing-on, growing-end}
 
 -- TIES IN BYTES
 pub length-ties : (ts : List TieRecord) → length (tieSection ts) ≡ 2048
@@ -221,21 +221,29 @@ section-closure along bs ts n seed r bytes room len e g z = stable-closure ts 25
     (record { holds = g .holds; least = λ u w. g .least u (stable-same (lowKind along) n (λ j. getD ts j noTie) (tieAt bs) u (λ j h. sym (section-read bs ts n room e j h)) (rw len at w)) })
     (rw len (stable-same (lowKind along) n (tieAt bs) (λ j. getD ts j noTie) r (section-read bs ts n room e) z))
 
--- TWO PASSES OVER THE BYTES, from the first tie on and from the last back: from s to r
-module _ (low : ℕ) (bs : List ℕ) (n : ℕ) (s t r : Set) (p : t ≡ passed low (tieFrom false bs n) n s) (q : r ≡ passed low (tieFrom true bs n) n t) where
+-- A PASS OVER THE BYTES, from the first tie on or from the last back: from s to r
+-- the other way round and back again
+place-again : (back : Bool) (n i : ℕ) → i < n → placeFrom back n (placeFrom back n i) ≡ i
+unfolding placeFrom
+place-again true n i h = omega arith
+place-again false n i h = refl
+
+module _ (low : ℕ) (bs : List ℕ) (n : ℕ) (back : Bool) (s r : Set) (p : r ≡ passed low (tieFrom back bs n) n s) where
   -- the members stay
-  pub turn-keeps : Inside s r
-  turn-keeps k e = rw q (passed-keeps low (tieFrom true bs n) n t k (rw p (passed-keeps low (tieFrom false bs n) n s k e)))
+  pub pass-keeps : Inside s r
+  pass-keeps k e = rw p (passed-keeps low (tieFrom back bs n) n s k e)
 
   -- what grew from a seed still grows from it
-  pub turn-grows : (seed : Set) → Growing low (tieAt bs) n seed s → Growing low (tieAt bs) n seed r
+  pub pass-grows : (seed : Set) → Growing low (tieAt bs) n seed s → Growing low (tieAt bs) n seed r
   unfolding tieFrom
-  turn-grows seed g = growing-on low (tieAt bs) n true seed t r q (growing-on low (tieAt bs) n false seed s t p g)
+  pass-grows seed g = growing-on low (tieAt bs) n back seed s r p g
 
-  -- where they add nothing they have come to the closure
+  -- where it adds nothing, none of the ties does
+  pass-stable : ((k : ℕ) → r k ≡ s k) → Stable low (tieAt bs) n r
+  unfolding tieFrom
+  pass-stable h i l = rw (place-again back n i l) at (growing-end low (tieFrom back bs n) n s r (λ k w. rw p w) h (placeFrom back n i) (place-below back n i l))
+
+  -- so it has come to the closure
   pub closed-section : (along : Along) (ts : List TieRecord) (seed : Set) → low ≡ lowKind along → ((i : ℕ) → getD bs i 0 < 256) → 4 * n ≤ length bs → length ts ≡ n → bs ≡ tieSection ts
       → Growing low (tieAt bs) n seed s → ((k : ℕ) → r k ≡ s k) → (k : ℕ) → r k ≡ closure 256 (relation along ts) seed k
-  unfolding tieFrom placeFrom
-  closed-section along ts seed e bytes room len eb g h = section-closure along bs ts n seed r bytes room len eb
-      (rw e at (turn-grows seed g))
-      (rw e at (growing-end low (tieAt bs) n s r (λ k w. rw q (passed-keeps low (tieFrom true bs n) n t k (rw p w))) h))
+  closed-section along ts seed e bytes room len eb g h = section-closure along bs ts n seed r bytes room len eb (rw e at (pass-grows seed g)) (rw e at (pass-stable h))

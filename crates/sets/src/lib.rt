@@ -213,20 +213,24 @@ impl ChangeSet {
         store_word(bytes, at + 24, w[3]);
     }
 
-    // The least set that holds this one and is closed along the first `count` ties of the section.
+    // The least set that holds this one and is closed along the first `count` ties of the section: passes over them, which turn
+    // round where one has added a single member.
     pub fn close(self, ties: &[u8], count: usize, along: Along) -> ChangeSet
         requires { ⌜ 4 * count ≤ length (now ties) ⌝ }
         ensures { λ r. ⌜ ((ts : List TieRecord) → length ts ≡ count → now (ties .entry) ≡ tieSection ts → (k : ℕ) → members r k ≡ closure 256 (relation along ts) (members self) k) ⌝ }
     {
         let low = low_kind(along);
         let mut words = self.words;
+        let mut back = false;
         loop {
             let before = ChangeSet { words };
-            pass(&mut words, ties, count, low, false);
-            pass(&mut words, ties, count, low, true);
+            pass(&mut words, ties, count, low, back);
             let after = ChangeSet { words };
             if after.equal(before) {
                 return after;
+            }
+            if after.minus(before).rest().is_empty() {
+                back = !back;
             }
         }
     }
