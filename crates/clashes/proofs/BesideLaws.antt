@@ -12,7 +12,7 @@ use Rattle.rules.proofs.BaseLaws.{Same, same, other, same?, eqb-same, eqb-other
 use Rattle.sets.proofs.BoundLaws.{all-ext, any-or, any-and, none-as}
 use Rattle.clashes.specs.Permits.{anyOf, involves}
 use Rattle.clashes.specs.Beside.{serves, permitsAnybody, names, beside, otherHolder, unserved, writerFits, writersFit, othersFit, entryFits}
-use Rattle.clashes.proofs.PlaceLaws.{any-same}
+use Rattle.clashes.proofs.PlaceLaws.{not-either, any-same}
 
 -- ADDED TO A SET
 -- a set where a test passed
@@ -32,27 +32,36 @@ named-added r x a k g t e o s sv h = rw h (go (same? t k))
     go (same q) = or-assoc s (eqb g a && serves o (r t) (x t)) rest ∙ ap (λ c. s || (eqb g a && serves o (r c) (x c) || rest)) q
     go (other n) = rw (or-false s, and-false (eqb g a))
 
--- one permit g, t, e, o, beside the writer a: what is added says of any other change k what the permit does
+-- STRUCK OUT OF A SET
+-- where a test passed
+pub strike-passed : (s m s′ test : Bool) → test ≡ true → s′ ≡ s && not m → s′ ≡ s && not (m && test)
+strike-passed s m s′ test t e = e ∙ rw (t, and-true m)
+
+-- nothing where it failed
+pub nothing-struck : (s m test : Bool) → test ≡ false → s ≡ s && not (m && test)
+nothing-struck s m test t = rw (t, and-false m, and-true s)
+
+-- one permit g, t, e, o, beside the writer a: another change k is left just where the permit does not let it stand there
 module _ (r x : Set) (a k g t e o : ℕ) (others : k ≢ a) (s s′ : Bool) where
   -- the writer gives it to anybody
-  pub anybody-added : g ≡ a → t ≡ 0 → (m : Bool) → m ≡ s || r k && (eqb o 1 || eqb o 3) → s′ ≡ m || x k && (eqb o 2 || eqb o 3) → s′ ≡ s || beside r x a k (makePermit g t e o)
+  pub anybody-struck : g ≡ a → t ≡ 0 → (m : Bool) → m ≡ s && not (r k && (eqb o 1 || eqb o 3)) → s′ ≡ m && not (x k && (eqb o 2 || eqb o 3)) → s′ ≡ s && not (beside r x a k (makePermit g t e o))
   unfolding beside serves makePermit contains
-  anybody-added eg et m em es = es ∙ rw (em, eg, et, eqb-same a, or-true (eqb 0 k), eqb-other a k (λ q. others (sym q)))
-      (or-assoc s (r k && (eqb o 1 || eqb o 3)) (x k && (eqb o 2 || eqb o 3)) ∙ ap (λ w. s || w) (sym (or-false _)))
+  anybody-struck eg et m em es = es ∙ rw (em, eg, et, eqb-same a, or-true (eqb 0 k), eqb-other a k (λ q. others (sym q)), or-false (r k && (eqb o 1 || eqb o 3) || x k && (eqb o 2 || eqb o 3)))
+      (not-either s (r k && (eqb o 1 || eqb o 3)) (x k && (eqb o 2 || eqb o 3)))
 
   -- it gives it to one
-  pub taker-added : g ≡ a → t ≢ 0 → (sv : Bool) → sv ≡ serves o (r t) (x t) → s′ ≡ s || eqb t k && sv → s′ ≡ s || beside r x a k (makePermit g t e o)
+  pub taker-struck : g ≡ a → t ≢ 0 → (sv : Bool) → sv ≡ serves o (r t) (x t) → s′ ≡ s && not (eqb t k && sv) → s′ ≡ s && not (beside r x a k (makePermit g t e o))
   unfolding beside makePermit
-  taker-added eg et sv ev es = es ∙ rw (ev, eg, eqb-same a, eqb-other t 0 et, eqb-other a k (λ q. others (sym q))) (go (same? t k))
+  taker-struck eg et sv ev es = es ∙ rw (ev, eg, eqb-same a, eqb-other t 0 et, eqb-other a k (λ q. others (sym q))) (go (same? t k))
     where
-      go : {b : Bool} → Same t k b → s || b && serves o (r t) (x t) ≡ s || ((b || false) && serves o (r k) (x k) || false)
-      go (same q) = rw q (ap (λ w. s || w) (sym (or-false _)))
+      go : {b : Bool} → Same t k b → s && not (b && serves o (r t) (x t)) ≡ s && not ((b || false) && serves o (r k) (x k) || false)
+      go (same q) = rw (q, or-false (serves o (r k) (x k)))
       go (other n) = refl
 
   -- another gives it
-  pub giver-added : g ≢ a → s′ ≡ s || eqb g k && ((eqb t a || eqb t 0) && (eqb o 2 || eqb o 3)) → s′ ≡ s || beside r x a k (makePermit g t e o)
+  pub giver-struck : g ≢ a → s′ ≡ s && not (eqb g k && ((eqb t a || eqb t 0) && (eqb o 2 || eqb o 3))) → s′ ≡ s && not (beside r x a k (makePermit g t e o))
   unfolding beside makePermit contains
-  giver-added n es = es ∙ rw (eqb-other g a n)
+  giver-struck n es = es ∙ rw (eqb-other g a n)
 
 -- a permit with which a change has nothing to do names no two of which it is one
 pub names-none : (r x : Set) (a b : ℕ) (p : PermitRecord) → involves a p ≡ false → names r x a b p ≡ false
@@ -129,16 +138,16 @@ left-over : (o f : Bool) → not (o && not f) ≡ not o || f
 left-over true f = Bool·not-not f
 left-over false f = refl
 
--- one writer at once: `found` are those whom the permits let stand beside it, `rest` the other holders without them
-pub none-beside : (n : ℕ) (t : ℕ → PermitRecord) (r x : Set) (a : ℕ) (holders others found rest : Set) (none : Bool) → ((k : ℕ) → holders k ≡ r k || x k)
-    → ((k : ℕ) → others k ≡ not (eqb k a) && holders k) → ((k : ℕ) → k ≢ a → found k ≡ anyOf n t (beside r x a k)) → ((k : ℕ) → rest k ≡ others k && not (found k))
+-- one writer at once: `struck` are the holders without those whom the permits let stand beside it, `rest` those of them that are not the writer
+pub none-beside : (n : ℕ) (t : ℕ → PermitRecord) (r x : Set) (a : ℕ) (holders struck rest : Set) (none : Bool) → ((k : ℕ) → holders k ≡ r k || x k)
+    → ((k : ℕ) → k ≢ a → struck k ≡ holders k && not (anyOf n t (beside r x a k))) → ((k : ℕ) → rest k ≡ not (eqb k a) && struck k)
     → none ≡ not (anyBelow 256 rest) → none ≡ othersFit n t r x a
 unfolding othersFit otherHolder
-none-beside n t r x a holders others found rest none eh eo ef er e = e ∙ none-as 256 rest _ (λ b h. rw (er b, eo b, eh b) (go b (same? b a)))
+none-beside n t r x a holders struck rest none eh es er e = e ∙ none-as 256 rest _ (λ b h. rw (er b) (go b (same? b a)))
   where
-    go : (b : ℕ) {i : Bool} → Same b a i → not (not i && (r b || x b)) || anyOf n t (beside r x a b) ≡ not (not i && (r b || x b) && not (found b))
+    go : (b : ℕ) {i : Bool} → Same b a i → not (not i && (r b || x b)) || anyOf n t (beside r x a b) ≡ not (not i && struck b)
     go b (same q) = refl
-    go b (other n) = rw (ef b n) (sym (left-over (r b || x b) _))
+    go b (other n) = rw (es b n, eh b) (sym (left-over (r b || x b) _))
 
 -- the writers looked at with the permits to anybody set apart, and at once
 writers-entry : (n : ℕ) (t : ℕ → PermitRecord) (r x u v : Set) → ((k : ℕ) → u k ≡ anyOf n t (permitsAnybody 1 k)) → ((k : ℕ) → v k ≡ anyOf n t (permitsAnybody 2 k))

@@ -1,6 +1,6 @@
 -- Permits by their places: one of the first n passes, the first that passes, and the order of entries. Assumes nothing.
 use mathlib.Core.Path.{_≡_, refl, sym, _∙_, ap}
-use mathlib.Core.Bool.{Bool, true, false, _||_, false≢true}
+use mathlib.Core.Bool.{Bool, true, false, not, _&&_, _||_, and-true, and-false, false≢true}
 use mathlib.Core.List.{List}
 use Prim.Native.Nat.{ℕ, _+_, _-_, _*_, _≤_, _<_}
 use native.Mathlib.Numerals.{add-one}
@@ -19,6 +19,11 @@ use Rattle.sets.proofs.BoundLaws.{any-ext}
 use Rattle.locks.specs.Permits.{permitAt}
 use Rattle.clashes.specs.Permits.{permitFrom, anyOf, FirstOf, NoneBefore, involves, byteIs}
 
+-- neither of two
+pub not-either : (s p q : Bool) → s && not p && not q ≡ s && not (p || q)
+not-either s true q = rw (and-false s)
+not-either s false q = rw (and-true s)
+
 -- ONE OF THE FIRST N
 module _ (t : ℕ → PermitRecord) (p : PermitRecord → Bool) where
   -- none yet
@@ -30,6 +35,15 @@ module _ (t : ℕ → PermitRecord) (p : PermitRecord → Bool) where
   pub any-next : (j : ℕ) (s s′ : Bool) → s ≡ anyOf j t p → s′ ≡ s || p (t j) → s′ ≡ anyOf (j + 1) t p
   unfolding anyOf anyBelow
   any-next j s s′ h e = rw (add-one, ← h) e
+
+  -- left where none of them passes: none yet, and one more
+  pub left-none : (s : Bool) → s ≡ s && not (anyOf 0 t p)
+  unfolding anyOf anyBelow
+  left-none s = sym (and-true s)
+
+  pub left-next : (j : ℕ) (s₀ s s′ : Bool) → s ≡ s₀ && not (anyOf j t p) → s′ ≡ s && not (p (t j)) → s′ ≡ s₀ && not (anyOf (j + 1) t p)
+  unfolding anyOf anyBelow
+  left-next j s₀ s s′ h e = e ∙ rw (h, add-one) (not-either s₀ (anyOf j t p) (p (t j)))
 
   -- more that do not pass
   pub any-skipped : (i j : ℕ) → i ≤ j → ((k : ℕ) → i ≤ k → k < j → p (t k) ≡ false) → anyOf i t p ≡ anyOf j t p

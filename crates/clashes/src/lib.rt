@@ -1,9 +1,12 @@
 // Whether each clashing pair of locks has a permit, in the lent sections of locks and of permits.
 // A clashing pair has a writer in it: each writer of an entry is held against the entry's other holders.
 use sets::ChangeSet;
+use sets::among;
+use sets::remove;
+use sets::remove_all;
 ghost use mathlib.Core.Path.{_≡_};
 ghost use mathlib.Core.Logic.{_≢_};
-ghost use mathlib.Core.Bool.{_&&_, _||_};
+ghost use mathlib.Core.Bool.{not, _&&_, _||_};
 ghost use Prim.Native.Nat.{ℕ, _+_, _-_, _*_, _≤_};
 ghost use lib.Dec.{eqb};
 ghost use lib.ListN.{length};
@@ -11,12 +14,12 @@ ghost use Rattle.rules.specs.Base.{anyBelow};
 ghost use Rattle.rules.specs.Window.{Window};
 ghost use Rattle.rules.specs.Locks.{clashesPermitted};
 ghost use Rattle.layout.specs.Codec.{locksSize, permitsSize, lockSection};
-ghost use Rattle.sets.specs.Members.{members, loaded};
+ghost use Rattle.sets.specs.Members.{members, wordsHave, FourWords, loaded};
 ghost use Rattle.locks.specs.Held.{inMode};
 ghost use Rattle.clashes.specs.Holds.{Holds};
 ghost use Rattle.locks.specs.Permits.{permitAt};
 ghost use Rattle.clashes.specs.Permits.{permitFrom, anyOf, FirstOf, NoneBefore, fromEntry, involves, byteIs};
-ghost use Rattle.clashes.specs.Beside.{serves, permitsAnybody, names, beside, unserved, writerFits, writersFit, entryFits, contested};
+ghost use Rattle.clashes.specs.Beside.{serves, permitsAnybody, names, beside, unserved, writerFits, writersFit, othersFit, entryFits, contested};
 
 // The bytes of an entry's locks, and of one of its two sets.
 const ENTRY: usize = layout::Locks::SIZE / layout::Entries::MOST;
@@ -165,13 +168,12 @@ fn givers_to_anybody(permits: &[u8], count: usize, mode: u8) -> ChangeSet
     s
 }
 
-// Whether operations contain the mode in which a change holds the entry.
-fn serves(operations: u8, readers: ChangeSet, writers: ChangeSet, change: u8) -> bool
-    ensures { λ r. ⌜ r ≡ serves operations (members readers change) (members writers change) ⌝ }
+// Whether operations contain the mode of one that reads or writes.
+fn serves(operations: u8, reads: bool, writes: bool) -> bool
+    ensures { λ r. ⌜ r ≡ serves operations reads writes ⌝ }
 {
     let both = operations == 3;
-    (readers.has(change) & ((operations == 1) | both))
-        | (writers.has(change) & ((operations == 2) | both))
+    (reads & ((operations == 1) | both)) | (writes & ((operations == 2) | both))
 }
 
 // The set, with whom a permit lets stand beside a writer by naming the two: the taker, or the giver.
@@ -190,7 +192,7 @@ fn add_named(
     let giver = permits[at + 1];
     let taker = permits[at + 2];
     let operations = permits[at + 3];
-    let out = (giver == writer) & serves(operations, readers, writers, taker);
+    let out = (giver == writer) & serves(operations, readers.has(taker), writers.has(taker));
     let into = (taker == writer) & ((operations == 2) | (operations == 3));
     add_if(add_if(s, taker, out), giver, into)
 }
@@ -277,17 +279,42 @@ fn writers_permitted(
     true
 }
 
-// The set, with whom a permit lets stand beside a writer: the taker, every holder that it serves where anybody may take it, or the giver.
-fn add_beside(
-    s: ChangeSet,
+// A change is struck out of those left where a test passed.
+fn strike_one(left: &mut [u64; 4], c: u8, test: bool)
+    requires { ⌜ length (now left) ≡ 4 ⌝ }
+    ensures { λ _. ⌜ length (now (left .exit)) ≡ 4 ⌝ }
+    ensures { λ _. ⌜ ((k : ℕ) → wordsHave (now (left .exit)) k ≡ wordsHave (now (left .entry)) k && not (eqb c k && test)) ⌝ }
+{
+    if test {
+        remove(left, c);
+    }
+}
+
+// The members of a set are struck out of those left where a test passed.
+fn strike_set(left: &mut [u64; 4], set: &[u64; 4], test: bool)
+    requires { ⌜ (length (now left) ≡ 4) × FourWords (now set) ⌝ }
+    ensures { λ _. ⌜ length (now (left .exit)) ≡ 4 ⌝ }
+    ensures { λ _. ⌜ ((k : ℕ) → wordsHave (now (left .exit)) k ≡ wordsHave (now (left .entry)) k && not (wordsHave (now (set .entry)) k && test)) ⌝ }
+{
+    if test {
+        remove_all(left, set);
+    }
+}
+
+// Those whom a permit lets stand beside a writer are struck out of those left: the taker, every holder that it serves where anybody may
+// take it, or the giver. Whether the writer itself is struck out is left open.
+fn strike(
+    left: &mut [u64; 4],
     permits: &[u8],
     place: usize,
-    readers: ChangeSet,
-    writers: ChangeSet,
+    readers: &[u64; 4],
+    writers: &[u64; 4],
     writer: u8,
-) -> ChangeSet
+)
+    requires { ⌜ (length (now left) ≡ 4) × FourWords (now readers) × FourWords (now writers) ⌝ }
     requires { ⌜ 4 * place + 4 ≤ length (now permits) ⌝ }
-    ensures { λ r. ⌜ ((k : ℕ) → k ≢ writer → members r k ≡ members s k || beside (members readers) (members writers) writer k (permitAt (now (permits .entry)) place)) ⌝ }
+    ensures { λ _. ⌜ length (now (left .exit)) ≡ 4 ⌝ }
+    ensures { λ _. ⌜ ((k : ℕ) → k ≢ writer → wordsHave (now (left .exit)) k ≡ wordsHave (now (left .entry)) k && not (beside (wordsHave (now (readers .entry))) (wordsHave (now (writers .entry))) writer k (permitAt (now (permits .entry)) place))) ⌝ }
 {
     let at = place * PERMIT;
     let giver = permits[at + 1];
@@ -296,46 +323,74 @@ fn add_beside(
     let write = (operations == 2) | (operations == 3);
     if giver == writer {
         if taker == 0 {
-            let read = (operations == 1) | (operations == 3);
-            return unite_if(unite_if(s, readers, read), writers, write);
+            strike_set(left, readers, (operations == 1) | (operations == 3));
+            strike_set(left, writers, write);
+            return;
         }
-        return add_if(s, taker, serves(operations, readers, writers, taker));
+        let served = serves(operations, among(readers, taker), among(writers, taker));
+        strike_one(left, taker, served);
+        return;
     }
-    add_if(s, giver, ((taker == writer) | (taker == 0)) & write)
+    strike_one(left, giver, ((taker == writer) | (taker == 0)) & write);
 }
 
-// Whom the permits let stand beside a writer, by name or as anybody. Whether the writer itself is among them is left open.
-fn beside(
+// Those whom the permits let stand beside a writer are struck out of those left.
+fn strike_all(
+    left: &mut [u64; 4],
     permits: &[u8],
     count: usize,
-    readers: ChangeSet,
-    writers: ChangeSet,
+    readers: &[u64; 4],
+    writers: &[u64; 4],
     writer: u8,
-) -> ChangeSet
+)
+    requires { ⌜ (length (now left) ≡ 4) × FourWords (now readers) × FourWords (now writers) ⌝ }
     requires { ⌜ 4 * count ≤ length (now permits) ⌝ }
-    ensures { λ r. ⌜ ((k : ℕ) → k ≢ writer → members r k ≡ anyOf count (permitAt (now (permits .entry))) (beside (members readers) (members writers) writer k)) ⌝ }
+    ensures { λ _. ⌜ length (now (left .exit)) ≡ 4 ⌝ }
+    ensures { λ _. ⌜ ((k : ℕ) → k ≢ writer → wordsHave (now (left .exit)) k ≡ wordsHave (now (left .entry)) k && not (anyOf count (permitAt (now (permits .entry))) (beside (wordsHave (now (readers .entry))) (wordsHave (now (writers .entry))) writer k))) ⌝ }
 {
-    let mut s = ChangeSet::empty();
     let mut j = 0;
     while j < count {
-        s = add_beside(s, permits, j, readers, writers, writer);
+        strike(left, permits, j, readers, writers, writer);
         j += 1;
     }
-    s
 }
 
-// Whether every other holder has a permit from or to a writer, for each writer: one pass over the permits for each of them.
+// Whether every other holder has a permit from or to a writer. Those still without one are left in words that are lent: no set is copied for
+// a permit.
+fn others_permitted(
+    permits: &[u8],
+    count: usize,
+    readers: &[u64; 4],
+    writers: &[u64; 4],
+    writer: u8,
+) -> bool
+    requires { ⌜ FourWords (now readers) × FourWords (now writers) ⌝ }
+    requires { ⌜ 4 * count ≤ length (now permits) ⌝ }
+    ensures { λ r. ⌜ r ≡ othersFit count (permitAt (now (permits .entry))) (wordsHave (now (readers .entry))) (wordsHave (now (writers .entry))) writer ⌝ }
+{
+    let mut left = [
+        readers[0] | writers[0],
+        readers[1] | writers[1],
+        readers[2] | writers[2],
+        readers[3] | writers[3],
+    ];
+    strike_all(&mut left, permits, count, readers, writers, writer);
+    remove(&mut left, writer);
+    ChangeSet { words: left }.is_empty()
+}
+
+// Whether that is so of every writer: one pass over the permits for each of them.
 fn few_permitted(permits: &[u8], count: usize, readers: ChangeSet, writers: ChangeSet) -> bool
     requires { ⌜ 4 * count ≤ length (now permits) ⌝ }
     ensures { λ r. ⌜ r ≡ entryFits count (permitAt (now (permits .entry))) (members readers) (members writers) ⌝ }
 {
-    let holders = readers.unite(writers);
+    let reader_words = readers.words;
+    let writer_words = writers.words;
     let mut left = writers;
     let mut writer = left.lowest();
     while writer < 256 {
         let c = writer as u8;
-        let found = beside(permits, count, readers, writers, c);
-        if !holders.without(c).minus(found).is_empty() {
+        if !others_permitted(permits, count, &reader_words, &writer_words, c) {
             return false;
         }
         left = left.rest();

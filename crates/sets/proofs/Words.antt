@@ -16,7 +16,7 @@ use lib.Pow.{pow-lt}
 use lib.Seq.{getD-set-same, getD-set-other}
 use Rattle.rules.specs.Base.{countBelow}
 use Rattle.layout.specs.Codec.{bit, unpack}
-use Rattle.sets.specs.Members.{members, wordsHave}
+use Rattle.sets.specs.Members.{members, wordsHave, FourWords}
 use Rattle.sets.specs.declared.ChangeSet.{ChangeSet}
 use Rattle.sets.proofs.Digits.{Digit, none, one, digit, unpack-first, unpack-next, unpack-zero, unpack-power, unpack-or, unpack-and, unpack-not, trailing-hit, trailing-below}
 use Rattle.sets.proofs.BoundLaws.{count-ext, count-add, count-first}
@@ -125,6 +125,34 @@ pub remove-word : (ws : List ℕ) (c : ℕ) → c / 64 < length ws → (k : ℕ)
 remove-word ws c h = word-changed (λ p b. not p && b) (λ b. refl) ws c _ h (λ j l.
     word-minus (getD ws (c / 64) 0) ((1 * 2 ^ (c % 64)) % 2 ^ 64) (omega arith) j l ∙ and-comm (unpack (getD ws (c / 64) 0) j) _
     ∙ ap (λ (t : Bool). not t && unpack (getD ws (c / 64) 0) j) (bit-here c (c / 64) j refl l))
+
+-- `a & !b`
+abbrev and-not : ℕ → ℕ → ℕ
+and-not a b = bitAnd a (2 ^ 64 - 1 - b)
+
+-- word i joined with that of other words
+abbrev with-word : (ℕ → ℕ → ℕ) → List ℕ → ℕ → List ℕ → List ℕ
+with-word f os i ws = set ws i (f (getD ws i 0) (getD os i 0))
+
+-- so of each of four, one after the other
+one-by-one : (f : ℕ → ℕ → ℕ) (os ws : List ℕ) → length ws ≡ 4
+    → with-word f os 3 (with-word f os 2 (with-word f os 1 (with-word f os 0 ws)))
+    ≡ f (getD ws 0 0) (getD os 0 0) ∷ f (getD ws 1 0) (getD os 1 0) ∷ f (getD ws 2 0) (getD os 2 0) ∷ f (getD ws 3 0) (getD os 3 0) ∷ []
+one-by-one f os [] e = absurd (omega arith)
+one-by-one f os (a ∷ []) e = absurd (omega arith)
+one-by-one f os (a ∷ b ∷ []) e = absurd (omega arith)
+one-by-one f os (a ∷ b ∷ c ∷ []) e = absurd (omega arith)
+one-by-one f os (a ∷ b ∷ c ∷ d ∷ []) e = refl
+one-by-one f os (a ∷ b ∷ c ∷ d ∷ g ∷ ws) e = absurd (omega arith)
+
+-- by `& !`: the words without the members of others
+pub remove-words : (ws os : List ℕ) → length ws ≡ 4 → FourWords os → (out : List ℕ)
+    → out ≡ with-word and-not os 3 (with-word and-not os 2 (with-word and-not os 1 (with-word and-not os 0 ws)))
+    → (length out ≡ 4) × ((k : ℕ) → wordsHave out k ≡ wordsHave ws k && not (wordsHave os k))
+unfolding members wordsHave
+remove-words ws os l w out e =
+    rw (e ∙ one-by-one and-not os ws l)
+    (refl, join-words and-not (λ p q. p && not q) refl (ofWords ws) (ofWords os) l (w .four) (λ i j h. word-minus (getD ws i 0) (getD os i 0) (w .fit i) j h))
 
 -- `|` and `^` that come to 0
 or-zero : (a b : ℕ) → bitOr a b ≡ 0 → (a ≡ 0) × (b ≡ 0)

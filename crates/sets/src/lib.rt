@@ -12,7 +12,7 @@ ghost use Rattle.rules.specs.Sets.{closure};
 ghost use Rattle.rules.specs.Window.{TieRecord};
 ghost use Rattle.layout.specs.Codec.{unpack, tieSection};
 ghost use Rattle.cells.specs.Num.{le};
-ghost use Rattle.sets.specs.Members.{members, wordsHave, agree, loaded, stored};
+ghost use Rattle.sets.specs.Members.{members, wordsHave, FourWords, agree, loaded, stored};
 ghost use Rattle.sets.specs.Closing.{relation, lowKind, tieOf, placeFrom, tieFrom, pulled, passed};
 
 // A set of change numbers: bit c % 64 of word c / 64 says whether c is a member.
@@ -262,6 +262,19 @@ pub fn remove(words: &mut [u64; 4], c: u8)
 {
     let i = (c / 64) as usize;
     words[i] = words[i] & !(1 << (c % 64));
+}
+
+// The members of the set of other words are members of the set of these no more: `minus`, where sets are lent and not copied.
+pub fn remove_all(words: &mut [u64; 4], others: &[u64; 4])
+    requires { ⌜ length (now words) ≡ 4 ⌝ }
+    requires { ⌜ FourWords (now others) ⌝ }
+    ensures { λ _. ⌜ length (now (words .exit)) ≡ 4 ⌝ }
+    ensures { λ _. ⌜ ((k : ℕ) → wordsHave (now (words .exit)) k ≡ wordsHave (now (words .entry)) k && not (wordsHave (now (others .entry)) k)) ⌝ }
+{
+    words[0] = words[0] & !others[0];
+    words[1] = words[1] & !others[1];
+    words[2] = words[2] & !others[2];
+    words[3] = words[3] & !others[3];
 }
 
 // What one tie adds to the set of these words.
