@@ -1,0 +1,25 @@
+-- `clashes::many::add_giver` meets its contract: the giver is added where the permit is to anybody and contains the mode. Assumes nothing.
+use borrow.Author.Needs.{needs}
+use Rattle.rules.specs.Locks.{contains, makePermit}
+use Rattle.locks.specs.Permits.{permitAt}
+use Rattle.clashes.specs.Beside.{permitsAnybody}
+use Rattle.clashes.proofs.many.add_giver.Statement.{statement}
+use Rattle.clashes.proofs.many.add_giver.Tie as tie
+
+returns : tie.Need-returns
+unfolding permitsAnybody permitAt makePermit contains
+returns c = c .add-if .ensures
+
+pub add-giver-spec : {M : Type 1} → statement M
+add-giver-spec =
+    tie.close
+    (tie.spec
+    (λ c. search needs)
+    (λ c. search needs)
+    (λ c. search needs)
+    (λ c. search needs)
+    (λ c. search needs)
+    (λ c. search needs)
+    (λ c. search needs)
+    (λ c κs. search needs)
+    returns)
