@@ -101,7 +101,7 @@ unfolding isGroup
 is-group k e = eqb-eq k 3 e
 
 -- a group tie is gone along from leader to follower whatever the others
-low-most : (along : Along) → lowKind along ≤ 3
+pub low-most : (along : Along) → lowKind along ≤ 3
 low-most Groups = omega arith
 low-most Falls = omega arith
 low-most Arrows = omega arith
@@ -215,7 +215,7 @@ stable-same : (low n : ℕ) (t v : ℕ → TieRecord) (u : Set) → ((j : ℕ) �
 stable-same low n t v u e z j h k q = z j h k (rw (e j h) q)
 
 -- the least stable set is the closure along the ties that a section holds
-section-closure : (along : Along) (bs : List ℕ) (ts : List TieRecord) (n : ℕ) (seed r : Set) → ((i : ℕ) → getD bs i 0 < 256) → 4 * n ≤ length bs → length ts ≡ n → bs ≡ tieSection ts
+pub section-closure : (along : Along) (bs : List ℕ) (ts : List TieRecord) (n : ℕ) (seed r : Set) → ((i : ℕ) → getD bs i 0 < 256) → 4 * n ≤ length bs → length ts ≡ n → bs ≡ tieSection ts
     → Growing (lowKind along) (tieAt bs) n seed r → Stable (lowKind along) (tieAt bs) n r → (k : ℕ) → r k ≡ closure 256 (relation along ts) seed k
 section-closure along bs ts n seed r bytes room len e g z = stable-closure ts 256 along (λ j h. section-ends bs ts n room e bytes j (omega arith)) seed r
     (record { holds = g .holds; least = λ u w. g .least u (stable-same (lowKind along) n (λ j. getD ts j noTie) (tieAt bs) u (λ j h. sym (section-read bs ts n room e j h)) (rw len at w)) })

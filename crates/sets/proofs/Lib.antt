@@ -19,5 +19,7 @@ pub mod Bytes
 pub mod PassLaws
 -- passes come to the closure of the rules
 pub mod CloseLaws
+-- ties noted in rows, and what spreads along them
+pub mod SpreadLaws
 -- the entries that a delegate names
 pub mod EntryLaws

@@ -2,3 +2,4 @@
 pub mod Members
 pub mod Closing
 pub mod Entries
+pub mod Spreading

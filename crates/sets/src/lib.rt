@@ -1,4 +1,10 @@
 // Sets of changes, in four 64-bit words by value.
+mod passes;
+mod tie_rows;
+
+use passes::pass;
+use tie_rows::note_ties;
+use tie_rows::row_at;
 ghost use mathlib.Core.Path.{_≡_};
 ghost use mathlib.Core.Bool.{false, not, _||_, _&&_};
 ghost use mathlib.Core.List.{List};
@@ -13,7 +19,11 @@ ghost use Rattle.rules.specs.Window.{TieRecord};
 ghost use Rattle.layout.specs.Codec.{unpack, tieSection};
 ghost use Rattle.cells.specs.Num.{le};
 ghost use Rattle.sets.specs.Members.{members, wordsHave, FourWords, agree, loaded, stored};
-ghost use Rattle.sets.specs.Closing.{relation, lowKind, tieOf, placeFrom, tieFrom, pulled, passed};
+ghost use Rattle.sets.specs.Spreading.{Spread};
+ghost use Rattle.sets.specs.Closing.{relation, lowKind};
+
+// The ties of which there are fewer are few.
+const FEW: usize = 32;
 
 // A set of change numbers: bit c % 64 of word c / 64 says whether c is a member.
 pub struct ChangeSet {
@@ -213,9 +223,22 @@ impl ChangeSet {
         store_word(bytes, at + 24, w[3]);
     }
 
-    // The least set that holds this one and is closed along the first `count` ties of the section: passes over them, which turn
-    // round where one has added a single member.
+    // The least set that holds this one and is closed along the first `count` ties of the section.
     pub fn close(self, ties: &[u8], count: usize, along: Along) -> ChangeSet
+        requires { ⌜ 4 * count ≤ length (now ties) ⌝ }
+        ensures { λ r. ⌜ ((ts : List TieRecord) → length ts ≡ count → now (ties .entry) ≡ tieSection ts → (k : ℕ) → members r k ≡ closure 256 (relation along ts) (members self) k) ⌝ }
+    {
+        if count < FEW {
+            return self.close_few(ties, count, along);
+        }
+        let low = low_kind(along);
+        let mut rows = [0u64; 1024];
+        note_ties(&mut rows, ties, count, low);
+        self.spread(&rows)
+    }
+
+    // The same by passes over the ties until one adds nothing, which turn round where one has added a single member.
+    fn close_few(self, ties: &[u8], count: usize, along: Along) -> ChangeSet
         requires { ⌜ 4 * count ≤ length (now ties) ⌝ }
         ensures { λ r. ⌜ ((ts : List TieRecord) → length ts ≡ count → now (ties .entry) ≡ tieSection ts → (k : ℕ) → members r k ≡ closure 256 (relation along ts) (members self) k) ⌝ }
     {
@@ -233,6 +256,23 @@ impl ChangeSet {
                 back = !back;
             }
         }
+    }
+
+    // The least set that holds this one and is closed along rows: each member's row is taken in once, the lowest first.
+    fn spread(self, rows: &[u64]) -> ChangeSet
+        requires { ⌜ length (now rows) ≡ 1024 ⌝ }
+        ensures { λ r. ⌜ Spread (now (rows .entry)) (members self) (members r) ⌝ }
+    {
+        let mut s = self;
+        let mut left = self;
+        let mut c = left.lowest();
+        while c < 256 {
+            let row = row_at(rows, c as u8);
+            left = left.rest().unite(row.minus(s));
+            s = s.unite(row);
+            c = left.lowest();
+        }
+        s
     }
 }
 
@@ -275,50 +315,6 @@ pub fn remove_all(words: &mut [u64; 4], others: &[u64; 4])
     words[1] = words[1] & !others[1];
     words[2] = words[2] & !others[2];
     words[3] = words[3] & !others[3];
-}
-
-// What one tie adds to the set of these words.
-fn pull(words: &mut [u64; 4], low: u8, kind: u8, leader: u8, follower: u8)
-    requires { ⌜ length (now words) ≡ 4 ⌝ }
-    ensures { λ _. ⌜ length (now (words .exit)) ≡ 4 ⌝ }
-    ensures { λ _. ⌜ wordsHave (now (words .exit)) ≡ pulled low (tieOf kind leader follower) (wordsHave (now (words .entry))) ⌝ }
-{
-    if among(words, leader) {
-        if low <= kind {
-            if kind <= 3 {
-                insert(words, follower);
-            }
-        }
-        return;
-    }
-    if kind == 3 {
-        if among(words, follower) {
-            insert(words, leader);
-        }
-    }
-}
-
-// The place that a pass comes to after so many others: from the first tie on, or from the last one back.
-fn place(passed: usize, count: usize, back: bool) -> usize
-    requires { ⌜ passed < count ⌝ }
-    ensures { λ r. ⌜ r ≡ placeFrom back count passed ⌝ }
-{
-    if back { count - 1 - passed } else { passed }
-}
-
-// What one pass over the ties adds to the set of these words.
-fn pass(words: &mut [u64; 4], ties: &[u8], count: usize, low: u8, back: bool)
-    requires { ⌜ length (now words) ≡ 4 ⌝ }
-    requires { ⌜ 4 * count ≤ length (now ties) ⌝ }
-    ensures { λ _. ⌜ length (now (words .exit)) ≡ 4 ⌝ }
-    ensures { λ _. ⌜ wordsHave (now (words .exit)) ≡ passed low (tieFrom back (now (ties .entry)) count) count (wordsHave (now (words .entry))) ⌝ }
-{
-    let mut j: usize = 0;
-    while j < count {
-        let at = place(j, count, back) * 4;
-        pull(words, low, ties[at], ties[at + 1], ties[at + 2]);
-        j += 1;
-    }
 }
 
 // A word without its lowest bit.

@@ -1,8 +1,8 @@
--- `sets::place` meets its contract: the definition by cases. Assumes nothing.
+-- `sets::passes::place` meets its contract: the definition by cases. Assumes nothing.
 use borrow.Author.Needs.{needs}
 use Rattle.sets.specs.Closing.{placeFrom}
-use Rattle.sets.proofs.place.Statement.{statement}
-use Rattle.sets.proofs.place.Tie as tie
+use Rattle.sets.proofs.passes.place.Statement.{statement}
+use Rattle.sets.proofs.passes.place.Tie as tie
 
 returns : tie.Need-returns
 unfolding placeFrom

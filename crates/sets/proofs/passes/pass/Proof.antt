@@ -1,4 +1,4 @@
--- `sets::pass` meets its contract: after j ties, what the first j that it comes to add. The measure is what is left of the count. Assumes nothing.
+-- `sets::passes::pass` meets its contract: after j ties, what the first j that it comes to add. The measure is what is left of the count. Assumes nothing.
 use mathlib.Core.Path.{_≡_, refl, ap, _∙_}
 use Prim.Native.Nat.{ℕ, _-_, _<_, _≤_}
 use native.Mathlib.Omega.{arith}
@@ -7,8 +7,8 @@ use lib.ListN.{length}
 use Rattle.sets.proofs.PassLaws.{passed-next, place-below}
 use Rattle.sets.specs.Members.{wordsHave}
 use Rattle.sets.specs.Closing.{tieAt, tieFrom, passed}
-use Rattle.sets.proofs.pass.Statement.{statement}
-use Rattle.sets.proofs.pass.Tie as tie
+use Rattle.sets.proofs.passes.pass.Statement.{statement}
+use Rattle.sets.proofs.passes.pass.Tie as tie
 
 abbrev Inv-loop : tie.InvT-loop
 Inv-loop words₀ ties count low back j₀ words j = (j ≤ count) × (length words ≡ 4) × (wordsHave words ≡ passed low (tieFrom back ties count) j (wordsHave words₀))

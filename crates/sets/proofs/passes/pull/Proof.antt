@@ -1,4 +1,4 @@
--- `sets::pull` meets its contract: each way through adds what the tie adds. Assumes nothing.
+-- `sets::passes::pull` meets its contract: each way through adds what the tie adds. Assumes nothing.
 use mathlib.Core.Path.{_≡_, sym, fun-ext, _∙_}
 use mathlib.Core.Bool.{true, false, true≢false}
 use native.Mathlib.Omega.{arith}
@@ -7,8 +7,8 @@ use Rattle.sets.specs.Members.{wordsHave}
 use Rattle.sets.specs.Closing.{tieOf}
 use Rattle.sets.proofs.PassLaws.{pulled-none, pulled-add-follower, pulled-add-leader}
 use Rattle.sets.proofs.CloseLaws.{follows-of, follows-low, follows-high, group-is, is-group}
-use Rattle.sets.proofs.pull.Statement.{statement}
-use Rattle.sets.proofs.pull.Tie as tie
+use Rattle.sets.proofs.passes.pull.Statement.{statement}
+use Rattle.sets.proofs.passes.pull.Tie as tie
 
 returns : tie.Need-returns
 returns c =

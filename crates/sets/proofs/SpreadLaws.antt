@@ -1,0 +1,246 @@
+-- Ties noted in rows of words, and what spreads along the rows, come to the closure. Assumes nothing.
+use mathlib.Core.Path.{_≡_, refl, sym, ap, ap₂, _∙_}
+use mathlib.Core.Bool.{Bool, true, false, not, _&&_, _||_, false≢true, and-true, and-false, or-false, or-assoc}
+use mathlib.Core.List.{List, [], _∷_}
+use mathlib.Core.Logic.{_⊎_, inl, inr, ⊎-elim}
+use Prim.Native.Nat.{ℕ, _+_, _-_, _*_, _/_, _%_, _^_, _≤_, _<_}
+use native.Mathlib.Decide.{ℕ-discrete, decLt}
+use native.Mathlib.Numerals.{add-one}
+use native.Mathlib.Omega.{arith}
+use borrow.Author.Tests.{eq-eqb, ne-eqb}
+use lib.Bits.{bitOr}
+use lib.Dec.{eqb, ltb}
+use lib.ListN.{length, getD, set, replicate, length-replicate, getD-replicate, List·getD-eq-default}
+use lib.Seq.{getD-set-same, getD-set-other}
+use Rattle.rules.specs.Base.{anyBelow, countBelow, lowestBelow}
+use Rattle.rules.specs.Sets.{Set, closure}
+use Rattle.rules.specs.Window.{TieRecord}
+use Rattle.rules.specs.Ties.{isGroup}
+use Rattle.rules.proofs.BaseLaws.{or-left, or-right, or-cases, and-both, and-left, and-right, eqb-eq, eqb-same, eqb-other, no-true, not-true, count-le, Within, Same, same, other, same?, any-intro, any-elim, ltb-true, ltb-false}
+use Rattle.layout.specs.Codec.{unpack, tieSection}
+use Rattle.sets.specs.declared.Along.{Along}
+use Rattle.sets.specs.Closing.{relation, lowKind, follows, tieAt}
+use Rattle.sets.specs.Spreading.{leadsTo, leadsAt, leadsIn, rowHas, Spread}
+use Rattle.sets.specs.Members.{members}
+use Rattle.sets.proofs.Digits.{unpack-zero, unpack-or}
+use Rattle.sets.proofs.BoundLaws.{count-more}
+use Rattle.sets.proofs.WalkLaws.{Lowest, lowest-of, rest-without}
+use Rattle.sets.proofs.MemberLaws.{members-above}
+use Rattle.sets.proofs.Words.{ofWords, by-words, each-of-4, bit-here}
+use Rattle.sets.proofs.CloseLaws.{section-closure}
+use Rattle.sets.proofs.PassLaws.{Inside, Stable, Growing, pulled-follower, pulled-leader, pulled-within}
+
+-- a test is true or false
+either : (b : Bool) → (b ≡ true) ⊎ (b ≡ false)
+either true = inl refl
+either false = inr refl
+
+-- ROWS
+-- rows of zeros hold nothing
+pub rows-none : (x y : ℕ) → rowHas (replicate 1024 0) x y ≡ false
+unfolding rowHas
+rows-none x y = rw (zero-at (x * 4 + y / 64), unpack-zero (y % 64)) (and-false (ltb y 256))
+  where
+    zero-at : (i : ℕ) → _≡_ {A = ℕ} (getD (replicate 1024 0) i 0) 0
+    zero-at i = go (decLt i 1024)
+      where
+        go : Dec (i < 1024) → _≡_ {A = ℕ} (getD (replicate 1024 0) i 0) 0
+        go (yes h) = getD-replicate 1024 i 0 0 h
+        go (no n) = List·getD-eq-default (replicate 1024 0) 0 {n = i} (rw (length-replicate {A = ℕ} 1024 0) (omega arith))
+
+-- one number more in a row
+pub noted : (rows : List ℕ) (a b : ℕ) → length rows ≡ 1024 → a < 256 → b < 256 → (x y : ℕ)
+    → rowHas (set rows (a * 4 + b / 64) (bitOr (getD rows (a * 4 + b / 64) 0) ((1 * 2 ^ (b % 64)) % 2 ^ 64))) x y ≡ rowHas rows x y || eqb x a && eqb y b
+unfolding rowHas
+noted rows a b len ha hb x y = go (decLt y 256)
+  where
+    i : ℕ
+    i = a * 4 + b / 64
+
+    w : ℕ
+    w = getD rows (a * 4 + b / 64) 0
+
+    apart : (x * 4 + y / 64 ≡ a * 4 + b / 64 → ⊥) → eqb x a && eqb y b ≡ false
+    apart n = no-true _ (λ e. n (ap₂ (λ (p q : ℕ). p * 4 + q / 64) (eqb-eq x a (and-left (eqb x a) (eqb y b) e)) (eqb-eq y b (and-right (eqb x a) (eqb y b) e))))
+
+    at : y < 256 → Dec (x * 4 + y / 64 ≡ a * 4 + b / 64)
+        → unpack (getD (set rows (a * 4 + b / 64) (bitOr (getD rows (a * 4 + b / 64) 0) ((1 * 2 ^ (b % 64)) % 2 ^ 64))) (x * 4 + y / 64) 0) (y % 64)
+        ≡ unpack (getD rows (x * 4 + y / 64) 0) (y % 64) || eqb x a && eqb y b
+    at h (yes e) =
+        let p : x ≡ a = omega arith in
+        let q : 64 * (b / 64) + y % 64 ≡ y = omega arith in
+        rw (e, getD-set-same rows (a * 4 + b / 64) _ 0 (omega arith), eq-eqb x a p)
+        (unpack-or (getD rows (a * 4 + b / 64) 0) ((1 * 2 ^ (b % 64)) % 2 ^ 64) (y % 64)
+        ∙ ap (λ (t : Bool). unpack (getD rows (a * 4 + b / 64) 0) (y % 64) || t) (bit-here b (b / 64) (y % 64) refl (omega arith) ∙ ap (λ (z : ℕ). eqb z b) q))
+    at h (no n) = rw (getD-set-other rows (a * 4 + b / 64) (x * 4 + y / 64) _ 0 n, apart n) (sym (or-false _))
+
+    go : Dec (y < 256)
+        → ltb y 256 && unpack (getD (set rows (a * 4 + b / 64) (bitOr (getD rows (a * 4 + b / 64) 0) ((1 * 2 ^ (b % 64)) % 2 ^ 64))) (x * 4 + y / 64) 0) (y % 64)
+        ≡ ltb y 256 && unpack (getD rows (x * 4 + y / 64) 0) (y % 64) || eqb x a && eqb y b
+    go (yes h) = rw (ltb-true y 256 h) (at h (ℕ-discrete (x * 4 + y / 64) (a * 4 + b / 64)))
+    go (no n) = rw (ltb-false y 256 (omega arith), ne-eqb y b (λ e. n (omega arith)), and-false (eqb x a))
+
+-- a row as a set
+pub row-set : (rows : List ℕ) (c k : ℕ) → members (ofWords (getD rows (c * 4) 0 ∷ getD rows (c * 4 + 1) 0 ∷ getD rows (c * 4 + 2) 0 ∷ getD rows (c * 4 + 3) 0 ∷ [])) k ≡ rowHas rows c k
+unfolding rowHas
+row-set rows c k = go (decLt k 256)
+  where
+    ws : List ℕ
+    ws = getD rows (c * 4) 0 ∷ getD rows (c * 4 + 1) 0 ∷ getD rows (c * 4 + 2) 0 ∷ getD rows (c * 4 + 3) 0 ∷ []
+
+    word : (i at : ℕ) → at ≡ c * 4 + i → (j : ℕ) → j < 64 → unpack (getD rows at 0) j ≡ unpack (getD rows (c * 4 + (64 * i + j) / 64) 0) ((64 * i + j) % 64)
+    word i at e j h =
+        let x : at ≡ c * 4 + (64 * i + j) / 64 = omega arith in
+        let y : j ≡ (64 * i + j) % 64 = omega arith in
+        ap₂ (λ (u v : ℕ). unpack (getD rows u 0) v) x y
+
+    go : Dec (k < 256) → members (ofWords (getD rows (c * 4) 0 ∷ getD rows (c * 4 + 1) 0 ∷ getD rows (c * 4 + 2) 0 ∷ getD rows (c * 4 + 3) 0 ∷ [])) k ≡ ltb k 256 && unpack (getD rows (c * 4 + k / 64) 0) (k % 64)
+    go (yes h) = rw (ltb-true k 256 h) (by-words (ofWords (getD rows (c * 4) 0 ∷ getD rows (c * 4 + 1) 0 ∷ getD rows (c * 4 + 2) 0 ∷ getD rows (c * 4 + 3) 0 ∷ [])) (λ k. unpack (getD rows (c * 4 + k / 64) 0) (k % 64))
+        (each-of-4 (λ (i : ℕ). (j : ℕ) → j < 64 → unpack (getD (getD rows (c * 4) 0 ∷ getD rows (c * 4 + 1) 0 ∷ getD rows (c * 4 + 2) 0 ∷ getD rows (c * 4 + 3) 0 ∷ []) i 0) j ≡ unpack (getD rows (c * 4 + (64 * i + j) / 64) 0) ((64 * i + j) % 64))
+        (word 0 (c * 4) (omega arith)) (word 1 (c * 4 + 1) (omega arith)) (word 2 (c * 4 + 2) (omega arith)) (word 3 (c * 4 + 3) (omega arith))) k h)
+    go (no n) = rw (ltb-false k 256 (omega arith)) (members-above _ refl k (omega arith))
+
+-- A TIE, by whether it is gone along and whether it is a group's
+lead-as : (low : ℕ) (t : TieRecord) (f g : Bool) → follows low t.kind ≡ f → isGroup t.kind ≡ g → (x y : ℕ) → leadsTo low t x y ≡ eqb x t.leader && (eqb y t.follower && f) || eqb x t.follower && (eqb y t.leader && g)
+unfolding leadsTo
+lead-as low t f g p q x y = rw (p, q)
+
+module _ (low : ℕ) (t : TieRecord) (x y : ℕ) (h : Bool) where
+  -- both ways
+  pub lead-group : follows low t.kind ≡ true → isGroup t.kind ≡ true → (h || eqb x t.leader && eqb y t.follower) || eqb x t.follower && eqb y t.leader ≡ h || leadsTo low t x y
+  lead-group p q = or-assoc h _ _ ∙ ap (λ (b : Bool). h || b) (sym (lead-as low t true true p q x y ∙ rw (and-true (eqb y t.follower), and-true (eqb y t.leader))))
+
+  -- one way
+  pub lead-one : follows low t.kind ≡ true → isGroup t.kind ≡ false → h || eqb x t.leader && eqb y t.follower ≡ h || leadsTo low t x y
+  lead-one p q = ap (λ (b : Bool). h || b) (sym (lead-as low t true false p q x y ∙ rw (and-true (eqb y t.follower), and-false (eqb y t.leader), and-false (eqb x t.follower), or-false (eqb x t.leader && eqb y t.follower))))
+
+  -- none
+  pub lead-none : follows low t.kind ≡ false → isGroup t.kind ≡ false → h ≡ h || leadsTo low t x y
+  lead-none p q = sym (rw (lead-as low t false false p q x y, and-false (eqb y t.follower), and-false (eqb y t.leader), and-false (eqb x t.leader), and-false (eqb x t.follower)) (or-false h))
+
+-- one tie more
+pub leads-more : (low : ℕ) (bs : List ℕ) (j x y : ℕ) (h h₀ t : Bool) → t ≡ h || leadsTo low (tieAt bs j) x y → h ≡ h₀ || leadsIn low bs j x y → t ≡ h₀ || leadsIn low bs (j + 1) x y
+unfolding leadsIn leadsAt anyBelow
+leads-more low bs j x y h h₀ t e q = e ∙ rw (q, add-one j) (or-assoc h₀ _ _)
+
+-- none yet
+pub leads-none : (low : ℕ) (bs : List ℕ) (x y : ℕ) (h : Bool) → h ≡ h || leadsIn low bs 0 x y
+unfolding leadsIn anyBelow
+leads-none low bs x y h = sym (or-false h)
+
+-- SPREADING: s has grown from the seed, `left` are the members whose rows are still to be taken in, c the lowest of them
+pub record Spreading (rows : List ℕ) (seed s left : Set) (c : ℕ) : Type 0 where
+  pub holds : Inside seed s
+  pub least : (u : Set) → ((a b : ℕ) → u a ≡ true → rowHas rows a b ≡ true → u b ≡ true) → Inside seed u → Inside s u
+  pub inside : Inside left s
+  pub done : (a b : ℕ) → s a ≡ true → left a ≡ false → rowHas rows a b ≡ true → s b ≡ true
+  pub lowest : Lowest left c
+
+pub spreading-start : (rows : List ℕ) (seed : Set) (c : ℕ) → c ≡ lowestBelow 256 seed → Spreading rows seed seed seed c
+spreading-start rows seed c e = record {
+  holds = λ k q. q;
+  least = λ u z w. w;
+  inside = λ k q. q;
+  done = λ a b p q r. absurd (false≢true (sym q ∙ p));
+  lowest = lowest-of seed c e;
+}
+
+module _ (rows : List ℕ) (seed s left : Set) (c : ℕ) (g : Spreading rows seed s left c) (hc : c < 256) (row rest fresh left′ s′ : Set) (er : (k : ℕ) → row k ≡ rowHas rows c k)
+    (et : (k : ℕ) → rest k ≡ not (eqb k (lowestBelow 256 left)) && left k) (ef : (k : ℕ) → fresh k ≡ row k && not (s k)) (el : (k : ℕ) → left′ k ≡ rest k || fresh k) (es : (k : ℕ) → s′ k ≡ s k || row k) where
+  -- the lowest is left, and a member
+  here : left c ≡ true
+  here = g .lowest .hit hc
+
+  keeps : Inside s s′
+  keeps k q = es k ∙ rw q
+
+  -- who is left afterwards
+  left-in : Inside left′ s′
+  left-in k q = ⊎-elim
+      (λ r. keeps k (g .inside k (and-right (not (eqb k c)) (left k) (sym (rest-without left c (g .lowest) rest et k) ∙ r))))
+      (λ r. es k ∙ or-right (s k) (row k) (and-left (row k) (not (s k)) (sym (ef k) ∙ r)))
+      (or-cases (rest k) (fresh k) (sym (el k) ∙ q))
+
+  -- a member whose row is taken in stays so, and c is one now
+  left-not : (k : ℕ) → s k ≡ true → not (eqb k c) && left k ≡ false → left′ k ≡ false
+  left-not k p q = el k ∙ rw (rest-without left c (g .lowest) rest et k ∙ q, ef k, p, and-false (row k))
+
+  pub spreading-on : (c′ : ℕ) → c′ ≡ lowestBelow 256 left′ → Spreading rows seed s′ left′ c′
+  spreading-on c′ e = record {
+    holds = λ k q. keeps k (g .holds k q);
+    least = λ u z w k q. ⊎-elim (g .least u z w k) (λ r. z c k (g .least u z w c (g .inside c here)) (sym (er k) ∙ r)) (or-cases (s k) (row k) (sym (es k) ∙ q));
+    inside = left-in;
+    done = λ a b p q r. after a b p q r (same? a c);
+    lowest = lowest-of left′ c′ e;
+  }
+    where
+      after : (a b : ℕ) → s′ a ≡ true → left′ a ≡ false → rowHas rows a b ≡ true → {t : Bool} → Same a c t → s′ b ≡ true
+      after a b p q r (same e) = es b ∙ or-right (s b) (row b) (er b ∙ (rw e at r))
+      after a b p q r (other n) = ⊎-elim
+          (λ m. keeps b (g .done a b m (no-true (left a) (λ t. false≢true (sym q ∙ el a ∙ or-left (rest a) (fresh a) (rest-without left c (g .lowest) rest et a ∙ rw (eqb-other a c n, t))))) r))
+          (λ m. go (either (s a)) m)
+          (or-cases (s a) (row a) (sym (es a) ∙ p))
+        where
+          go : (s a ≡ true) ⊎ (s a ≡ false) → row a ≡ true → s′ b ≡ true
+          go (inl m) _ = keeps b (g .done a b m (no-true (left a) (λ t. false≢true (sym q ∙ el a ∙ or-left (rest a) (fresh a) (rest-without left c (g .lowest) rest et a ∙ rw (eqb-other a c n, t))))) r)
+          go (inr m) t = absurd (false≢true (sym q ∙ el a ∙ or-right (rest a) (fresh a) (ef a ∙ rw (t, m))))
+
+  -- and one row fewer is to be taken in
+  pub spreading-less : 256 - countBelow 256 (λ k. s′ k && not (left′ k)) < 256 - countBelow 256 (λ k. s k && not (left k))
+  spreading-less = omega (
+    arith,
+    count-le 256 (λ k. s′ k && not (left′ k)),
+    count-more 256 (λ k. s k && not (left k)) (λ k. s′ k && not (left′ k)) more c hc (rw (here, and-false (s c))) (rw (keeps c (g .inside c here), left-not c (g .inside c here) (rw (eqb-same c)))),
+  )
+    where
+      more : Within 256 (λ k. s k && not (left k)) (λ k. s′ k && not (left′ k))
+      more k h q =
+          let p = and-left (s k) (not (left k)) q in
+          rw (keeps k p, left-not k p (rw (not-true (left k) (and-right (s k) (not (left k)) q), and-false (not (eqb k c)))))
+
+pub spreading-end : (rows : List ℕ) (seed s left : Set) (c : ℕ) → Spreading rows seed s left c → 256 ≤ c → ((k : ℕ) → 256 ≤ k → s k ≡ false) → Spread rows seed s
+spreading-end rows seed s left c g h above = record { holds = g .holds; closed = λ a b p r. g .done a b p (nobody a p (decLt a 256)) r; least = g .least }
+  where
+    nobody : (a : ℕ) → s a ≡ true → Dec (a < 256) → left a ≡ false
+    nobody a p (yes l) = g .lowest .before a (omega arith)
+    nobody a p (no n) = absurd (false≢true (sym (above a (omega arith)) ∙ p))
+
+-- THE CLOSURE: rows in which the first n ties are noted
+module _ (low : ℕ) (bs : List ℕ) (n : ℕ) (rows : List ℕ) (is : (x y : ℕ) → rowHas rows x y ≡ leadsIn low bs n x y) (seed r : Set) (z : Spread rows seed r) where
+  -- what a tie leads to is in the row
+  in-row : (j x y : ℕ) → j < n → leadsTo low (tieAt bs j) x y ≡ true → rowHas rows x y ≡ true
+  unfolding leadsIn leadsAt
+  in-row j x y h e = is x y ∙ any-intro n (leadsAt low bs x y) j h e
+
+  -- and nothing else
+  of-row : (u : Set) → Stable low (tieAt bs) n u → (x y : ℕ) → u x ≡ true → rowHas rows x y ≡ true → u y ≡ true
+  unfolding leadsIn leadsAt leadsTo
+  of-row u w x y p e = let (j, h, q) = any-elim n (leadsAt low bs x y) (sym (is x y) ∙ e) in ⊎-elim
+      (λ a. let f = and-right (eqb x (tieAt bs j .leader)) _ a in
+      rw (eqb-eq y (tieAt bs j .follower) (and-left _ (follows low (tieAt bs j .kind)) f)) (w j h _ (pulled-follower low (tieAt bs j) u (and-right (eqb y (tieAt bs j .follower)) _ f) (rw (eqb-eq x (tieAt bs j .leader) (and-left _ _ a)) at p))))
+      (λ a. let f = and-right (eqb x (tieAt bs j .follower)) _ a in
+      rw (eqb-eq y (tieAt bs j .leader) (and-left _ (isGroup (tieAt bs j .kind)) f)) (w j h _ (pulled-leader low (tieAt bs j) u (and-right (eqb y (tieAt bs j .leader)) _ f) (rw (eqb-eq x (tieAt bs j .follower) (and-left _ _ a)) at p))))
+      (or-cases _ _ q)
+
+  pub spread-grows : Growing low (tieAt bs) n seed r
+  spread-grows = record { holds = z .holds; least = λ u w. z .least u (of-row u w) }
+
+  pub spread-stable : Stable low (tieAt bs) n r
+  unfolding leadsTo
+  spread-stable j h = pulled-within low (tieAt bs j) r r (λ k e. e)
+      (λ f e. z .closed l o e (in-row j l o h (or-left (eqb l l && (eqb o o && follows low (tieAt bs j .kind))) _ (and-both (eqb l l) _ (eqb-same l) (and-both (eqb o o) _ (eqb-same o) f)))))
+      (λ g e. z .closed o l e (in-row j o l h (or-right (eqb o l && (eqb l o && follows low (tieAt bs j .kind))) (eqb o o && (eqb l l && isGroup (tieAt bs j .kind))) (and-both (eqb o o) _ (eqb-same o) (and-both (eqb l l) _ (eqb-same l) g)))))
+    where
+      l : ℕ
+      l = tieAt bs j .leader
+
+      o : ℕ
+      o = tieAt bs j .follower
+
+-- what spreads along rows of zeros in which the ties of a section were noted is the closure
+pub spread-section : (along : Along) (low : ℕ) (bs : List ℕ) (ts : List TieRecord) (n : ℕ) (rows : List ℕ) (seed r : Set) → low ≡ lowKind along → ((i : ℕ) → getD bs i 0 < 256) → 4 * n ≤ length bs → length ts ≡ n → bs ≡ tieSection ts
+    → ((x y : ℕ) → rowHas rows x y ≡ rowHas (replicate 1024 0) x y || leadsIn low bs n x y) → Spread rows seed r → (k : ℕ) → r k ≡ closure 256 (relation along ts) seed k
+spread-section along low bs ts n rows seed r q bytes room len e is z = section-closure along bs ts n seed r bytes room len e (rw q at (spread-grows low bs n rows noted-as seed r z)) (rw q at (spread-stable low bs n rows noted-as seed r z))
+  where
+    noted-as : (x y : ℕ) → rowHas rows x y ≡ leadsIn low bs n x y
+    noted-as x y = is x y ∙ rw (rows-none x y)
