@@ -1,6 +1,6 @@
 //! More lists of calls with the answers that document 01 gives, worked out by hand.
 use crate::perform::{Call, EVERY_ENTRY};
-use crate::tries::{runs, Line, Try};
+use crate::tries::{after, running, runs, Line, Try};
 use Call::*;
 
 /// Sentences of document 01 that the lists of tries.rs leave out, and the readings of it in docs/DECISIONS.md.
@@ -15,6 +15,7 @@ pub fn readings() -> Vec<Try> {
         ("ties that stand, that are two, and paths through groups", standing_ties()),
         ("fall ties go one way", falls_one_way()),
         ("a fall goes on through groups and followers", falls_go_on()),
+        ("a fall that turns at every step", falls_turn()),
         ("the lowest of those not completed and those who lead", lowest_in_the_way()),
         ("a hand-over of permits and of the greater lock", greater_lock()),
         ("to initiated and completed changes", to_any_live_change()),
@@ -236,6 +237,23 @@ fn falls_go_on() -> Vec<Line> {
             (Depend(2, 1, 2), 0, 0),
             (Abort(4), 0, 4),
             (Status(5), 0, 2),
+        ],
+    )
+}
+
+/// 21, 1, 22, 2, ..., 40, 20: each falls with the one before it, and 41 is of 20's group.
+fn falls_turn() -> Vec<Line> {
+    let chain: Vec<u32> = (1..=20).flat_map(|c| [20 + c, c]).collect();
+    let mut lines = running(1, 41);
+    lines.extend(chain.windows(2).map(|pair| (Depend(2, pair[0], pair[1]), 0, 0)));
+    after(
+        lines,
+        &[
+            (Depend(3, 41, 20), 0, 0),
+            (Depend(2, 41, 21), 9, 0),
+            (Abort(1), 0, 40),
+            (Status(21), 0, 2),
+            (Status(41), 0, 5),
         ],
     )
 }
