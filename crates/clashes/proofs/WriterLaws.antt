@@ -5,18 +5,18 @@ use mathlib.Core.List.{List}
 use Prim.Native.Nat.{ℕ, suc, _+_, _*_, _/_, _%_, _≤_, _<_}
 use native.Mathlib.Decide.{decLt}
 use native.Mathlib.Omega.{arith}
-use borrow.Author.Tests.{eq-eqb}
+use lib.Bits.{bitOr, or-lt}
 use lib.Dec.{ltb, eqb}
 use lib.ListN.{length, getD}
 use Rattle.rules.specs.Base.{allBelow, anyBelow, lowestBelow}
 use Rattle.rules.specs.Sets.{Set}
-use Rattle.rules.proofs.BaseLaws.{Same, same, other, same?, eqb-eq, eqb-other, or-true, and-both, and-left, and-right, both-ways, not-true, allBelow-intro, allBelow-at, any-intro, any-elim, anyBelow-none, none-below}
-use Rattle.layout.specs.Codec.{unpack, lockSection}
-use Rattle.cells.specs.Part.{zeroAt}
+use Rattle.rules.proofs.BaseLaws.{Same, same, other, same?, eqb-eq, eqb-other, or-true, and-both, and-left, and-right, both-ways, allBelow-intro, allBelow-at, any-intro, any-elim, anyBelow-none, none-below}
+use Rattle.layout.specs.Codec.{lockSection}
 use Rattle.sets.specs.Members.{loaded}
 use Rattle.sets.proofs.Bytes.{loaded-full}
 use Rattle.sets.proofs.BoundLaws.{any-ext, lowest-hit}
-use Rattle.sets.proofs.Digits.{unpack-zero, unpack-ext}
+use Rattle.sets.proofs.Digits.{unpack-or}
+use Rattle.sets.proofs.GatherLaws.{Gathered, gathered-more}
 use Rattle.sets.proofs.TurnLaws.{turn-failed, turns-done}
 use Rattle.sets.proofs.WalkLaws.{Lowest, lowest-rises}
 use Rattle.locks.specs.Held.{inMode}
@@ -70,24 +70,13 @@ module _ (x : Set) (q : ℕ → Bool) where
   walk-done left a w h = turns-done 256 (λ k. not (x k) || q k) a (w .passed) (omega (arith, w .lowest .within))
 
 -- A SET'S BYTES
--- the or of its bytes is 0 where it has no member
-module _ (bs : List ℕ) (at : ℕ) (room : at + 32 ≤ length bs) (small : (i : ℕ) → i < 32 → getD bs (at + i) 0 < 256) where
-  zeros-none : allBelow 32 (zeroAt bs at) ≡ not (anyBelow 256 (loaded bs at))
-  unfolding zeroAt
-  zeros-none = both-ways _ _
-      (λ e. ap not (none-below 256 (loaded bs at) (λ k h t.
-      let z : getD bs (at + k / 8) 0 ≡ 0 = eqb-eq _ 0 (allBelow-at 32 (zeroAt bs at) e (k / 8) (omega arith)) in
-      false≢true (sym (loaded-full bs at room k h ∙ rw z (unpack-zero (k % 8))) ∙ t))))
-      (λ e. allBelow-intro 32 _ (λ i h. eq-eqb _ 0 (unpack-ext 8 (getD bs (at + i) 0) 0 (small i h) (omega arith) (λ b l. digit e i b h l ∙ sym (unpack-zero b)))))
-    where
-      digit : not (anyBelow 256 (loaded bs at)) ≡ true → (i b : ℕ) → i < 32 → b < 8 → unpack (getD bs (at + i) 0) b ≡ false
-      digit e i b h l =
-          let x : (i * 8 + b) / 8 ≡ i = omega arith in
-          let y : (i * 8 + b) % 8 ≡ b = omega arith in
-          rw (x, y) at (sym (loaded-full bs at room (i * 8 + b) (omega arith)) ∙ anyBelow-none 256 (loaded bs at) (not-true _ e) (i * 8 + b) (omega arith))
-
-  pub any-loaded : (acc : ℕ) → eqb acc 0 ≡ allBelow 32 (zeroAt bs at) → not (eqb acc 0) ≡ anyBelow 256 (loaded bs at)
-  any-loaded acc e = ap not (e ∙ zeros-none) ∙ Bool·not-not (anyBelow 256 (loaded bs at))
+-- one more in the or of all
+pub loaded-more : (bs : List ℕ) (at n acc : ℕ) → at + 32 ≤ length bs → n < 32 → getD bs (at + n) 0 < 256 → Gathered (loaded bs at) n acc → Gathered (loaded bs at) (n + 1) (bitOr acc (getD bs (at + n) 0))
+loaded-more bs at n acc room h small g = gathered-more (loaded bs at) n acc (bitOr acc (getD bs (at + n) 0)) (or-lt 8 acc (getD bs (at + n) 0) (g .small) small)
+    (λ b l.
+    let x : (n * 8 + b) / 8 ≡ n = omega arith in
+    let y : (n * 8 + b) % 8 ≡ b = omega arith in
+    unpack-or acc (getD bs (at + n) 0) b ∙ rw (loaded-full bs at room (n * 8 + b) (omega arith), x, y)) g
 
 -- a set of an entry's row: its readers (m is 0) or its writers (m is 1)
 pub any-in-mode : (bs : List ℕ) (held : ℕ → ℕ → ℕ) → bs ≡ lockSection held → (e m at : ℕ) → e < 256 → m < 2 → at ≡ e * 64 + m * 32

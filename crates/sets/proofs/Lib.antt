@@ -15,6 +15,8 @@ pub mod MemberLaws
 pub mod TestLaws
 -- a set as 32 bytes
 pub mod Bytes
+-- tests gathered byte by byte
+pub mod GatherLaws
 -- passes over ties
 pub mod PassLaws
 -- passes come to the closure of the rules
