@@ -1,10 +1,9 @@
 -- Statuses of a set of changes, and the changes of some statuses: one turn of the loops, and their ends. Assumes nothing.
 use mathlib.Core.Path.{_≡_, refl, sym, ap, ap₂, _∙_, fun-ext}
 use mathlib.Core.Bool.{Bool, true, false, not, cond, _&&_, _||_, and-true}
-use mathlib.Core.List.{List, [], _∷_}
+use mathlib.Core.List.{List}
 use Prim.Native.Nat.{ℕ, suc, _+_, _-_, _*_, _%_, _^_, _≤_, _<_, min, max}
 use native.Mathlib.Nat.{zero-mul, one-mul}
-use native.Mathlib.Decide.{decLt}
 use native.Mathlib.Omega.{arith}
 use native.Mathlib.Numerals.{add-one}
 use lib.Dec.{ltb, eqb}
@@ -17,8 +16,6 @@ use Rattle.rules.proofs.BaseLaws.{Same, same, other, same?, ltb-true, ltb-false
 use Rattle.layout.specs.Codec.{changeSection, bit, unpack}
 use Rattle.sets.specs.Members.{members}
 use Rattle.sets.proofs.Digits.{unpack-zero, unpack-power, unpack-or, unpack-mod}
-use Rattle.sets.proofs.Words.{ofWords, by-words, each-of-4}
-use Rattle.sets.proofs.MemberLaws.{members-above}
 use Rattle.sets.proofs.WalkLaws.{Lowest, lowest-rises}
 use Rattle.places.specs.Statuses.{withStatuses, firsts, inRange}
 use Rattle.places.proofs.TableLaws.{status-read, change-ext}
@@ -107,7 +104,7 @@ unfolding firsts
 firsts-same s m n k f g = ap (λ (b : Bool). b && s k) (both-ways _ _ (λ e. ltb-true k n (f (lt-of k m e))) (λ e. ltb-true k m (g (lt-of k n e))))
 
 -- a number that is not below the bound
-firsts-above : (s : Set) (n k : ℕ) → n ≤ k → firsts n s k ≡ false
+pub firsts-above : (s : Set) (n k : ℕ) → n ≤ k → firsts n s k ≡ false
 unfolding firsts
 firsts-above s n k h = rw (ltb-false k n h)
 
@@ -144,21 +141,6 @@ word-all s first c end w h k inv j l = inv j l ∙ firsts-same s c end (first + 
 pub word-cut : (s : Set) (n i last w : ℕ) → last ≡ min n (64 * i + 64) → ((j : ℕ) → j < 64 → unpack w j ≡ firsts last s (64 * i + j))
     → (j : ℕ) → j < 64 → unpack w j ≡ firsts n s (64 * i + j)
 word-cut s n i last w e f j l = f j l ∙ firsts-same s last n (64 * i + j) (λ x. omega arith) (λ x. omega arith)
-
--- the four words of those below n
-pub words-firsts : (s : Set) (n a b c d : ℕ) → n ≤ 256
-    → ((j : ℕ) → j < 64 → unpack a j ≡ firsts n s (64 * 0 + j))
-    → ((j : ℕ) → j < 64 → unpack b j ≡ firsts n s (64 * 1 + j))
-    → ((j : ℕ) → j < 64 → unpack c j ≡ firsts n s (64 * 2 + j))
-    → ((j : ℕ) → j < 64 → unpack d j ≡ firsts n s (64 * 3 + j))
-    → (k : ℕ) → members (ofWords (a ∷ b ∷ c ∷ d ∷ [])) k ≡ firsts n s k
-words-firsts s n a b c d h wa wb wc wd k = go (decLt k 256)
-  where
-    go : Dec (k < 256) → members (ofWords (a ∷ b ∷ c ∷ d ∷ [])) k ≡ firsts n s k
-    go (yes l) =
-        by-words (ofWords (a ∷ b ∷ c ∷ d ∷ [])) (firsts n s)
-        (each-of-4 (λ (i : ℕ). (j : ℕ) → j < 64 → unpack (getD (a ∷ b ∷ c ∷ d ∷ []) i 0) j ≡ firsts n s (64 * i + j)) wa wb wc wd) k l
-    go (no x) = members-above (ofWords (a ∷ b ∷ c ∷ d ∷ [])) refl k (omega arith) ∙ sym (firsts-above s n k (omega arith))
 
 -- the end
 pub within-all : (changes : List ℕ) (low high given : ℕ) → given < 256 → (st pa : ℕ → ℕ) → changes ≡ changeSection st pa → (k : ℕ)

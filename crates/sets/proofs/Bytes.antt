@@ -24,8 +24,8 @@ use Rattle.cells.proofs.NumLaws.{length-le}
 use Rattle.sets.specs.Members.{members, loaded, setByte, setBytes, stored}
 use Rattle.sets.specs.declared.ChangeSet.{ChangeSet}
 use Rattle.sets.proofs.Digits.{unpack-above, unpack-or, unpack-mod, unpack-shl, unpack-shl-low, unpack-shr, unpack-ext}
-use Rattle.sets.proofs.Words.{ofWords, by-words, each-of-4}
-use Rattle.sets.proofs.MemberLaws.{members-above}
+use Rattle.sets.proofs.Words.{ofWords, each-of-4}
+use Rattle.sets.proofs.MemberLaws.{four-words}
 
 -- GATHERED
 -- the digits of w are those of the first i bytes, and no more
@@ -80,12 +80,12 @@ unfolding loaded
 loaded-above bs at k h = rw (ltb-false k 256 h)
 
 -- four words that were gathered from 32 bytes
-word-of : (bs : List ℕ) (at o w i : ℕ) → o ≡ at + 8 * i → ((k : ℕ) → k < 64 → unpack w k ≡ unpack (getD bs (o + k / 8) 0) (k % 8))
-    → (j : ℕ) → j < 64 → unpack w j ≡ unpack (getD bs (at + (64 * i + j) / 8) 0) ((64 * i + j) % 8)
-word-of bs at o w i e read j h =
+word-of : (bs : List ℕ) (at o w i : ℕ) → at + 32 ≤ length bs → i < 4 → o ≡ at + 8 * i → ((k : ℕ) → k < 64 → unpack w k ≡ unpack (getD bs (o + k / 8) 0) (k % 8))
+    → (j : ℕ) → j < 64 → unpack w j ≡ loaded bs at (64 * i + j)
+word-of bs at o w i room hi e read j h =
     let x : o + j / 8 ≡ at + (64 * i + j) / 8 = omega arith in
     let y : j % 8 ≡ (64 * i + j) % 8 = omega arith in
-    read j h ∙ ap₂ (λ (u v : ℕ). unpack (getD bs u 0) v) x y
+    read j h ∙ ap₂ (λ (u v : ℕ). unpack (getD bs u 0) v) x y ∙ sym (loaded-full bs at room (64 * i + j) (omega arith))
 
 -- the set of the four words is what is loaded
 pub loaded-words : (bs : List ℕ) (at a b c d : ℕ) → at + 32 ≤ length bs
@@ -94,16 +94,9 @@ pub loaded-words : (bs : List ℕ) (at a b c d : ℕ) → at + 32 ≤ length bs
     → ((k : ℕ) → k < 64 → unpack c k ≡ unpack (getD bs (at + 16 + k / 8) 0) (k % 8))
     → ((k : ℕ) → k < 64 → unpack d k ≡ unpack (getD bs (at + 24 + k / 8) 0) (k % 8))
     → (k : ℕ) → members (ofWords (a ∷ b ∷ c ∷ d ∷ [])) k ≡ loaded bs at k
-loaded-words bs at a b c d room ra rb rc rd k = go (decLt k 256)
-  where
-    go : Dec (k < 256) → members (ofWords (a ∷ b ∷ c ∷ d ∷ [])) k ≡ loaded bs at k
-    go (yes h) =
-        by-words (ofWords (a ∷ b ∷ c ∷ d ∷ [])) (λ k. unpack (getD bs (at + k / 8) 0) (k % 8))
-        (each-of-4 (λ (i : ℕ). (j : ℕ) → j < 64 → unpack (getD (a ∷ b ∷ c ∷ d ∷ []) i 0) j ≡ unpack (getD bs (at + (64 * i + j) / 8) 0) ((64 * i + j) % 8))
-        (word-of bs at at a 0 (omega arith) ra) (word-of bs at (at + 8) b 1 (omega arith) rb)
-        (word-of bs at (at + 16) c 2 (omega arith) rc) (word-of bs at (at + 24) d 3 (omega arith) rd)) k h
-        ∙ sym (loaded-full bs at room k h)
-    go (no n) = members-above (ofWords (a ∷ b ∷ c ∷ d ∷ [])) refl k (omega arith) ∙ sym (loaded-above bs at k (omega arith))
+loaded-words bs at a b c d room ra rb rc rd = four-words (loaded bs at) a b c d (loaded-above bs at)
+    (word-of bs at at a 0 room (omega arith) (omega arith) ra) (word-of bs at (at + 8) b 1 room (omega arith) (omega arith) rb)
+    (word-of bs at (at + 16) c 2 room (omega arith) (omega arith) rc) (word-of bs at (at + 24) d 3 room (omega arith) (omega arith) rd)
 
 -- STORED
 -- byte i of a set is a part of one of its words

@@ -5,7 +5,6 @@ use mathlib.Core.List.{List, [], _∷_}
 use Prim.Native.Nat.{ℕ, _+_, _*_, _/_, _^_, _≤_, _<_}
 use native.Mathlib.Decide.{decLt}
 use native.Mathlib.Omega.{arith}
-use borrow.Author.Tests.{ne-eqb}
 use lib.Dec.{eqb}
 use lib.ListN.{length, getD, List·getD-eq-default}
 use lib.Seq.{ext-getD}
@@ -22,20 +21,22 @@ use Rattle.sets.proofs.Words.{ofWords, place, by-words, each-of-4, word
 pub members-above : (s : ChangeSet) → length (s .words) ≡ 4 → (k : ℕ) → 256 ≤ k → members s k ≡ false
 members-above s len k h = word-zero s k (List·getD-eq-default (s .words) 0 {n = k / 64} (omega arith))
 
--- four words that hold one number
-pub single-words : (c a b d e : ℕ) → c < 256
-    → ((j : ℕ) → j < 64 → unpack a j ≡ eqb (64 * 0 + j) c)
-    → ((j : ℕ) → j < 64 → unpack b j ≡ eqb (64 * 1 + j) c)
-    → ((j : ℕ) → j < 64 → unpack d j ≡ eqb (64 * 2 + j) c)
-    → ((j : ℕ) → j < 64 → unpack e j ≡ eqb (64 * 3 + j) c)
-    → (k : ℕ) → members (ofWords (a ∷ b ∷ d ∷ e ∷ [])) k ≡ eqb k c
-single-words c a b d e h wa wb wd we k = go (decLt k 256)
+-- four words hold the numbers that their digits say, and none from 256 on
+pub words-are : (ws : List ℕ) (f : Set) → length ws ≡ 4 → ((k : ℕ) → 256 ≤ k → f k ≡ false) → ((i : ℕ) → i < 4 → (j : ℕ) → j < 64 → unpack (getD ws i 0) j ≡ f (64 * i + j)) → (k : ℕ) → members (ofWords ws) k ≡ f k
+words-are ws f four above each k = go (decLt k 256)
   where
-    go : Dec (k < 256) → members (ofWords (a ∷ b ∷ d ∷ e ∷ [])) k ≡ eqb k c
-    go (yes l) =
-        by-words (ofWords (a ∷ b ∷ d ∷ e ∷ [])) (λ k. eqb k c)
-        (each-of-4 (λ (i : ℕ). (j : ℕ) → j < 64 → unpack (getD (a ∷ b ∷ d ∷ e ∷ []) i 0) j ≡ eqb (64 * i + j) c) wa wb wd we) k l
-    go (no n) = members-above (ofWords (a ∷ b ∷ d ∷ e ∷ [])) refl k (omega arith) ∙ sym (ne-eqb k c (λ q. n (omega arith)))
+    go : Dec (k < 256) → members (ofWords ws) k ≡ f k
+    go (yes l) = by-words (ofWords ws) f each k l
+    go (no n) = members-above (ofWords ws) four k (omega arith) ∙ sym (above k (omega arith))
+
+-- so where the four are given one by one
+pub four-words : (f : Set) (a b c d : ℕ) → ((k : ℕ) → 256 ≤ k → f k ≡ false)
+    → ((j : ℕ) → j < 64 → unpack a j ≡ f (64 * 0 + j))
+    → ((j : ℕ) → j < 64 → unpack b j ≡ f (64 * 1 + j))
+    → ((j : ℕ) → j < 64 → unpack c j ≡ f (64 * 2 + j))
+    → ((j : ℕ) → j < 64 → unpack d j ≡ f (64 * 3 + j))
+    → (k : ℕ) → members (ofWords (a ∷ b ∷ c ∷ d ∷ [])) k ≡ f k
+four-words f a b c d above wa wb wc wd = words-are (a ∷ b ∷ c ∷ d ∷ []) f refl above (each-of-4 (λ (i : ℕ). (j : ℕ) → j < 64 → unpack (getD (a ∷ b ∷ c ∷ d ∷ []) i 0) j ≡ f (64 * i + j)) wa wb wc wd)
 
 -- sets that agree below 256 agree everywhere
 pub members-all : (s t : ChangeSet) → length (s .words) ≡ 4 → length (t .words) ≡ 4 → ((k : ℕ) → k < 256 → members s k ≡ members t k) → (k : ℕ) → members s k ≡ members t k

@@ -25,8 +25,8 @@ use Rattle.sets.specs.Members.{members}
 use Rattle.sets.proofs.Digits.{unpack-zero, unpack-or}
 use Rattle.sets.proofs.BoundLaws.{count-more}
 use Rattle.sets.proofs.WalkLaws.{Lowest, lowest-of, rest-without}
-use Rattle.sets.proofs.MemberLaws.{members-above}
-use Rattle.sets.proofs.Words.{ofWords, by-words, each-of-4, bit-here}
+use Rattle.sets.proofs.MemberLaws.{four-words}
+use Rattle.sets.proofs.Words.{ofWords, bit-here}
 use Rattle.sets.proofs.CloseLaws.{section-closure}
 use Rattle.sets.proofs.PassLaws.{Inside, Stable, Growing, pulled-follower, pulled-leader, pulled-within}
 
@@ -83,22 +83,14 @@ noted rows a b len ha hb x y = go (decLt y 256)
 -- a row as a set
 pub row-set : (rows : List ℕ) (c k : ℕ) → members (ofWords (getD rows (c * 4) 0 ∷ getD rows (c * 4 + 1) 0 ∷ getD rows (c * 4 + 2) 0 ∷ getD rows (c * 4 + 3) 0 ∷ [])) k ≡ rowHas rows c k
 unfolding rowHas
-row-set rows c k = go (decLt k 256)
+row-set rows c = four-words (rowHas rows c) _ _ _ _ (λ k h. rw (ltb-false k 256 h))
+    (word 0 (c * 4) (omega arith) (omega arith)) (word 1 (c * 4 + 1) (omega arith) (omega arith)) (word 2 (c * 4 + 2) (omega arith) (omega arith)) (word 3 (c * 4 + 3) (omega arith) (omega arith))
   where
-    ws : List ℕ
-    ws = getD rows (c * 4) 0 ∷ getD rows (c * 4 + 1) 0 ∷ getD rows (c * 4 + 2) 0 ∷ getD rows (c * 4 + 3) 0 ∷ []
-
-    word : (i at : ℕ) → at ≡ c * 4 + i → (j : ℕ) → j < 64 → unpack (getD rows at 0) j ≡ unpack (getD rows (c * 4 + (64 * i + j) / 64) 0) ((64 * i + j) % 64)
-    word i at e j h =
+    word : (i at : ℕ) → i < 4 → at ≡ c * 4 + i → (j : ℕ) → j < 64 → unpack (getD rows at 0) j ≡ ltb (64 * i + j) 256 && unpack (getD rows (c * 4 + (64 * i + j) / 64) 0) ((64 * i + j) % 64)
+    word i at hi e j h =
         let x : at ≡ c * 4 + (64 * i + j) / 64 = omega arith in
         let y : j ≡ (64 * i + j) % 64 = omega arith in
-        ap₂ (λ (u v : ℕ). unpack (getD rows u 0) v) x y
-
-    go : Dec (k < 256) → members (ofWords (getD rows (c * 4) 0 ∷ getD rows (c * 4 + 1) 0 ∷ getD rows (c * 4 + 2) 0 ∷ getD rows (c * 4 + 3) 0 ∷ [])) k ≡ ltb k 256 && unpack (getD rows (c * 4 + k / 64) 0) (k % 64)
-    go (yes h) = rw (ltb-true k 256 h) (by-words (ofWords (getD rows (c * 4) 0 ∷ getD rows (c * 4 + 1) 0 ∷ getD rows (c * 4 + 2) 0 ∷ getD rows (c * 4 + 3) 0 ∷ [])) (λ k. unpack (getD rows (c * 4 + k / 64) 0) (k % 64))
-        (each-of-4 (λ (i : ℕ). (j : ℕ) → j < 64 → unpack (getD (getD rows (c * 4) 0 ∷ getD rows (c * 4 + 1) 0 ∷ getD rows (c * 4 + 2) 0 ∷ getD rows (c * 4 + 3) 0 ∷ []) i 0) j ≡ unpack (getD rows (c * 4 + (64 * i + j) / 64) 0) ((64 * i + j) % 64))
-        (word 0 (c * 4) (omega arith)) (word 1 (c * 4 + 1) (omega arith)) (word 2 (c * 4 + 2) (omega arith)) (word 3 (c * 4 + 3) (omega arith))) k h)
-    go (no n) = rw (ltb-false k 256 (omega arith)) (members-above _ refl k (omega arith))
+        rw (ltb-true (64 * i + j) 256 (omega arith)) (ap₂ (λ (u v : ℕ). unpack (getD rows u 0) v) x y)
 
 -- A TIE, by whether it is gone along and whether it is a group's
 lead-as : (low : ℕ) (t : TieRecord) (f g : Bool) → follows low t.kind ≡ f → isGroup t.kind ≡ g → (x y : ℕ) → leadsTo low t x y ≡ eqb x t.leader && (eqb y t.follower && f) || eqb x t.follower && (eqb y t.leader && g)

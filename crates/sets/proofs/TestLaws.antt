@@ -3,7 +3,7 @@ use mathlib.Core.Path.{_≡_, refl, sym, ap, _∙_}
 use mathlib.Core.Bool.{true, false, not, _&&_, false≢true, and-false}
 use mathlib.Core.List.{List}
 use Prim.Native.Nat.{ℕ, _+_, _*_, _^_, _<_}
-use native.Mathlib.Decide.{ℕ-discrete, decLt}
+use native.Mathlib.Decide.{ℕ-discrete}
 use native.Mathlib.Omega.{arith}
 use borrow.Author.Tests.{eq-eqb, ne-eqb, eqb-true}
 use lib.Bits.{bitOr, bitXor, xor-self}
@@ -18,8 +18,8 @@ use Rattle.sets.specs.Members.{members, agree}
 use Rattle.sets.specs.declared.ChangeSet.{ChangeSet}
 use Rattle.sets.proofs.Digits.{unpack-zero, unpack-ext, trailing-hit}
 use Rattle.sets.proofs.BoundLaws.{lowest-is}
-use Rattle.sets.proofs.Words.{ofWords, place, by-words, eqb-iff, each-of-4, or-four, xor-zero, low-at}
-use Rattle.sets.proofs.MemberLaws.{members-above, words-none, members-ext, agree-at, agree-all}
+use Rattle.sets.proofs.Words.{ofWords, place, eqb-iff, each-of-4, or-four, xor-zero, low-at}
+use Rattle.sets.proofs.MemberLaws.{members-above, words-are, words-none, members-ext, agree-at, agree-all}
 
 -- the words joined by `|`, and those of two sets by `^` and `|`
 abbrev united : List ℕ → ℕ
@@ -67,11 +67,8 @@ module _ (s : ChangeSet) (len : length (s .words) ≡ 4) (fits : (i : ℕ) → g
         go (no n) = rw (elsewhere g hg n, place s g j hj, ne-eqb (64 * g + j) (64 * i + low) (λ q. n (omega (arith, trailing-hit 64 (getD (s .words) i 0) (fits i) some .0))))
 
     pub rest-words : (k : ℕ) → members (ofWords ws) k ≡ not (eqb k (lowestBelow 256 (members s))) && members s k
-    rest-words k = rw (← lowest-word i (64 * i + low) h some zeros refl) (go (decLt k 256))
-      where
-        go : Dec (k < 256) → members (ofWords ws) k ≡ not (eqb k (64 * i + low)) && members s k
-        go (yes l) = by-words (ofWords ws) (λ k. not (eqb k (64 * i + low)) && members s k) word-but k l
-        go (no n) = members-above (ofWords ws) four k (omega arith) ∙ sym (rw (members-above s len k (omega arith), and-false (not (eqb k (64 * i + low)))))
+    rest-words k = rw (← lowest-word i (64 * i + low) h some zeros refl)
+        (words-are ws (λ k. not (eqb k (64 * i + low)) && members s k) four (λ k l. rw (members-above s len k l, and-false (not (eqb k (64 * i + low))))) word-but k)
 
   -- where each word is 0 there is nothing to take away
   pub rest-nothing : ((i : ℕ) → i < 4 → getD (s .words) i 0 ≡ 0) → (k : ℕ) → members s k ≡ not (eqb k (lowestBelow 256 (members s))) && members s k

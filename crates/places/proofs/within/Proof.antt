@@ -4,8 +4,9 @@ use Prim.Native.Nat.{_+_}
 use native.Mathlib.Omega.{arith}
 use borrow.Author.Needs.{needs}
 use Rattle.rules.specs.Sets.{Set}
-use Rattle.places.specs.Statuses.{inRange}
-use Rattle.places.proofs.StatusLaws.{word-cut, words-firsts, within-all}
+use Rattle.sets.proofs.MemberLaws.{four-words}
+use Rattle.places.specs.Statuses.{firsts, inRange}
+use Rattle.places.proofs.StatusLaws.{firsts-above, word-cut, within-all}
 use Rattle.places.proofs.within.Statement.{statement}
 use Rattle.places.proofs.within.Tie as tie
 
@@ -15,7 +16,7 @@ returns c =
     let b = w1 .before .before .before in let a = b .args in
     let n = a .given + 1 in let s : Set = inRange (a .changes .now) (a .low) (a .high) in
     λ st pa e k.
-    words-firsts s n _ _ _ _ (omega (arith, b .pre .1))
+    four-words (firsts n s) _ _ _ _ (λ k h. firsts-above s n k (omega (arith, b .pre .1)))
     (word-cut s n 0 _ _ (w1 .before .least .ensures) (w1 .word-within .ensures))
     (word-cut s n 1 _ _ (w2 .before .least2 .ensures) (w2 .word-within2 .ensures))
     (word-cut s n 2 _ _ (w3 .before .least3 .ensures) (w3 .word-within3 .ensures))
