@@ -42,15 +42,6 @@ pub ties-left : (s : Set) (n : ℕ) (bytes : List ℕ) → n ≤ 512 → (r : �
 unfolding tiesLeft spared tieRow
 ties-left = table-left tieRow tieKey tieSection 512 tie-table (λ s t. not (s t.leader || s t.follower)) (λ s t. refl)
 
--- A TIE THAT STANDS is not entered again: one of the same kind and ends is the tie
-same-tie : (t u : TieRecord) → eqb u.kind t.kind && eqb u.leader t.leader && eqb u.follower t.follower ≡ true → u ≡ t
-same-tie t u e =
-    let d : eqb u.kind t.kind && eqb u.leader t.leader ≡ true = and-left (eqb u.kind t.kind && eqb u.leader t.leader) (eqb u.follower t.follower) e in
-    let a : u .kind ≡ t .kind = eqb-true u.kind t.kind (and-left (eqb u.kind t.kind) (eqb u.leader t.leader) d) in
-    let b : u .leader ≡ t .leader = eqb-true u.leader t.leader (and-right (eqb u.kind t.kind) (eqb u.leader t.leader) d) in
-    let c : u .follower ≡ t .follower = eqb-true u.follower t.follower (and-right (eqb u.kind t.kind && eqb u.leader t.leader) (eqb u.follower t.follower) e) in
-    λ i. record { kind = a i; leader = b i; follower = c i }
-
 -- THE ENDS AS STORED
 abbrev stored : Bool → ℕ → ℕ → ℕ → TieRecord
 stored b k l f = cond b (record { kind = 3; leader = min l f; follower = max l f }) (record { kind = k; leader = l; follower = f })
