@@ -9,7 +9,6 @@ use replies::done;
 use replies::refused;
 use soundness::sound_memory;
 ghost use mathlib.Core.Path.{_≡_};
-ghost use Prim.Native.Nat.{_≤_};
 ghost use lib.ListN.{length};
 ghost use Rattle.rules.specs.Window.{fresh};
 ghost use Rattle.rules.specs.Calls.{Open, Initiate, Begin, Complete, Lock, Read, Write, Permit, Delegate, Depend, Commit, Abort, Status, Parent, Value};

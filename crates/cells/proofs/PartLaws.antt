@@ -1,5 +1,5 @@
 -- A part of a list, and a list with a part replaced. Assumes nothing.
-use mathlib.Core.Path.{_≡_, refl, sym, ap, _∙_}
+use mathlib.Core.Path.{ap₂, _≡_, refl, sym, ap, _∙_}
 use mathlib.Core.List.{List, [], _∷_, _++_, append-assoc}
 use Prim.Native.Nat.{ℕ, zero, suc, _+_, _-_, _≤_, _<_}
 use native.Mathlib.Nat.{le-of-suc-le-suc, not-suc-le-zero, suc-add, zero-add, add-zero}
@@ -119,6 +119,17 @@ patch-next l at xs v m e h =
     ∙ append-assoc (take at l) xs (v ∷ drop (suc n) d)
     ∙ ap (λ (r : List ℕ). take at l ++ r) (sym (append-assoc xs (v ∷ []) (drop (suc n) d)))
     ∙ ap (λ (k : ℕ). take at l ++ ((xs ++ (v ∷ [])) ++ drop k d)) (sym ln)
+
+-- a patch right after another is one
+pub patch-append : (l : List ℕ) (at : ℕ) (xs ys : List ℕ) (m : ℕ) → at + length xs ≡ m → m + length ys ≤ length l → patch (patch l at xs) m ys ≡ patch l at (xs ++ ys)
+unfolding patch
+patch-append l at xs ys m e h =
+    let front : take m (patch l at xs) ≡ take at l ++ xs = take-patch-end l at xs m e (omega arith) in
+    let back : drop m (patch l at xs) ≡ drop m l = drop-patch l at xs m (omega arith) (omega arith) in
+    let n : length (xs ++ ys) ≡ length xs + length ys = length-append xs ys in
+    ap₂ (λ (a b : List ℕ). a ++ (ys ++ drop (length ys) b)) front (back ∙ ap (λ (k : ℕ). drop k l) (sym e) ∙ sym (drop-drop (length xs) at l))
+    ∙ append-assoc (take at l) xs (ys ++ drop (length ys) (drop (length xs) (drop at l)))
+    ∙ ap (λ (r : List ℕ). take at l ++ r) (sym (append-assoc xs ys (drop (length ys) (drop (length xs) (drop at l)))) ∙ ap (λ (r : List ℕ). (xs ++ ys) ++ r) (drop-drop (length ys) (length xs) (drop at l) ∙ ap (λ (k : ℕ). drop k (drop at l)) (sym n)))
 
 -- ONE ELEMENT MORE, at the front
 pub part-cons : (l : List ℕ) (at n : ℕ) → at < length l → part l at (suc n) ≡ getD l at 0 ∷ part l (suc at) n

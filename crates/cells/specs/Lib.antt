@@ -1,3 +1,4 @@
--- Parts of a list of bytes, and numbers in bytes.
+-- Parts of a list of bytes, numbers in bytes, and the bits of bytes.
 pub mod Part
 pub mod Num
+pub mod Bits

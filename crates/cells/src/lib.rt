@@ -1,10 +1,12 @@
 // Numbers and runs of bytes at an offset of a slice.
 ghost use mathlib.Core.Path.{_≡_};
-ghost use Prim.Native.Nat.{_+_, _-_, _*_, _≤_};
+ghost use Prim.Native.Nat.{ℕ, _+_, _-_, _*_, _≤_, _<_};
 ghost use lib.ListN.{length, replicate};
 ghost use Rattle.rules.specs.Base.{allBelow};
+ghost use Rattle.layout.specs.Codec.{unpack};
 ghost use Rattle.cells.specs.Part.{part, patch, zeroAt};
 ghost use Rattle.cells.specs.Num.{le, num};
+ghost use Rattle.cells.specs.Bits.{bytesHave};
 
 // How many bytes are looked at together where zeros are looked for.
 const BLOCK: usize = 1_024;
@@ -59,6 +61,43 @@ pub fn write_u32(s: &mut [u8], at: usize, v: u32)
     s[at + 1] = (v / 256 % 256) as u8;
     s[at + 2] = (v / 256 / 256 % 256) as u8;
     s[at + 3] = (v / 256 / 256 / 256 % 256) as u8;
+}
+
+// A byte as a number of 64 bits.
+fn wide(x: u8) -> u64
+    ensures { λ r. ⌜ r ≡ x ⌝ }
+{
+    x as u64
+}
+
+// The number in eight bytes at an offset, said by its bits. Written out, the bytes are loaded as one.
+pub fn read_u64(s: &[u8], at: usize) -> u64
+    requires { ⌜ at + 8 ≤ length (now s) ⌝ }
+    ensures { λ r. ⌜ ((k : ℕ) → k < 64 → unpack r k ≡ bytesHave (now (s .entry)) at k) ⌝ }
+{
+    wide(s[at])
+        | (wide(s[at + 1]) << 8)
+        | (wide(s[at + 2]) << 16)
+        | (wide(s[at + 3]) << 24)
+        | (wide(s[at + 4]) << 32)
+        | (wide(s[at + 5]) << 40)
+        | (wide(s[at + 6]) << 48)
+        | (wide(s[at + 7]) << 56)
+}
+
+// A number stored in eight bytes at an offset.
+pub fn write_u64(s: &mut [u8], at: usize, v: u64)
+    requires { ⌜ at + 8 ≤ length (now s) ⌝ }
+    ensures { λ _. ⌜ now (s .exit) ≡ patch (now (s .entry)) at (le 8 v) ⌝ }
+{
+    s[at] = (v % 256) as u8;
+    s[at + 1] = ((v >> 8) % 256) as u8;
+    s[at + 2] = ((v >> 16) % 256) as u8;
+    s[at + 3] = ((v >> 24) % 256) as u8;
+    s[at + 4] = ((v >> 32) % 256) as u8;
+    s[at + 5] = ((v >> 40) % 256) as u8;
+    s[at + 6] = ((v >> 48) % 256) as u8;
+    s[at + 7] = ((v >> 56) % 256) as u8;
 }
 
 // Zeros from an index up to another.

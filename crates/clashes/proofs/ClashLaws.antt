@@ -14,11 +14,11 @@ use Rattle.rules.specs.Locks.{clash, contains, permitted, pairPermitted, clashe
 use Rattle.rules.proofs.BaseLaws.{both-ways, and-both, and-left, and-right, any-intro, any-elim, allBelow-intro, allBelow-at, Same, same, other, same?, eqb-eq, eqb-same, eqb-other, ne-of, not-true, ltb-true, lt-of, le-of, gt-of}
 use Rattle.rules.proofs.ListLaws.{any-at, any-place}
 use Rattle.layout.specs.Codec.{noPermit, lockSection, permitSection}
+use Rattle.layout.specs.Records.{permitAt}
+use Rattle.layout.proofs.ReadLaws.{permit-read}
 use Rattle.sets.proofs.BoundLaws.{any-or}
 use Rattle.locks.specs.Held.{Modes, inMode, holding}
 use Rattle.locks.proofs.RowLaws.{row-holders}
-use Rattle.locks.proofs.PermitLaws.{permit-read}
-use Rattle.locks.specs.Permits.{permitAt}
 use Rattle.clashes.specs.Holds.{Holds}
 use Rattle.clashes.specs.Permits.{permitFrom, anyOf, fromEntry, FirstOf}
 use Rattle.clashes.specs.Beside.{serves, beside, otherHolder, othersFit, entryFits, contested}

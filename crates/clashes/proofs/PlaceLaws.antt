@@ -15,8 +15,8 @@ use Rattle.rules.specs.Locks.{makePermit}
 use Rattle.rules.proofs.BaseLaws.{both-ways, any-intro, any-elim, anyBelow-none, Same, same, other, same?}
 use Rattle.rules.proofs.SortLaws.{Before, by1, by2, by3, rising-at}
 use Rattle.layout.specs.Codec.{noPermit}
+use Rattle.layout.specs.Records.{permitAt}
 use Rattle.sets.proofs.BoundLaws.{any-ext}
-use Rattle.locks.specs.Permits.{permitAt}
 use Rattle.clashes.specs.Permits.{permitFrom, anyOf, FirstOf, NoneBefore, involves, byteIs}
 
 -- neither of two

@@ -12,10 +12,10 @@ use Rattle.rules.specs.Base.{allBelow, anyBelow, lowestBelow}
 use Rattle.rules.specs.Sets.{Set}
 use Rattle.rules.proofs.BaseLaws.{Same, same, other, same?, eqb-eq, eqb-other, or-true, and-both, and-left, and-right, both-ways, allBelow-intro, allBelow-at, any-intro, any-elim, anyBelow-none, none-below}
 use Rattle.layout.specs.Codec.{lockSection}
+use Rattle.cells.proofs.Digits.{unpack-or}
 use Rattle.sets.specs.Members.{loaded}
 use Rattle.sets.proofs.Bytes.{loaded-full}
 use Rattle.sets.proofs.BoundLaws.{any-ext, lowest-hit}
-use Rattle.sets.proofs.Digits.{unpack-or}
 use Rattle.sets.proofs.GatherLaws.{Gathered, gathered-more}
 use Rattle.sets.proofs.TurnLaws.{turn-failed, turns-done}
 use Rattle.sets.proofs.WalkLaws.{Lowest, lowest-rises}

@@ -7,7 +7,7 @@ use lib.Dec.{leb, eqb}
 use lib.ListN.{getD}
 use Rattle.rules.specs.Base.{anyBelow}
 use Rattle.rules.specs.Window.{PermitRecord}
-use Rattle.locks.specs.Permits.{permitAt}
+use Rattle.layout.specs.Records.{permitAt}
 
 -- the permit at a place counted from another
 unfoldable pub permitFrom : List ℕ → ℕ → ℕ → PermitRecord

@@ -11,8 +11,8 @@ ghost use mathlib.Core.Bool.{not, _&&_};
 ghost use Prim.Native.Nat.{ℕ, _+_, _*_, _≤_};
 ghost use lib.Dec.{eqb};
 ghost use lib.ListN.{length};
+ghost use Rattle.layout.specs.Records.{permitAt};
 ghost use Rattle.sets.specs.Members.{members, wordsHave, FourWords};
-ghost use Rattle.locks.specs.Permits.{permitAt};
 ghost use Rattle.clashes.specs.Permits.{anyOf};
 ghost use Rattle.clashes.specs.Beside.{beside, othersFit, entryFits};
 

@@ -10,8 +10,8 @@ ghost use Prim.Native.Nat.{ℕ, _+_, _*_, _≤_};
 ghost use lib.Dec.{eqb};
 ghost use lib.ListN.{length};
 ghost use Rattle.rules.specs.Base.{anyBelow};
+ghost use Rattle.layout.specs.Records.{permitAt};
 ghost use Rattle.sets.specs.Members.{members};
-ghost use Rattle.locks.specs.Permits.{permitAt};
 ghost use Rattle.clashes.specs.Permits.{anyOf, FirstOf, NoneBefore, involves, byteIs};
 ghost use Rattle.clashes.specs.Beside.{permitsAnybody, names, unserved, writerFits, writersFit};
 

@@ -14,9 +14,9 @@ use Rattle.rules.specs.Window.{TieRecord}
 use Rattle.rules.specs.Ties.{isGroup}
 use Rattle.rules.proofs.BaseLaws.{Same, same, other, same?, eqb-other, Below, under, over, below}
 use Rattle.rules.proofs.PathLaws.{Way, stay, on, way-join}
+use Rattle.rules.proofs.TieLaws.{group-is}
+use Rattle.layout.specs.Records.{tieOf}
 use Rattle.layout.proofs.SectionLaws.{length-table, getD-table0}
-use Rattle.sets.specs.Closing.{tieOf}
-use Rattle.sets.proofs.CloseLaws.{group-is}
 use Rattle.cycles.specs.Graph.{ownLabels, instead, joined, labelled}
 use Rattle.cycles.proofs.LoopLaws.{getD-map}
 

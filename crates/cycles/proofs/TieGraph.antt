@@ -13,8 +13,8 @@ use Rattle.rules.proofs.BaseLaws.{or-left, or-cases, both-ways, anyBelow-none}
 use Rattle.rules.proofs.PathLaws.{Way, stay, on, way-join, Arrow, Arrows, one, more, acyclic-paths}
 use Rattle.rules.proofs.SourceLaws.{grouped-both}
 use Rattle.layout.specs.Codec.{noTie, tieSection}
-use Rattle.sets.specs.Closing.{endsBelow, tieAt}
-use Rattle.sets.proofs.CloseLaws.{section-read, tied-place, tied-at}
+use Rattle.layout.specs.Records.{endsBelow, tieAt}
+use Rattle.layout.proofs.ReadLaws.{section-read, tied-place, tied-at}
 use Rattle.cycles.specs.Graph.{Graph, ownLabels, labelled, arrowAt, graphOf, edge, noCycle}
 use Rattle.cycles.proofs.LabelLaws.{Labels, labels-all, small-labels}
 use Rattle.cycles.proofs.CycleLaws.{Small, small-graph, edge-at, edge-place, no-cycle-ways}

@@ -8,7 +8,7 @@ use Rattle.rules.specs.Base.{allBelow, anyBelow, countBelow, table}
 use Rattle.rules.specs.Sets.{Set, Rel, only, reach}
 use Rattle.rules.specs.Window.{TieRecord}
 use Rattle.rules.specs.Ties.{isGroup, isArrow}
-use Rattle.sets.specs.Closing.{tieAt}
+use Rattle.layout.specs.Records.{tieAt}
 
 -- LABELS: one for each change, the same for two of one group
 -- each change's own number

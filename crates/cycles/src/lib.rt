@@ -13,8 +13,8 @@ ghost use Rattle.rules.specs.Base.{anyBelow, lowestBelow};
 ghost use Rattle.rules.specs.Window.{TieRecord};
 ghost use Rattle.rules.specs.Ties.{isArrow, acyclic};
 ghost use Rattle.layout.specs.Codec.{tieSection};
+ghost use Rattle.layout.specs.Records.{endsBelow, tieOf, tieAt};
 ghost use Rattle.sets.specs.Members.{wordsHave};
-ghost use Rattle.sets.specs.Closing.{endsBelow, tieOf, tieAt};
 ghost use Rattle.cycles.specs.Graph.{ownLabels, instead, joined, labelled, arrowAt, graphOf, noCycle, sources};
 ghost use Rattle.cycles.specs.Links.{Room, Ends, Blank, NoEnds, listsOf, withArrow, withTie, Linked, Removable, Removed};
 

@@ -14,11 +14,11 @@ use Rattle.rules.proofs.BaseLaws.{leb-true}
 use Rattle.layout.specs.Codec.{changesAt, changesSize, locksAt, locksSize, figures, changeSection, lockSection, lay, decode, encode}
 use Rattle.layout.specs.Memory.{soundBytes}
 use Rattle.layout.proofs.PutLaws.{laidAt, withChanges}
+use Rattle.layout.proofs.LentLaws.{headLaid, FigureStored, changes-lent, locks-lent, figure-stored}
 use Rattle.replies.specs.declared.Reply.{Reply}
 use Rattle.replies.specs.Gives.{Gives, written}
 use Rattle.replies.proofs.GiveLaws.{left, looked, given-done}
 use Rattle.reads.proofs.ReadLaws.{laid-known}
-use Rattle.layout.proofs.LentLaws.{headLaid, FigureStored, changes-lent, locks-lent, figure-stored}
 
 -- WINDOWS whose parts were put in place one by one
 module _ (W : Window) where

@@ -20,18 +20,18 @@ use Rattle.rules.proofs.SoundParts.{status-none, live-below, live-of}
 use Rattle.rules.proofs.SoundStep.{group-live, fall-live}
 use Rattle.layout.specs.Codec.{changesAt, changesSize, tiesAt, tiesSize, windowSize, changeSection, tieSection, decode, encode}
 use Rattle.layout.specs.Memory.{soundBytes}
+use Rattle.layout.specs.Records.{endsBelow}
 use Rattle.layout.proofs.SoundCodec.{sound-again}
 use Rattle.layout.proofs.MemoryLaws.{bytes-sound}
 use Rattle.cells.specs.Part.{part}
 use Rattle.cells.proofs.PartLaws.{length-part}
 use Rattle.sets.proofs.BoundLaws.{any-bound, lowest-bound, count-bound}
 use Rattle.graph.specs.Leaders.{leadsTo, leadersOf}
-use Rattle.sets.specs.Closing.{endsBelow}
 use Rattle.graph.proofs.WindowLaws.{sound-ends, blockers-leaders}
-use Rattle.reads.proofs.ReadLaws.{changes-known, ties-known, given-most}
 use Rattle.replies.specs.declared.Reply.{Reply}
 use Rattle.replies.specs.Gives.{Gives, written}
 use Rattle.replies.proofs.GiveLaws.{left, looked, unrefused}
+use Rattle.reads.proofs.ReadLaws.{changes-known, ties-known, given-most}
 use Rattle.endings.proofs.EndLaws.{undo-sound}
 
 -- the bytes of the section of ties

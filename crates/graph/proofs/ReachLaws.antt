@@ -8,7 +8,7 @@ use native.Mathlib.Numerals.{add-one}
 use native.Mathlib.Omega.{arith}
 use lib.Dec.{ltb, eqb}
 use lib.ListN.{length, getD}
-use Rattle.rules.specs.Base.{any, anyBelow}
+use Rattle.rules.specs.Base.{anyBelow}
 use Rattle.rules.specs.Sets.{Set, only, closure, reach}
 use Rattle.rules.specs.Window.{TieRecord}
 use Rattle.rules.specs.Ties.{isWait, isFall, isArrow}
@@ -17,10 +17,11 @@ use Rattle.rules.proofs.ListLaws.{all-places, any-at, any-place}
 use Rattle.rules.proofs.TieLaws.{grouped-ends, falling-ends, leading-ends}
 use Rattle.rules.proofs.PathLaws.{Bounded, closure-bound}
 use Rattle.layout.specs.Codec.{noTie, tieSection}
+use Rattle.layout.specs.Records.{endsBelow, tieAt}
+use Rattle.layout.proofs.ReadLaws.{section-read, section-ends}
 use Rattle.sets.specs.declared.Along.{Along}
 use Rattle.sets.specs.declared.Along.the-variants.{Groups, Falls, Arrows}
-use Rattle.sets.specs.Closing.{relation, endsBelow, tieAt}
-use Rattle.sets.proofs.CloseLaws.{section-read, section-ends}
+use Rattle.sets.specs.Closure.{relation}
 use Rattle.graph.specs.Leaders.{leadsTo, leadersOf}
 
 -- the ends of ties in bytes are below 256

@@ -11,11 +11,11 @@ use Rattle.rules.specs.Base.{Key, any, insert, byOrder, order, outside}
 use Rattle.rules.specs.Sets.{reach}
 use Rattle.rules.specs.Window.{TieRecord, tieKey}
 use Rattle.rules.specs.Ties.{isGroup, isArrow, makeTie, addTie, tied, grouped, leading, acyclic}
-use Rattle.rules.proofs.BaseLaws.{or-left, or-right, or-cases, or-map, or-none, and-both, and-left, and-right, eqb-eq, eqb-other, no-true, ltb-true, ge-of, Below, under, over, below, other}
+use Rattle.rules.proofs.BaseLaws.{or-left, or-right, or-cases, or-map, or-none, and-both, and-left, and-right, eqb-eq, eqb-other, no-true, ltb-true, ge-of, Below, under, over, below}
 use Rattle.rules.proofs.SortLaws.{all-insert}
 use Rattle.rules.proofs.PathLaws.{Way, stay, on, way-join, way-map, by-arrow, NoReturn, acyclic-clear, clear-acyclic}
 use Rattle.rules.proofs.DemandEnds.{tie-old, tie-new}
-use Rattle.sets.specs.Closing.{endsBelow}
+use Rattle.layout.specs.Records.{endsBelow}
 use Rattle.graph.proofs.ReachLaws.{arrow-of}
 use Rattle.graph.proofs.WayLaws.{reached, unreached, Round, around, not-both, back-or-arrow}
 

@@ -12,7 +12,7 @@ use Rattle.rules.specs.Ties.{isWait, isFall, isGroup, isArrow, tied, grouped, l
 use Rattle.rules.proofs.BaseLaws.{or-left, or-cases, eqb-eq}
 use Rattle.rules.proofs.PathLaws.{Way, stay, on, way-join, Bounded, reach-ways, leading-bounded}
 use Rattle.rules.proofs.SourceLaws.{grouped-both}
-use Rattle.sets.specs.Closing.{endsBelow}
+use Rattle.layout.specs.Records.{endsBelow}
 
 -- WHAT TIES REACH, where their ends are below n
 module _ (n : ℕ) (ts : List TieRecord) (ends : endsBelow n ts ≡ true) where

@@ -7,7 +7,7 @@ use Rattle.rules.specs.Sets.{Set}
 use Rattle.rules.specs.Window.{Limits, Window}
 use Rattle.rules.specs.Effects.{commitBlockers}
 use Rattle.rules.proofs.SoundParts.{Sound, ends-below}
-use Rattle.sets.specs.Closing.{endsBelow}
+use Rattle.layout.specs.Records.{endsBelow}
 use Rattle.graph.specs.Leaders.{leadsTo, leadersOf}
 
 -- the ends of a sound window's ties are numbers that were given

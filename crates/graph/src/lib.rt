@@ -11,8 +11,9 @@ ghost use Rattle.rules.specs.Sets.{reach};
 ghost use Rattle.rules.specs.Window.{TieRecord};
 ghost use Rattle.rules.specs.Ties.{grouped, falling, leading, makeTie, addTie, acyclic};
 ghost use Rattle.layout.specs.Codec.{tieSection};
+ghost use Rattle.layout.specs.Records.{endsBelow, tieOf};
 ghost use Rattle.sets.specs.Members.{members};
-ghost use Rattle.sets.specs.Closing.{relation, endsBelow, tieOf};
+ghost use Rattle.sets.specs.Closure.{relation};
 ghost use Rattle.graph.specs.Leaders.{leadsTo, leadersOf};
 
 // All that the ties lead to from a change.

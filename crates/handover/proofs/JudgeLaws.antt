@@ -22,8 +22,8 @@ use Rattle.cells.specs.Part.{part, patch}
 use Rattle.cells.proofs.PartLaws.{length-part}
 use Rattle.locks.specs.Held.{Modes}
 use Rattle.permits.proofs.HandLaws.{copied}
-use Rattle.clashes.specs.Holds.{Holds}
 use Rattle.reads.proofs.ReadLaws.{locks-known}
+use Rattle.clashes.specs.Holds.{Holds}
 use Rattle.handover.specs.Delegated.{tablesSize, tablesOf, AreTables}
 use Rattle.handover.proofs.TableLaws.{locks-cut, permits-cut}
 

@@ -24,8 +24,8 @@ ghost use Rattle.layout.specs.Codec.{locksSize, permitsSize, windowSize, lockSe
 ghost use Rattle.layout.specs.Memory.{soundBytes};
 ghost use Rattle.sets.specs.Entries.{onEntries};
 ghost use Rattle.locks.specs.Held.{Modes, NoneFrom};
-ghost use Rattle.clashes.specs.Holds.{Holds};
 ghost use Rattle.replies.specs.Gives.{Gives, written};
+ghost use Rattle.clashes.specs.Holds.{Holds};
 ghost use Rattle.handover.specs.Delegated.{tablesSize, tablesOf, AreTables};
 
 // The bytes of the locks and of the permits, which lie side by side.

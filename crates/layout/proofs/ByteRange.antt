@@ -18,8 +18,7 @@ use Rattle.rules.proofs.ListLaws.{all-weaken, all-join, all-getD, all-table}
 use Rattle.rules.proofs.RuleLaws.{is-open}
 use Rattle.rules.proofs.SoundStep.{step-sound, opened-sound}
 use Rattle.rules.proofs.SoundParts.{Sound, live-below, record-parts, permit-parts, tie-parts, inside-of, status-range}
-use Rattle.layout.specs.Codec.{lineByte, headSize, valuesSize, changesSize, lineSize, locksSize, permitsSize, tiesSize, logSize, byte, noRecord, noPermit, noTie, headByte, valueByte, changeByte, lockByte, recordBytes, logByte, permitBytes, permitByte, tieBytes, tieByte, figures, encode}
-use Rattle.layout.specs.Codec.{windowSize}
+use Rattle.layout.specs.Codec.{lineByte, headSize, valuesSize, changesSize, lineSize, locksSize, permitsSize, tiesSize, logSize, byte, noRecord, noPermit, noTie, headByte, valueByte, changeByte, lockByte, recordBytes, logByte, permitBytes, permitByte, tieBytes, tieByte, figures, encode, windowSize}
 use Rattle.layout.specs.Memory.{windowOf, handBack, layInto, perform}
 use Rattle.layout.proofs.CodecLaws.{pack-most}
 use Rattle.layout.proofs.MemoryLaws.{Performed, refused, ruled, opened, performed, Anewed, begun, kept, anewed, memory-sound}

@@ -4,6 +4,7 @@ pub mod Cases
 -- tables, and sections one after the other: a byte read, a section cut out, a section put in place; sections of records
 pub mod SectionLaws
 pub mod RecordLaws
+pub mod ReadLaws
 pub mod PartLaws
 pub mod PutLaws
 pub mod LentLaws

@@ -6,7 +6,7 @@ use native.Mathlib.Nat.{add-zero, zero-add, add-assoc, not-suc-le-zero, le-of-su
 use native.Mathlib.Omega.{arith}
 use lib.ListN.{getD, length, take, drop, length-append, List·getD-append}
 use lib.Seq.{ext-getD, getD-append-add, take-at, drop-at, take-append-add, drop-append-add}
-use Rattle.rules.specs.Base.{put, table}
+use Rattle.rules.specs.Base.{table}
 use Rattle.rules.specs.Window.{Window}
 use Rattle.layout.specs.Codec.{headSize, valuesSize, changesSize, lineSize, locksSize, permitsSize, tiesSize, logSize, figures, headByte, valueByte, changeByte, lineByte, lockByte, permitByte, tieByte, logByte, headSection, valueSection, changeSection, lineSection, lockSection, permitSection, tieSection, logSection, lay, encode}
 

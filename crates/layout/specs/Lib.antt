@@ -2,3 +2,4 @@
 pub mod Codec
 pub mod Memory
 pub mod Figures
+pub mod Records

@@ -9,10 +9,10 @@ use borrow.Author.Tests.{ne-eqb}
 use lib.ListN.{length, take, getD, set, length-append}
 use lib.Seq.{take-all, take-suc, take-suc-set, take-append-le, take-take, length-take-le}
 use Rattle.layout.specs.Memory.{sameBytes}
-use Rattle.replies.specs.Gives.{Gives}
-use Rattle.replies.specs.declared.Reply.{Reply}
 use Rattle.cells.specs.Part.{patch}
 use Rattle.cells.proofs.PartLaws.{take-patch-end}
+use Rattle.replies.specs.Gives.{Gives}
+use Rattle.replies.specs.declared.Reply.{Reply}
 use Rattle.text.specs.Decimal.{ascii}
 use Rattle.script_lines.specs.Lines.{replyTo}
 use Rattle.listing.specs.declared.Stand.{Stand}

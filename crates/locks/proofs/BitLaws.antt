@@ -6,15 +6,15 @@ use Prim.Native.Nat.{ℕ, suc, _+_, _*_, _/_, _%_, _≤_, _<_}
 use native.Mathlib.Nat.{zero-add}
 use native.Mathlib.Omega.{arith}
 use lib.Dec.{ltb, eqb}
-use lib.ListN.{getD}
 use Rattle.rules.specs.Base.{put2, table}
 use Rattle.rules.specs.Sets.{Set}
 use Rattle.rules.proofs.BaseLaws.{Below, under, over, below, Same, same, other, same?, leb-true, eqb-same}
 use Rattle.layout.specs.Codec.{pack, unpack, lockByte, lockSection, locksSize}
 use Rattle.layout.proofs.CodecLaws.{pack-same, unpack-pack}
 use Rattle.layout.proofs.SectionLaws.{length-table, getD-table0}
+use Rattle.cells.specs.Bits.{bytesHave}
+use Rattle.cells.proofs.TableLaws.{table-same, patch-table}
 use Rattle.sets.specs.Members.{loaded, setByte, setBytes, stored}
-use Rattle.locks.proofs.Tables.{table-same, paste-table}
 
 -- a bit for each entry, mode less one and change
 abbrev pub Bits : Type 0
@@ -54,7 +54,7 @@ module _ (t : Bits) (e m at : ℕ) (he : e < 256) (hm : m < 2) (place : at ≡ e
       rw (a, b, d)
 
   -- one bit read
-  pub bits-read : (k : ℕ) → k < 256 → unpack (getD (bitsSection t) (at + k / 8) 0) (k % 8) ≡ t e m k
+  pub bits-read : (k : ℕ) → k < 256 → bytesHave (bitsSection t) at k ≡ t e m k
   unfolding bitsSection setByte
   bits-read k h = let z : k / 8 * 8 + k % 8 ≡ k = omega arith in
       ap (λ x. unpack x (k % 8)) (getD-table0 locksSize (bitsByte t) (at + k / 8) 0 (omega arith) ∙ bits-byte (k / 8) (omega arith))
@@ -65,7 +65,7 @@ module _ (t : Bits) (e m at : ℕ) (he : e < 256) (hm : m < 2) (place : at ≡ e
   unfolding loaded bitsSection
   bits-loaded k = rw (length-table, leb-true (at + 32) locksSize (omega arith)) (go (below k 256))
     where
-      go : {b : Bool} → Below k 256 b → b && true && unpack (getD (table locksSize 0 (bitsByte t)) (at + k / 8) 0) (k % 8) ≡ b && t e m k
+      go : {b : Bool} → Below k 256 b → b && true && bytesHave (table locksSize 0 (bitsByte t)) at k ≡ b && t e m k
       go (under h) = bits-read k h
       go (over h) = refl
 
@@ -73,7 +73,7 @@ module _ (t : Bits) (e m at : ℕ) (he : e < 256) (hm : m < 2) (place : at ≡ e
 pub bits-stored : (t : Bits) (e m at : ℕ) (s : Set) → e < 256 → m < 2 → at ≡ e * 64 + m * 32 → stored s (bitsSection t) at ≡ bitsSection (put2 t e m s)
 unfolding stored setBytes bitsSection bitsByte put2
 bits-stored t e m at s he hm place = rw (length-table, leb-true (at + 32) locksSize (omega arith))
-    (paste-table locksSize at 32 (bitsByte t) (setByte s) (bitsByte (put2 t e m s)) (omega arith) inner outer)
+    (patch-table locksSize at 32 (bitsByte t) (setByte s) (bitsByte (put2 t e m s)) (omega arith) inner outer)
   where
     inner : (i : ℕ) → i < 32 → setByte s i ≡ bitsByte (put2 t e m s) (at + i)
     inner i h = sym (bits-byte (put2 t e m s) e m at he hm place i h ∙ rw (eqb-same e, eqb-same m))

@@ -1,6 +1,4 @@
 -- What is proved of locks in bytes. Other crates cite a file X here as Rattle.locks.proofs.X.
--- a table with a part put in place
-pub mod Tables
 -- the lock section by its bits, and by its rows
 pub mod BitLaws
 pub mod SectionLaws
@@ -11,5 +9,3 @@ pub mod ChangeLaws
 pub mod WalkLaws
 -- a set of changes against the locks of one entry, by bytes
 pub mod TouchLaws
--- permits by their places
-pub mod PermitLaws

@@ -10,9 +10,9 @@ use lib.ListN.{length, getD}
 use Rattle.rules.specs.Base.{anyBelow}
 use Rattle.rules.specs.Sets.{Set, only}
 use Rattle.layout.specs.Codec.{unpack, lockSection}
+use Rattle.cells.proofs.Digits.{unpack-or, unpack-and}
 use Rattle.sets.specs.Members.{loaded, stored}
-use Rattle.sets.proofs.Digits.{unpack-or, unpack-and}
-use Rattle.sets.proofs.Bytes.{loaded-full, stored-bit}
+use Rattle.sets.proofs.Bytes.{loaded-full, stored-have}
 use Rattle.sets.proofs.GatherLaws.{Gathered, gathered-more}
 use Rattle.locks.specs.Held.{holdersAmong, rowWithout, changedOn}
 use Rattle.locks.proofs.SectionLaws.{row-loaded, row-same}
@@ -41,7 +41,7 @@ module _ (locks : List ℕ) (at : ℕ) (bytes : List ℕ) (room : at + 64 ≤ le
 
 -- a set stored as 32 bytes is the set that they say
 pub stored-loaded : (s : Set) (d out : List ℕ) → length d ≡ 32 → length out ≡ 32 → out ≡ stored s d 0 → (k : ℕ) → k < 256 → loaded out 0 k ≡ s k
-stored-loaded s d out hd ho e k h = loaded-full out 0 (omega arith) k h ∙ ap (λ (l : List ℕ). unpack (getD l (0 + k / 8) 0) (k % 8)) e ∙ stored-bit s d 0 (omega arith) k h
+stored-loaded s d out hd ho e k h = loaded-full out 0 (omega arith) k h ∙ stored-have s d out hd e k h
 
 -- an entry that no change of the set holds says the same without it
 pub untouched : (held : ℕ → ℕ → ℕ) (e : ℕ) (s : Set) (locks bytes : List ℕ) → e < 256 → ((k : ℕ) → k < 256 → loaded bytes 0 k ≡ s k) → locks ≡ lockSection held

@@ -1,4 +1,3 @@
--- Locks in the lent section: what the functions' contracts say; and permits by their places.
+-- Locks in the lent section: what the functions' contracts say.
 pub mod Held
 pub mod Entry
-pub mod Permits

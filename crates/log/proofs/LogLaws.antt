@@ -19,9 +19,8 @@ use Rattle.layout.proofs.RecordLaws.{placed, cell-read}
 use Rattle.cells.specs.Part.{part, patch}
 use Rattle.cells.specs.Num.{le, num}
 use Rattle.cells.proofs.PartLaws.{part-part, patch-cons}
-use Rattle.cells.proofs.NumLaws.{num-le}
+use Rattle.cells.proofs.NumLaws.{num-le, le-bytes}
 use Rattle.places.proofs.PlaceLaws.{place-read, cell-store, place-store}
-use Rattle.places.proofs.ByteLaws.{le-bytes}
 
 -- the bytes of place i
 abbrev placeBytes : List LogRecord → ℕ → List ℕ

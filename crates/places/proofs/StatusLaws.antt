@@ -14,8 +14,7 @@ use Rattle.rules.specs.Base.{put, outside}
 use Rattle.rules.specs.Sets.{Set}
 use Rattle.rules.proofs.BaseLaws.{Same, same, other, same?, ltb-true, ltb-false, Below, under, over, below, and-false, and-right, or-comm, both-ways, eqb-eq, lt-of}
 use Rattle.layout.specs.Codec.{changeSection, bit, unpack}
-use Rattle.sets.specs.Members.{members}
-use Rattle.sets.proofs.Digits.{unpack-zero, unpack-power, unpack-or, unpack-mod}
+use Rattle.cells.proofs.Digits.{unpack-zero, unpack-power, unpack-or, unpack-mod}
 use Rattle.sets.proofs.WalkLaws.{Lowest, lowest-rises}
 use Rattle.places.specs.Statuses.{withStatuses, firsts, inRange}
 use Rattle.places.proofs.TableLaws.{status-read, change-ext}

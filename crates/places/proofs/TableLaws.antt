@@ -12,9 +12,8 @@ use Rattle.layout.specs.Codec.{headByte, valueByte, changeByte, headSection, va
 use Rattle.layout.proofs.RecordLaws.{placed, cell-read}
 use Rattle.cells.specs.Part.{part, patch}
 use Rattle.cells.specs.Num.{le, num}
-use Rattle.cells.proofs.NumLaws.{length-le, num-le}
+use Rattle.cells.proofs.NumLaws.{length-le, le-byte, num-le}
 use Rattle.places.proofs.PlaceLaws.{Stored, place-read, by-places, cell-store, place-store}
-use Rattle.places.proofs.ByteLaws.{le-byte}
 
 -- the bytes of a figure
 abbrev figureBytes : List ℕ → ℕ → List ℕ

@@ -15,13 +15,13 @@ use Rattle.layout.specs.Codec.{valuesAt, valuesSize, permitsAt, permitsSize, ti
 use Rattle.layout.specs.Memory.{soundBytes}
 use Rattle.layout.proofs.MemoryLaws.{bytes-sound}
 use Rattle.layout.proofs.PutLaws.{laidAt}
+use Rattle.layout.proofs.LentLaws.{headLaid, FigureStored, values-lent, permits-lent, ties-lent, log-lent, figure-stored}
 use Rattle.rows.specs.Rows.{unlessOver, Holds}
 use Rattle.replies.specs.declared.Reply.{Reply}
 use Rattle.replies.specs.Gives.{Gives, written}
 use Rattle.replies.proofs.GiveLaws.{given-done}
-use Rattle.records.specs.Logged.{withRecord}
 use Rattle.reads.proofs.ReadLaws.{laid-known, permits-known, ties-known}
-use Rattle.layout.proofs.LentLaws.{headLaid, FigureStored, values-lent, permits-lent, ties-lent, log-lent, figure-stored}
+use Rattle.records.specs.Logged.{withRecord}
 
 -- WINDOWS whose parts were put in place one by one
 module _ (W : Window) where

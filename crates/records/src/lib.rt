@@ -20,8 +20,8 @@ ghost use Rattle.rules.specs.Effects.{effect};
 ghost use Rattle.rules.specs.Refusals.{checks, firstFailed};
 ghost use Rattle.layout.specs.Codec.{windowSize, decode, encode};
 ghost use Rattle.layout.specs.Memory.{soundBytes};
-ghost use Rattle.records.specs.Logged.{withRecord};
 ghost use Rattle.replies.specs.Gives.{Gives, written};
+ghost use Rattle.records.specs.Logged.{withRecord};
 
 // A record goes to the end of the log, and is counted.
 fn log_record(w: &mut [u8], change: u8, entry: u8, before: u32)

@@ -12,7 +12,7 @@ use Rattle.rules.specs.Locks.{contains}
 use Rattle.rules.proofs.BaseLaws.{over-false, over-true}
 use Rattle.rules.proofs.SortLaws.{length-insert}
 use Rattle.cells.specs.Part.{part, patch}
-use Rattle.rows.specs.Rows.{Row, row, rowKey, rank, rowBytes, rowsBytes, rowAt, rows, standsAt, uniteRows, addRow, unlessOver, Stored}
+use Rattle.rows.specs.Rows.{Row, rowKey, rank, rowBytes, rowsBytes, rowAt, rows, standsAt, uniteRows, addRow, unlessOver, Stored}
 use Rattle.rows.proofs.RowLaws.{length-rows, rows-same}
 use Rattle.rows.proofs.PlaceLaws.{Placed, stands-below, added-new, length-new, added-old, length-old}
 use Rattle.rows.proofs.StoreLaws.{put-in, set-more}

@@ -12,7 +12,7 @@ use borrow.Author.Tests.{lt-ltb, ltb-true, eq-eqb, eqb-true}
 use Rattle.rules.specs.Base.{table, any, rising}
 use Rattle.rules.proofs.BaseLaws.{and-both, and-left, and-right, or-left, or-right, or-cases, both-ways, Below, under, over, below}
 use Rattle.layout.proofs.SectionLaws.{Bytes, length-table}
-use Rattle.rows.specs.Rows.{Row, row, rowKey, rank, rowAt, rows, hasKey, standsAt, Found, uniteRows, addRow}
+use Rattle.rows.specs.Rows.{Row, rowKey, rank, rowAt, rows, hasKey, standsAt, Found, uniteRows, addRow}
 use Rattle.rows.proofs.OrderLaws.{Small, small-at, put-behind, put-before, put-same, ranks-rise}
 use Rattle.rows.proofs.RowLaws.{rows-split}
 

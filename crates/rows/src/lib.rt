@@ -8,8 +8,8 @@ ghost use Prim.Native.Nat.{ℕ, _+_, _-_, _*_, _≤_, _<_};
 ghost use lib.ListN.{length, getD, set};
 ghost use Rattle.rules.specs.Base.{any, rising, exceeds};
 ghost use Rattle.rules.specs.Locks.{contains};
-ghost use Rattle.sets.specs.Members.{members, wordsHave};
 ghost use Rattle.cells.specs.Part.{part, patch};
+ghost use Rattle.sets.specs.Members.{members, wordsHave};
 ghost use Rattle.rows.specs.Rows.{row, rowKey, rankOf, rank, rowBytes, rowAt, rows, hasKey, standsAt, Found, addRow, unlessOver, spared, Stored, Closed};
 
 // A key of three bytes as one number.

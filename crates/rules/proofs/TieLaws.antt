@@ -14,6 +14,15 @@ use Rattle.rules.proofs.BaseLaws.{or-cases, or-map, and-left, and-right
 use Rattle.rules.proofs.ListLaws.{all-weaken, all-and, all-keep, all-members, any-member, any-keep, find}
 use Rattle.rules.proofs.SetLaws.{reach-seed, reach-closed, reach-least}
 
+-- kind 3 is the group's
+pub group-is : (k : ℕ) → k ≡ 3 → isGroup k ≡ true
+unfolding isGroup
+group-is k e = rw e
+
+pub is-group : (k : ℕ) → isGroup k ≡ true → k ≡ 3
+unfolding isGroup
+is-group k e = eqb-eq k 3 e
+
 -- what holds of the ends of all ties holds of two that are tied
 module _ (p : Set) (ts : List TieRecord) (ends : all (λ t. p t.leader && p t.follower) ts ≡ true) where
   pub tied-ends : (k : ℕ → Bool) (a b : ℕ) → tied ts k a b ≡ true → (p a ≡ true) × (p b ≡ true)

@@ -5,7 +5,7 @@ use libc::STDOUT_FILENO;
 use listing::KEPT;
 use listing::Stand;
 ghost use mathlib.Core.Path.{_≡_};
-ghost use Prim.Native.Nat.{_+_, _*_, _≤_, _<_, _^_};
+ghost use Prim.Native.Nat.{_+_, _≤_, _<_, _^_};
 ghost use lib.ListN.{length};
 
 // The most bytes of input that are read at a time: what they print fits the room for output.

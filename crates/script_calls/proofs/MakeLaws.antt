@@ -10,11 +10,11 @@ use borrow.Author.Tests.{eqb-true, ne-eqb}
 use lib.Dec.{eqb}
 use lib.ListN.{length}
 use Rattle.rules.specs.Calls.{Call, Read, Permit}
+use Rattle.rules.specs.Base.{allBelow}
+use Rattle.rules.proofs.BaseLaws.{Below, under, over, below, allBelow-at}
 use Rattle.layout.specs.Memory.{handBack, perform}
 use Rattle.replies.specs.declared.Reply.{Reply}
 use Rattle.replies.specs.Gives.{Gives}
-use Rattle.rules.specs.Base.{allBelow}
-use Rattle.rules.proofs.BaseLaws.{Below, under, over, below, allBelow-at}
 use Rattle.script_calls.specs.Fields.{Reads, nothing, one, two, three, four, readings, placed, made, callOf, replyOf, fieldsOf, fieldsRead}
 
 -- a broken line does nothing

@@ -15,8 +15,9 @@ use Rattle.rules.proofs.BaseLaws.{and-left, and-right, or-cases, and-false, no-
 use Rattle.layout.specs.Codec.{bit, pack, unpack, lockByte, lockSection}
 use Rattle.layout.proofs.CodecLaws.{pack-most, pack-same, unpack-pack}
 use Rattle.layout.proofs.SectionLaws.{Bytes, length-table, getD-table0}
-use Rattle.sets.proofs.Digits.{unpack-zero, unpack-ext}
+use Rattle.cells.specs.Bits.{bytesHave}
 use Rattle.cells.specs.Part.{zeroAt}
+use Rattle.cells.proofs.Digits.{unpack-zero, unpack-ext}
 use Rattle.cells.proofs.ZeroLaws.{zeros-at, zeros-all}
 use Rattle.locks.proofs.BitLaws.{lockBits, lock-bits, bits-read}
 use Rattle.sections.specs.Cells.{reads, writes, lockFits, rowFits}
@@ -62,12 +63,12 @@ module _ (bs : List ℕ) (b : Bytes bs) (size : length bs ≡ 16384) (entries : 
       fits false true h q = writer h (not-false (lives c) (not-true _ q))
       fits false false h q = none
 
-      go : {x : Bool} → Below e entries x → Bits e c (unpack (getD bs (e * 64 + c / 8) 0) (c % 8)) (unpack (getD bs (e * 64 + 32 + c / 8) 0) (c % 8))
+      go : {x : Bool} → Below e entries x → Bits e c (bytesHave bs (e * 64) c) (bytesHave bs (e * 64 + 32) c)
       go (under h) = fits _ _ h (unfold rowFits lockFits reads writes in allBelow-at 256 (lockFits bs lives e) (allBelow-at entries (rowFits bs lives) (t .fine) e h) c hc)
       go (over h) = rw (zeros-at bs (entries * 64) 16384 (t .rest) (e * 64 + c / 8) (omega arith) (omega arith), zeros-at bs (entries * 64) 16384 (t .rest) (e * 64 + 32 + c / 8) (omega arith) (omega arith), unpack-zero (c % 8)) none
 
   -- a bit of the section is what the lock says
-  bit-of : LockTests → (e c m : ℕ) → e < 256 → c < 256 → m < 2 → eqb (heldAt e c) (suc m) ≡ unpack (getD bs (e * 64 + m * 32 + c / 8) 0) (c % 8)
+  bit-of : LockTests → (e c m : ℕ) → e < 256 → c < 256 → m < 2 → eqb (heldAt e c) (suc m) ≡ bytesHave bs (e * 64 + m * 32) c
   unfolding heldAt reads writes
   bit-of t e c m he hc hm = rw (ltb-true e 256 he, ltb-true c 256 hc) (go m hm (bits t e c he hc))
     where
@@ -84,8 +85,8 @@ module _ (bs : List ℕ) (b : Bytes bs) (size : length bs ≡ 16384) (entries : 
       write-bit (reader h l) = refl
       write-bit (writer h l) = refl
 
-      go : (k : ℕ) → k < 2 → Bits e c (unpack (getD bs (e * 64 + c / 8) 0) (c % 8)) (unpack (getD bs (e * 64 + 32 + c / 8) 0) (c % 8))
-          → eqb (cond (unpack (getD bs (e * 64 + 32 + c / 8) 0) (c % 8)) 2 (bit (unpack (getD bs (e * 64 + c / 8) 0) (c % 8)))) (suc k) ≡ unpack (getD bs (e * 64 + k * 32 + c / 8) 0) (c % 8)
+      go : (k : ℕ) → k < 2 → Bits e c (bytesHave bs (e * 64) c) (bytesHave bs (e * 64 + 32) c)
+          → eqb (cond (bytesHave bs (e * 64 + 32) c) 2 (bit (bytesHave bs (e * 64) c))) (suc k) ≡ bytesHave bs (e * 64 + k * 32) c
       go zero h x = read-bit x ∙ at (e * 64 + c / 8) (e * 64 + 0 * 32 + c / 8) (omega arith)
       go (suc zero) h x = write-bit x ∙ at (e * 64 + 32 + c / 8) (e * 64 + 1 * 32 + c / 8) (omega arith)
       go (suc (suc k)) h x = absurd (omega arith)
@@ -119,18 +120,18 @@ module _ (bs : List ℕ) (b : Bytes bs) (size : length bs ≡ 16384) (entries : 
       fine e c (under h) (over l) = unfold heldAt in rw (ltb-false c 256 l, and-false (ltb e 256))
 
   module _ (s : LocksSound bs entries lives) where
-    bit-read : (e c m : ℕ) → e < 256 → c < 256 → m < 2 → unpack (getD bs (e * 64 + m * 32 + c / 8) 0) (c % 8) ≡ eqb (s .held e c) (suc m)
+    bit-read : (e c m : ℕ) → e < 256 → c < 256 → m < 2 → bytesHave bs (e * 64 + m * 32) c ≡ eqb (s .held e c) (suc m)
     unfolding lockBits
-    bit-read e c m he hc hm = ap (λ l. unpack (getD l (e * 64 + m * 32 + c / 8) 0) (c % 8)) (s .bytes ∙ lock-bits (s .held)) ∙ bits-read (lockBits (s .held)) e m (e * 64 + m * 32) he hm refl c hc
+    bit-read e c m he hc hm = ap (λ l. bytesHave l (e * 64 + m * 32) c) (s .bytes ∙ lock-bits (s .held)) ∙ bits-read (lockBits (s .held)) e m (e * 64 + m * 32) he hm refl c hc
 
     row-of : (e : ℕ) → e < entries → rowFits bs lives e ≡ true
     unfolding rowFits lockFits reads writes
     row-of e he = allBelow-intro 256 _ (λ c hc. rw (first c hc, second c hc) (go c (s .held e c) refl (same? (s .held e c) 1) (same? (s .held e c) 2)))
       where
-        first : (c : ℕ) → c < 256 → unpack (getD bs (e * 64 + c / 8) 0) (c % 8) ≡ eqb (s .held e c) 1
+        first : (c : ℕ) → c < 256 → bytesHave bs (e * 64) c ≡ eqb (s .held e c) 1
         first c hc = let q : e * 64 + c / 8 ≡ e * 64 + 0 * 32 + c / 8 = omega arith in ap (λ x. unpack (getD bs x 0) (c % 8)) q ∙ bit-read e c 0 (omega arith) hc (omega arith)
 
-        second : (c : ℕ) → c < 256 → unpack (getD bs (e * 64 + 32 + c / 8) 0) (c % 8) ≡ eqb (s .held e c) 2
+        second : (c : ℕ) → c < 256 → bytesHave bs (e * 64 + 32) c ≡ eqb (s .held e c) 2
         second c hc = let q : e * 64 + 32 + c / 8 ≡ e * 64 + 1 * 32 + c / 8 = omega arith in ap (λ x. unpack (getD bs x 0) (c % 8)) q ∙ bit-read e c 1 (omega arith) hc (omega arith)
 
         go : (c h : ℕ) → s .held e c ≡ h → {x y : Bool} → Same h 1 x → Same h 2 y → not (x && y || (x || y) && not (lives c)) ≡ true

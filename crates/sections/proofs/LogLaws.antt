@@ -2,7 +2,7 @@
 use mathlib.Core.Path.{_≡_, refl, sym, _∙_, ap}
 use mathlib.Core.Bool.{true}
 use mathlib.Core.List.{List}
-use Prim.Native.Nat.{ℕ, zero, suc, _+_, _-_, _*_, _/_, _%_, _≤_, _<_}
+use Prim.Native.Nat.{ℕ, zero, suc, _+_, _-_, _*_, _≤_, _<_}
 use native.Mathlib.Omega.{arith}
 use lib.Dec.{eqb}
 use lib.ListN.{getD, length, replicate}
@@ -12,13 +12,15 @@ use Rattle.rules.specs.Sound.{recordSound}
 use Rattle.rules.proofs.BaseLaws.{eqb-eq, ltb-true, allBelow-at, allBelow-intro}
 use Rattle.rules.proofs.ListLaws.{all-at, all-table}
 use Rattle.rules.proofs.SoundParts.{record-parts}
-use Rattle.layout.specs.Codec.{byte, unpack, join4, noRecord, recordBytes, logByte, logSection, lockSection}
+use Rattle.layout.specs.Codec.{byte, join4, noRecord, recordBytes, logByte, logSection, lockSection}
+use Rattle.layout.specs.Records.{recordAt}
 use Rattle.layout.proofs.RecordLaws.{placeByte, place-at, places-again, places-rest, first-byte}
 use Rattle.layout.proofs.SectionLaws.{Bytes, length-table}
 use Rattle.cells.specs.Part.{zeroAt}
+use Rattle.cells.specs.Bits.{bytesHave}
 use Rattle.cells.proofs.ZeroLaws.{zeros-at, zeros-all}
 use Rattle.locks.proofs.BitLaws.{lockBits, lock-bits, bits-read}
-use Rattle.sections.specs.Cells.{writes, recordAt, recordFits}
+use Rattle.sections.specs.Cells.{writes, recordFits}
 use Rattle.sections.specs.Sections.{LocksSound, LogSound}
 use Rattle.sections.proofs.ByteLaws.{join4-below, byte-join4}
 use Rattle.sections.proofs.LockLaws.{held-live}
@@ -27,7 +29,7 @@ use Rattle.sections.proofs.LockLaws.{held-live}
 pub writes-held : (locks : List ℕ) (held : ℕ → ℕ → ℕ) → locks ≡ lockSection held → (e c : ℕ) → e < 256 → c < 256 → writes locks e c ≡ eqb (held e c) 2
 unfolding writes lockBits
 writes-held locks held q e c he hc = let p : e * 64 + 32 ≡ e * 64 + 1 * 32 = omega arith in
-    ap (λ l. unpack (getD l (e * 64 + 32 + c / 8) 0) (c % 8)) (q ∙ lock-bits held) ∙ bits-read (lockBits held) e 1 (e * 64 + 32) he (omega arith) p c hc
+    ap (λ l. bytesHave l (e * 64 + 32) c) (q ∙ lock-bits held) ∙ bits-read (lockBits held) e 1 (e * 64 + 32) he (omega arith) p c hc
 
 -- no record has zeros
 blank : recordBytes noRecord ≡ replicate 6 0

@@ -17,16 +17,14 @@ use Rattle.rules.proofs.BaseLaws.{and-both, and-left, and-right, or-cases, or-r
 use Rattle.rules.proofs.ListLaws.{all-at, all-table}
 use Rattle.rules.proofs.SortLaws.{rising-at, rising-table}
 use Rattle.layout.specs.Codec.{noPermit, noTie, permitBytes, tieBytes, permitByte, tieByte, permitSection, tieSection}
+use Rattle.layout.specs.Records.{tieAt, permitAt}
 use Rattle.layout.proofs.RecordLaws.{placeByte, place-at, places-again, places-rest, first-byte}
 use Rattle.layout.proofs.SectionLaws.{Bytes, length-table}
-use Rattle.sets.specs.Closing.{tieAt}
-use Rattle.sets.proofs.CloseLaws.{tie-again}
+use Rattle.layout.proofs.ReadLaws.{tie-again, permit-again}
 use Rattle.cells.specs.Part.{zeroAt}
 use Rattle.cells.proofs.ZeroLaws.{zeros-at, zeros-all}
 use Rattle.rows.specs.Rows.{rowKey, rank, rowAt}
 use Rattle.rows.proofs.OrderLaws.{small-at, rank-before, before-rank}
-use Rattle.locks.specs.Permits.{permitAt}
-use Rattle.locks.proofs.PermitLaws.{permit-again}
 use Rattle.sections.specs.Cells.{inOrder, permitFits, tieFits}
 use Rattle.sections.specs.Sections.{PermitsSound, TiesSound}
 

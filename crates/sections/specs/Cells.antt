@@ -1,17 +1,15 @@
 -- What is asked of one place of a section, in its bytes. Assumes nothing.
 use mathlib.Core.Bool.{Bool, not, _&&_, _||_}
 use mathlib.Core.List.{List}
-use Prim.Native.Nat.{ℕ, _+_, _-_, _*_, _/_, _%_}
+use Prim.Native.Nat.{ℕ, _+_, _-_, _*_}
 use lib.Dec.{ltb, eqb}
 use lib.ListN.{getD}
 use Rattle.rules.specs.Base.{outside, allBelow}
 use Rattle.rules.specs.Sets.{Set}
-use Rattle.rules.specs.Window.{LogRecord}
 use Rattle.rules.specs.Sound.{permitSound, tieSound}
-use Rattle.layout.specs.Codec.{join4, unpack}
-use Rattle.sets.specs.Closing.{tieAt}
+use Rattle.layout.specs.Records.{tieAt, permitAt}
+use Rattle.cells.specs.Bits.{bytesHave}
 use Rattle.rows.specs.Rows.{rank, rowAt}
-use Rattle.locks.specs.Permits.{permitAt}
 
 -- a change's place: a status from 1 to 5, a lower parent, and two bytes that are 0
 unfoldable pub changeFits : List ℕ → ℕ → Bool
@@ -21,16 +19,12 @@ changeFits bs c = not (outside 1 5 (getD bs (c * 4) 0)) && ltb (getD bs (c * 4 +
 unfoldable pub nextFits : List ℕ → ℕ → Bool
 nextFits bs c = changeFits bs (c + 1)
 
--- the set of these bytes: bit k % 8 of byte k / 8
-unfoldable pub bytesHave : List ℕ → Set
-bytesHave bs k = unpack (getD bs (k / 8) 0) (k % 8)
-
 -- a change's bit among an entry's readers, and among its writers
-unfoldable pub reads : List ℕ → ℕ → ℕ → Bool
-reads bs e c = unpack (getD bs (e * 64 + c / 8) 0) (c % 8)
+unfoldable pub reads : List ℕ → ℕ → Set
+reads bs e = bytesHave bs (e * 64)
 
-unfoldable pub writes : List ℕ → ℕ → ℕ → Bool
-writes bs e c = unpack (getD bs (e * 64 + 32 + c / 8) 0) (c % 8)
+unfoldable pub writes : List ℕ → ℕ → Set
+writes bs e = bytesHave bs (e * 64 + 32)
 
 -- not both, and none of a change that is not live
 unfoldable pub lockFits : List ℕ → Set → ℕ → ℕ → Bool
@@ -43,10 +37,6 @@ rowFits bs lives e = allBelow 256 (lockFits bs lives e)
 -- a row is above the one before it
 unfoldable pub inOrder : List ℕ → ℕ → Bool
 inOrder bs j = eqb j 0 || ltb (rank (rowAt bs (j - 1))) (rank (rowAt bs j))
-
--- the log record at a place
-unfoldable pub recordAt : List ℕ → ℕ → LogRecord
-recordAt bs j = record { owner = getD bs (j * 6) 0; entry = getD bs (j * 6 + 1) 0; before = join4 (λ k. getD bs (j * 6 + (k + 2)) 0) }
 
 unfoldable pub permitFits : List ℕ → ℕ → Set → ℕ → Bool
 permitFits bs entries lives j = permitSound entries lives (permitAt bs j) && inOrder bs j

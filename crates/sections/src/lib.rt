@@ -18,15 +18,15 @@ ghost use mathlib.Core.Logic.{_↔_};
 ghost use Prim.Native.Nat.{ℕ, _+_, _*_, _≤_, _<_};
 ghost use lib.Dec.{eqb};
 ghost use lib.ListN.{length, getD};
-ghost use Rattle.layout.specs.Codec.{headSize, valuesSize, changesSize, lineSize, locksSize, permitsSize, tiesSize, logSize, lineSection};
 ghost use Rattle.rules.specs.Base.{allBelow};
 ghost use Rattle.rules.specs.Locks.{makePermit};
 ghost use Rattle.rules.specs.Sets.{Set};
 ghost use Rattle.rules.specs.Sound.{permitSound, tieSound};
+ghost use Rattle.layout.specs.Codec.{headSize, valuesSize, changesSize, lineSize, locksSize, permitsSize, tiesSize, logSize, lineSection};
+ghost use Rattle.layout.specs.Records.{tieOf, tieAt, permitAt};
+ghost use Rattle.cells.specs.Bits.{bytesHave};
 ghost use Rattle.sets.specs.Members.{wordsHave, members};
-ghost use Rattle.sets.specs.Closing.{tieOf, tieAt};
-ghost use Rattle.locks.specs.Permits.{permitAt};
-ghost use Rattle.sections.specs.Cells.{changeFits, nextFits, bytesHave, writes, rowFits, permitFits, tieFits, recordFits};
+ghost use Rattle.sections.specs.Cells.{changeFits, nextFits, writes, rowFits, permitFits, tieFits, recordFits};
 ghost use Rattle.sections.specs.Sections.{HeadSound, ValuesSound, ChangesSound, LocksSound, LogSound, PermitsSound, TiesSound};
 
 // Every figure is in its range, and the rest of the header is 0.
@@ -247,7 +247,7 @@ fn row(locks: &[u8], e: usize, live: &[u8]) -> bool
     requires { ⌜ length (now locks) ≡ locksSize ⌝ }
     requires { ⌜ e < 256 ⌝ }
     requires { ⌜ length (now live) ≡ 32 ⌝ }
-    ensures { λ r. ⌜ r ≡ rowFits (now (locks .entry)) (bytesHave (now (live .entry))) e ⌝ }
+    ensures { λ r. ⌜ r ≡ rowFits (now (locks .entry)) (bytesHave (now (live .entry)) 0) e ⌝ }
 {
     let at = e * 64;
     let mut acc: u8 = 0;
@@ -266,7 +266,7 @@ fn rows_against(locks: &[u8], entries: usize, live: &[u8]) -> bool
     requires { ⌜ length (now locks) ≡ locksSize ⌝ }
     requires { ⌜ entries ≤ 256 ⌝ }
     requires { ⌜ length (now live) ≡ 32 ⌝ }
-    ensures { λ r. ⌜ r ≡ allBelow entries (rowFits (now (locks .entry)) (bytesHave (now (live .entry)))) ⌝ }
+    ensures { λ r. ⌜ r ≡ allBelow entries (rowFits (now (locks .entry)) (bytesHave (now (live .entry)) 0)) ⌝ }
 {
     let mut e = 0;
     while e < entries {

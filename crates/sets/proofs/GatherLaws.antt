@@ -10,7 +10,7 @@ use Rattle.rules.specs.Base.{anyBelow}
 use Rattle.rules.specs.Sets.{Set}
 use Rattle.rules.proofs.BaseLaws.{both-ways, not-true, any-intro, anyBelow-none, none-below}
 use Rattle.layout.specs.Codec.{unpack}
-use Rattle.sets.proofs.Digits.{unpack-zero, unpack-ext}
+use Rattle.cells.proofs.Digits.{unpack-zero, unpack-ext}
 
 -- byte j has the tests of j * 8, j * 8 + 1, …: the one in its bit b
 unfoldable pub bitOf : Set → ℕ → ℕ → Bool

@@ -1,6 +1,4 @@
 -- What is proved of sets of changes. Other crates cite a file X here as Rattle.sets.proofs.X.
--- the digits of a number
-pub mod Digits
 -- the numbers below a bound that pass a test
 pub mod BoundLaws
 -- walks that ask a test of one number after the other
@@ -20,7 +18,7 @@ pub mod GatherLaws
 -- passes over ties
 pub mod PassLaws
 -- passes come to the closure of the rules
-pub mod CloseLaws
+pub mod ClosureLaws
 -- ties noted in rows, and what spreads along them
 pub mod SpreadLaws
 -- the entries that a delegate names

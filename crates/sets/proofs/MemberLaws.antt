@@ -12,9 +12,9 @@ use Rattle.rules.specs.Base.{allBelow}
 use Rattle.rules.specs.Sets.{Set}
 use Rattle.rules.proofs.BaseLaws.{allBelow-intro, allBelow-at, eqb-sym}
 use Rattle.layout.specs.Codec.{unpack}
+use Rattle.cells.proofs.Digits.{unpack-ext}
 use Rattle.sets.specs.Members.{members, agree}
 use Rattle.sets.specs.declared.ChangeSet.{ChangeSet}
-use Rattle.sets.proofs.Digits.{unpack-ext}
 use Rattle.sets.proofs.Words.{ofWords, place, by-words, each-of-4, word-zero}
 
 -- no number from 256 on is a member

@@ -13,7 +13,7 @@ use Rattle.rules.specs.Window.{TieRecord}
 use Rattle.rules.specs.Ties.{isGroup}
 use Rattle.rules.proofs.BaseLaws.{or-left, or-right, or-cases, and-both, and-left, and-right, both-ways, eqb-eq, eqb-same, count-same, count-le, Below, under, over, below, Same, same, other, same?}
 use Rattle.sets.specs.Members.{agree}
-use Rattle.sets.specs.Closing.{follows, placeFrom, pulled, passed}
+use Rattle.sets.specs.Closure.{follows, placeFrom, pulled, passed}
 use Rattle.sets.proofs.MemberLaws.{agree-all}
 
 -- a member of the one is a member of the other

@@ -18,16 +18,17 @@ use Rattle.rules.specs.Window.{TieRecord}
 use Rattle.rules.specs.Ties.{isGroup}
 use Rattle.rules.proofs.BaseLaws.{or-left, or-right, or-cases, and-both, and-left, and-right, eqb-eq, eqb-same, eqb-other, no-true, not-true, count-le, Within, Same, same, other, same?, any-intro, any-elim, ltb-true, ltb-false}
 use Rattle.layout.specs.Codec.{unpack, tieSection}
+use Rattle.layout.specs.Records.{tieAt}
+use Rattle.cells.proofs.Digits.{unpack-zero, unpack-or}
 use Rattle.sets.specs.declared.Along.{Along}
-use Rattle.sets.specs.Closing.{relation, lowKind, follows, tieAt}
+use Rattle.sets.specs.Closure.{relation, lowKind, follows}
 use Rattle.sets.specs.Spreading.{leadsTo, leadsAt, leadsIn, rowHas, Spread}
 use Rattle.sets.specs.Members.{members}
-use Rattle.sets.proofs.Digits.{unpack-zero, unpack-or}
 use Rattle.sets.proofs.BoundLaws.{count-more}
 use Rattle.sets.proofs.WalkLaws.{Lowest, lowest-of, rest-without}
 use Rattle.sets.proofs.MemberLaws.{four-words}
 use Rattle.sets.proofs.Words.{ofWords, bit-here}
-use Rattle.sets.proofs.CloseLaws.{section-closure}
+use Rattle.sets.proofs.ClosureLaws.{section-closure}
 use Rattle.sets.proofs.PassLaws.{Inside, Stable, Growing, pulled-follower, pulled-leader, pulled-within}
 
 -- a test is true or false

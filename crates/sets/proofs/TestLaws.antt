@@ -14,9 +14,9 @@ use lib.Seq.{ext-getD}
 use Rattle.rules.specs.Base.{anyBelow, allBelow, lowestBelow}
 use Rattle.rules.proofs.BaseLaws.{both-ways, not-true, none-below, anyBelow-none}
 use Rattle.layout.specs.Codec.{unpack}
+use Rattle.cells.proofs.Digits.{unpack-zero, unpack-ext, trailing-hit}
 use Rattle.sets.specs.Members.{members, agree}
 use Rattle.sets.specs.declared.ChangeSet.{ChangeSet}
-use Rattle.sets.proofs.Digits.{unpack-zero, unpack-ext, trailing-hit}
 use Rattle.sets.proofs.BoundLaws.{lowest-is}
 use Rattle.sets.proofs.Words.{ofWords, place, eqb-iff, each-of-4, or-four, xor-zero, low-at}
 use Rattle.sets.proofs.MemberLaws.{members-above, words-are, words-none, members-ext, agree-at, agree-all}

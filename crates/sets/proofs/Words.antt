@@ -16,9 +16,9 @@ use lib.Pow.{pow-lt}
 use lib.Seq.{getD-set-same, getD-set-other}
 use Rattle.rules.specs.Base.{countBelow}
 use Rattle.layout.specs.Codec.{bit, unpack}
+use Rattle.cells.proofs.Digits.{Digit, none, one, digit, unpack-first, unpack-next, unpack-zero, unpack-power, unpack-or, unpack-and, unpack-not, trailing-hit, trailing-below}
 use Rattle.sets.specs.Members.{members, wordsHave, FourWords}
 use Rattle.sets.specs.declared.ChangeSet.{ChangeSet}
-use Rattle.sets.proofs.Digits.{Digit, none, one, digit, unpack-first, unpack-next, unpack-zero, unpack-power, unpack-or, unpack-and, unpack-not, trailing-hit, trailing-below}
 use Rattle.sets.proofs.BoundLaws.{count-ext, count-add, count-first}
 
 -- the set of these words
@@ -39,7 +39,7 @@ eqb-iff a b p q f g = go (ℕ-discrete a b)
 
 -- digit j of word i
 pub place : (s : ChangeSet) (i j : ℕ) → j < 64 → members s (64 * i + j) ≡ unpack (getD (s .words) i 0) j
-unfolding members
+unfolding members wordsHave
 place s i j h =
     let q : (64 * i + j) / 64 ≡ i = omega arith in
     let r : (64 * i + j) % 64 ≡ j = omega arith in
@@ -47,13 +47,13 @@ place s i j h =
 
 -- what each word's digits are, said of the 256
 pub by-words : (s : ChangeSet) (f : ℕ → Bool) → ((i : ℕ) → i < 4 → (j : ℕ) → j < 64 → unpack (getD (s .words) i 0) j ≡ f (64 * i + j)) → (k : ℕ) → k < 256 → members s k ≡ f k
-unfolding members
+unfolding members wordsHave
 by-words s f each k h =
     let e : 64 * (k / 64) + k % 64 ≡ k = omega arith in each (k / 64) (omega arith) (k % 64) (omega arith) ∙ ap f e
 
 -- a word that is 0 holds none
 pub word-zero : (s : ChangeSet) (k : ℕ) → getD (s .words) (k / 64) 0 ≡ 0 → members s k ≡ false
-unfolding members
+unfolding members wordsHave
 word-zero s k e = ap (λ (x : ℕ). unpack x (k % 64)) e ∙ unpack-zero (k % 64)
 
 -- two sets joined word by word: P of the two old digits
@@ -61,7 +61,7 @@ pub join-words : (f : ℕ → ℕ → ℕ) (P : Bool → Bool → Bool) → P fa
     → ((i j : ℕ) → j < 64 → unpack (f (getD (s .words) i 0) (getD (t .words) i 0)) j ≡ P (unpack (getD (s .words) i 0) j) (unpack (getD (t .words) i 0) j))
     → (k : ℕ) → members (ofWords (f (getD (s .words) 0 0) (getD (t .words) 0 0) ∷ f (getD (s .words) 1 0) (getD (t .words) 1 0) ∷ f (getD (s .words) 2 0) (getD (t .words) 2 0) ∷ f (getD (s .words) 3 0) (getD (t .words) 3 0) ∷ [])) k
     ≡ P (members s k) (members t k)
-unfolding members
+unfolding members wordsHave
 join-words f P nothing s t ls lt each k = go (k / 64) (k % 64) (omega arith)
   where
     a : List ℕ

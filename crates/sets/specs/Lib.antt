@@ -1,5 +1,5 @@
 -- Sets of changes: what a set's words say, its 32 bytes, and its closure along ties. The set of entries that a delegate names.
 pub mod Members
-pub mod Closing
+pub mod Closure
 pub mod Entries
 pub mod Spreading

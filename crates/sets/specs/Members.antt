@@ -5,10 +5,11 @@ use mathlib.Core.List.{List}
 use Prim.Native.Nat.{ℕ, _+_, _*_, _/_, _%_, _^_, _<_}
 use lib.Dec.{leb, ltb}
 use lib.ListN.{length, getD}
-use lib.Seq.{paste}
 use Rattle.rules.specs.Base.{table}
 use Rattle.rules.specs.Sets.{Set}
 use Rattle.layout.specs.Codec.{pack, unpack}
+use Rattle.cells.specs.Part.{patch}
+use Rattle.cells.specs.Bits.{bytesHave}
 use Rattle.sets.specs.declared.ChangeSet.{ChangeSet}
 
 -- k is a member of the set of these words: bit k % 64 of word k / 64 is set
@@ -20,17 +21,17 @@ pub record FourWords (ws : List ℕ) : Type 0 where
   pub four : length ws ≡ 4
   pub fit : (i : ℕ) → getD ws i 0 < 2 ^ 64
 
--- k is a member
+-- the members of a set: those of its words
 unfoldable pub members : ChangeSet → Set
-members s k = unpack (getD (s .words) (k / 64) 0) (k % 64)
+members s = wordsHave (s .words)
 
 -- both sets hold k, or neither
 unfoldable pub agree : Set → Set → ℕ → Bool
 agree s t k = Bool·beq (s k) (t k)
 
--- what the 32 bytes at a place say of k: bit k % 8 of byte k / 8; nothing where there are not 32 bytes
+-- the set of the 32 bytes at a place; empty where there are not 32
 unfoldable pub loaded : List ℕ → ℕ → Set
-loaded bs at k = ltb k 256 && leb (at + 32) (length bs) && unpack (getD bs (at + k / 8) 0) (k % 8)
+loaded bs at k = ltb k 256 && leb (at + 32) (length bs) && bytesHave bs at k
 
 -- byte i of a set's 32: the tests of i * 8, i * 8 + 1, …, the first in its lowest bit
 unfoldable pub setByte : Set → ℕ → ℕ
@@ -42,4 +43,4 @@ setBytes s = table 32 0 (setByte s)
 
 -- the bytes with a set's 32 at a place; unchanged where there is no room for them
 unfoldable pub stored : Set → List ℕ → ℕ → List ℕ
-stored s bs at = cond (leb (at + 32) (length bs)) (paste bs at (setBytes s) 32) bs
+stored s bs at = cond (leb (at + 32) (length bs)) (patch bs at (setBytes s)) bs

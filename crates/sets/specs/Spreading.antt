@@ -10,7 +10,8 @@ use Rattle.rules.specs.Sets.{Set, Rel}
 use Rattle.rules.specs.Window.{TieRecord}
 use Rattle.rules.specs.Ties.{isGroup}
 use Rattle.layout.specs.Codec.{unpack}
-use Rattle.sets.specs.Closing.{follows, tieAt}
+use Rattle.layout.specs.Records.{tieAt}
+use Rattle.sets.specs.Closure.{follows}
 
 -- a tie leads from its leader to its follower where it is gone along, and a group tie back too
 unfoldable pub leadsTo : ℕ → TieRecord → Rel

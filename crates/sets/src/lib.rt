@@ -2,6 +2,8 @@
 mod passes;
 mod tie_rows;
 
+use cells::read_u64;
+use cells::write_u64;
 use passes::pass;
 use tie_rows::note_ties;
 use tie_rows::row_at;
@@ -11,16 +13,14 @@ ghost use mathlib.Core.List.{List};
 ghost use Prim.Native.Nat.{ℕ, _+_, _*_, _/_, _%_, _<_, _≤_};
 ghost use lib.Count.{trailingZeros};
 ghost use lib.Dec.{eqb};
-ghost use lib.ListN.{length, getD};
-ghost use lib.Seq.{paste};
+ghost use lib.ListN.{length};
 ghost use Rattle.rules.specs.Base.{anyBelow, allBelow, lowestBelow, countBelow};
 ghost use Rattle.rules.specs.Sets.{closure};
 ghost use Rattle.rules.specs.Window.{TieRecord};
 ghost use Rattle.layout.specs.Codec.{unpack, tieSection};
-ghost use Rattle.cells.specs.Num.{le};
 ghost use Rattle.sets.specs.Members.{members, wordsHave, FourWords, agree, loaded, stored};
 ghost use Rattle.sets.specs.Spreading.{Spread};
-ghost use Rattle.sets.specs.Closing.{relation, lowKind};
+ghost use Rattle.sets.specs.Closure.{relation, lowKind};
 
 // The ties of which there are fewer are few.
 const FEW: usize = 32;
@@ -198,10 +198,10 @@ impl ChangeSet {
         }
         ChangeSet {
             words: [
-                word_at(bytes, at),
-                word_at(bytes, at + 8),
-                word_at(bytes, at + 16),
-                word_at(bytes, at + 24),
+                read_u64(bytes, at),
+                read_u64(bytes, at + 8),
+                read_u64(bytes, at + 16),
+                read_u64(bytes, at + 24),
             ],
         }
     }
@@ -217,10 +217,10 @@ impl ChangeSet {
             return;
         }
         let w = self.words;
-        store_word(bytes, at, w[0]);
-        store_word(bytes, at + 8, w[1]);
-        store_word(bytes, at + 16, w[2]);
-        store_word(bytes, at + 24, w[3]);
+        write_u64(bytes, at, w[0]);
+        write_u64(bytes, at + 8, w[1]);
+        write_u64(bytes, at + 16, w[2]);
+        write_u64(bytes, at + 24, w[3]);
     }
 
     // The least set that holds this one and is closed along the first `count` ties of the section.
@@ -344,41 +344,4 @@ fn low_kind(along: Along) -> u8
         Along::Falls => 2,
         Along::Arrows => 1,
     }
-}
-
-// A byte as a number of 64 bits.
-fn wide(x: u8) -> u64
-    ensures { λ r. ⌜ r ≡ x ⌝ }
-{
-    x as u64
-}
-
-// The eight bytes from a place on, lowest first, as a number. Written out, they are loaded as one.
-fn word_at(bytes: &[u8], at: usize) -> u64
-    requires { ⌜ at + 8 ≤ length (now bytes) ⌝ }
-    ensures { λ r. ⌜ ((k : ℕ) → k < 64 → unpack r k ≡ unpack (getD (now (bytes .entry)) (at + k / 8) 0) (k % 8)) ⌝ }
-{
-    wide(bytes[at])
-        | (wide(bytes[at + 1]) << 8)
-        | (wide(bytes[at + 2]) << 16)
-        | (wide(bytes[at + 3]) << 24)
-        | (wide(bytes[at + 4]) << 32)
-        | (wide(bytes[at + 5]) << 40)
-        | (wide(bytes[at + 6]) << 48)
-        | (wide(bytes[at + 7]) << 56)
-}
-
-// A number as eight bytes at a place, lowest first.
-fn store_word(bytes: &mut [u8], at: usize, w: u64)
-    requires { ⌜ at + 8 ≤ length (now bytes) ⌝ }
-    ensures { λ _. ⌜ now (bytes .exit) ≡ paste (now (bytes .entry)) at (le 8 w) 8 ⌝ }
-{
-    bytes[at] = (w % 256) as u8;
-    bytes[at + 1] = ((w >> 8) % 256) as u8;
-    bytes[at + 2] = ((w >> 16) % 256) as u8;
-    bytes[at + 3] = ((w >> 24) % 256) as u8;
-    bytes[at + 4] = ((w >> 32) % 256) as u8;
-    bytes[at + 5] = ((w >> 40) % 256) as u8;
-    bytes[at + 6] = ((w >> 48) % 256) as u8;
-    bytes[at + 7] = ((w >> 56) % 256) as u8;
 }

@@ -4,8 +4,9 @@ use crate::insert;
 ghost use mathlib.Core.Path.{_≡_};
 ghost use Prim.Native.Nat.{_*_, _<_, _≤_};
 ghost use lib.ListN.{length};
+ghost use Rattle.layout.specs.Records.{tieOf};
 ghost use Rattle.sets.specs.Members.{wordsHave};
-ghost use Rattle.sets.specs.Closing.{tieOf, placeFrom, tieFrom, pulled, passed};
+ghost use Rattle.sets.specs.Closure.{placeFrom, tieFrom, pulled, passed};
 
 // What one tie adds to the set of these words.
 fn pull(words: &mut [u64; 4], low: u8, kind: u8, leader: u8, follower: u8)

@@ -5,9 +5,9 @@ ghost use mathlib.Core.Bool.{_||_, _&&_};
 ghost use Prim.Native.Nat.{ℕ, _*_, _≤_};
 ghost use lib.Dec.{eqb};
 ghost use lib.ListN.{length};
+ghost use Rattle.layout.specs.Records.{tieOf};
 ghost use Rattle.sets.specs.Members.{members};
 ghost use Rattle.sets.specs.Spreading.{leadsTo, leadsIn, rowHas};
-ghost use Rattle.sets.specs.Closing.{tieOf};
 
 // A number is put in the row of another.
 fn note(rows: &mut [u64], a: u8, b: u8)

@@ -14,9 +14,9 @@ use Rattle.rules.proofs.BaseLaws.{and-both, over-false, within-of, ltb-true, lt
 use Rattle.rules.proofs.SoundParts.{Sound, ends-below, held-most, held-no-change, fits-all, fit-locks}
 use Rattle.layout.specs.Codec.{headAt, headSize, valuesAt, valuesSize, changesAt, changesSize, lineAt, lineSize, locksAt, locksSize, permitsAt, permitsSize, tiesAt, tiesSize, logAt, logSize, windowSize, figures, headSection, lay, encode, decode}
 use Rattle.layout.specs.Memory.{soundBytes}
+use Rattle.layout.specs.Records.{endsBelow}
 use Rattle.layout.proofs.MemoryLaws.{encode-sound, bytes-sound, part-of}
 use Rattle.layout.proofs.PartLaws.{head-part, values-part, changes-part, line-part, locks-part, permits-part, ties-part, log-part, eight-parts}
-use Rattle.sets.specs.Closing.{endsBelow}
 use Rattle.locks.specs.Held.{Modes}
 use Rattle.sections.specs.Sections.{HeadSound, ChangesSound}
 use Rattle.soundness.specs.Parts.{lives, cut, FrontSound, BackSound, Listed}

@@ -8,7 +8,7 @@ use lib.ListN.{length, take, drop}
 use Rattle.rules.specs.Sets.{Set}
 use Rattle.rules.specs.Window.{Window, isLive}
 use Rattle.layout.specs.Codec.{valuesAt, valuesSize, lineAt, lineSize, locksAt, locksSize, permitsAt, permitsSize, tiesAt, tiesSize, logAt, logSize, lineSection, tieSection}
-use Rattle.sets.specs.Closing.{endsBelow}
+use Rattle.layout.specs.Records.{endsBelow}
 use Rattle.sections.specs.Sections.{ValuesSound, LocksSound, LogSound, PermitsSound, TiesSound}
 use Rattle.clashes.specs.Holds.{Holds}
 

@@ -14,13 +14,13 @@ ghost use mathlib.Core.Bool.{true, _&&_};
 ghost use mathlib.Core.Logic.{_↔_};
 ghost use Prim.Native.Nat.{suc, _≤_};
 ghost use lib.ListN.{length};
-ghost use Rattle.layout.specs.Codec.{headAt, headSize, locksAt, locksSize, windowSize};
-ghost use Rattle.sets.specs.Members.{members};
-ghost use Rattle.sections.specs.Sections.{HeadSound, LocksSound};
 ghost use Rattle.rules.specs.Window.{Window};
 ghost use Rattle.rules.specs.Locks.{clashesPermitted};
 ghost use Rattle.rules.specs.Ties.{acyclic};
+ghost use Rattle.layout.specs.Codec.{headAt, headSize, locksAt, locksSize, windowSize};
 ghost use Rattle.layout.specs.Memory.{soundBytes, soundMemory};
+ghost use Rattle.sets.specs.Members.{members};
+ghost use Rattle.sections.specs.Sections.{HeadSound, LocksSound};
 ghost use Rattle.soundness.specs.Parts.{cut, FrontSound, BackSound, Listed};
 ghost use Rattle.soundness.specs.Read.{AreFigures};
 

@@ -3,9 +3,9 @@ use Prim.Native.Nat.{_≤_, _-_, _*_}
 use native.Mathlib.Omega.{arith}
 use borrow.Author.Needs.{needs}
 use borrow.Author.Tests.{lt-leb}
-use Rattle.rules.proofs.BaseLaws.{leb-true}
 use Rattle.rules.specs.Locks.{makePermit}
-use Rattle.locks.specs.Permits.{permitAt}
+use Rattle.rules.proofs.BaseLaws.{leb-true}
+use Rattle.layout.specs.Records.{permitAt}
 use Rattle.clashes.specs.Permits.{fromEntry}
 use Rattle.clashes.proofs.PlaceLaws.{Skipped, skipped-none, skipped-more, first-found, first-nothing}
 use Rattle.clashes.proofs.first_from.Statement.{statement}

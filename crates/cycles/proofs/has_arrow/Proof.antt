@@ -6,7 +6,7 @@ use native.Mathlib.Omega.{arith}
 use borrow.Author.Needs.{needs}
 use Rattle.rules.specs.Base.{anyBelow}
 use Rattle.rules.proofs.BaseLaws.{any-intro}
-use Rattle.sets.specs.Closing.{tieAt}
+use Rattle.layout.specs.Records.{tieAt}
 use Rattle.cycles.specs.Graph.{arrowAt}
 use Rattle.cycles.proofs.LoopLaws.{any-next}
 use Rattle.cycles.proofs.has_arrow.Statement.{statement}

@@ -4,7 +4,7 @@ use Prim.Native.Nat.{ℕ, _-_, _≤_}
 use native.Mathlib.Omega.{arith}
 use borrow.Author.Needs.{needs}
 use lib.ListN.{length}
-use Rattle.sets.specs.Closing.{tieAt}
+use Rattle.layout.specs.Records.{tieAt}
 use Rattle.cycles.specs.Graph.{ownLabels, labelled}
 use Rattle.cycles.proofs.LabelLaws.{length-labelled, labelled-next}
 use Rattle.cycles.proofs.label_groups.Statement.{statement}

@@ -4,7 +4,7 @@ use Prim.Native.Nat.{ℕ, _-_, _≤_, _<_}
 use native.Mathlib.Omega.{arith}
 use borrow.Author.Needs.{needs}
 use lib.ListN.{getD}
-use Rattle.sets.specs.Closing.{tieAt}
+use Rattle.layout.specs.Records.{tieAt}
 use Rattle.cycles.specs.Graph.{arrowAt, graphOf}
 use Rattle.cycles.specs.Links.{Room, Ends, listsOf, Linked}
 use Rattle.cycles.proofs.LinkLaws.{linked-none, linked-next, linked-few, blank-room, blank-ends, blank-words}

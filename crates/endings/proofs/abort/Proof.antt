@@ -2,8 +2,8 @@
 use native.Mathlib.Omega.{arith}
 use borrow.Author.Needs.{needs}
 use Rattle.rules.specs.Effects.{abortChange, effect}
-use Rattle.sets.specs.Members.{members}
 use Rattle.layout.proofs.MemoryLaws.{bytes-sound}
+use Rattle.sets.specs.Members.{members}
 use Rattle.reads.proofs.ReadLaws.{change-fits}
 use Rattle.endings.proofs.CallLaws.{ties-size, abort-known, ended-so, ended-else, end-set-read, abort-done}
 use Rattle.endings.proofs.abort.Statement.{statement}

@@ -4,8 +4,8 @@ use native.Mathlib.Omega.{arith}
 use borrow.Author.Needs.{needs}
 use Rattle.rules.specs.Effects.{commitChange, effect}
 use Rattle.rules.proofs.BaseLaws.{not-true, not-false}
-use Rattle.sets.specs.Members.{members}
 use Rattle.layout.proofs.MemoryLaws.{bytes-sound}
+use Rattle.sets.specs.Members.{members}
 use Rattle.reads.proofs.ReadLaws.{change-fits}
 use Rattle.endings.proofs.CallLaws.{ties-size, commit-known, ended-so, ended-else, group-read, commit-waits, commit-done}
 use Rattle.endings.proofs.commit.Statement.{statement}

@@ -1,9 +1,9 @@
 -- `endings::drop_log` meets its contract. Assumes nothing.
 use mathlib.Core.Path.{sym}
 use borrow.Author.Needs.{needs}
-use Rattle.sets.specs.Members.{members}
 use Rattle.layout.specs.Codec.{decode}
 use Rattle.layout.proofs.MemoryLaws.{bytes-again}
+use Rattle.sets.specs.Members.{members}
 use Rattle.endings.proofs.BackLaws.{log-fits, log-left}
 use Rattle.endings.proofs.drop_log.Statement.{statement}
 use Rattle.endings.proofs.drop_log.Tie as tie

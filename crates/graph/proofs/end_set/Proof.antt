@@ -1,6 +1,6 @@
 -- `graph::end_set` meets its contract: what group and fall ties reach. Assumes nothing.
 use borrow.Author.Needs.{needs}
-use Rattle.sets.specs.Closing.{relation}
+use Rattle.sets.specs.Closure.{relation}
 use Rattle.graph.proofs.end_set.Statement.{statement}
 use Rattle.graph.proofs.end_set.Tie as tie
 

@@ -1,6 +1,6 @@
 -- `graph::group` meets its contract: what group ties reach. Assumes nothing.
 use borrow.Author.Needs.{needs}
-use Rattle.sets.specs.Closing.{relation}
+use Rattle.sets.specs.Closure.{relation}
 use Rattle.graph.proofs.group.Statement.{statement}
 use Rattle.graph.proofs.group.Tie as tie
 

@@ -4,8 +4,8 @@ use Prim.Native.Nat.{ℕ, _-_, _≤_}
 use native.Mathlib.Omega.{arith}
 use borrow.Author.Needs.{needs}
 use Rattle.rules.specs.Base.{anyBelow}
+use Rattle.layout.specs.Records.{tieAt}
 use Rattle.sets.specs.Members.{members}
-use Rattle.sets.specs.Closing.{tieAt}
 use Rattle.graph.specs.Leaders.{leadsTo}
 use Rattle.graph.proofs.ReachLaws.{leaders-next, leaders-of}
 use Rattle.graph.proofs.leaders.Statement.{statement}

@@ -1,7 +1,7 @@
 -- `graph::leads` meets its contract: a member of what is reached. Assumes nothing.
 use mathlib.Core.Path.{_∙_}
 use borrow.Author.Needs.{needs}
-use Rattle.sets.specs.Closing.{relation}
+use Rattle.sets.specs.Closure.{relation}
 use Rattle.graph.proofs.leads.Statement.{statement}
 use Rattle.graph.proofs.leads.Tie as tie
 

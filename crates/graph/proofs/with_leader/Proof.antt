@@ -4,8 +4,8 @@ use mathlib.Core.Bool.{Bool, false, _&&_, and-false}
 use native.Mathlib.Omega.{arith}
 use borrow.Author.Needs.{needs}
 use Rattle.rules.specs.Ties.{isArrow}
+use Rattle.layout.specs.Records.{tieOf}
 use Rattle.sets.specs.Members.{members}
-use Rattle.sets.specs.Closing.{tieOf}
 use Rattle.graph.proofs.ReachLaws.{leader-none, leader-more, arrow-of, no-arrow}
 use Rattle.graph.proofs.with_leader.Statement.{statement}
 use Rattle.graph.proofs.with_leader.Tie as tie

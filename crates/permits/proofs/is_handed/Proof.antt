@@ -1,7 +1,7 @@
 -- `permits::is_handed` meets its contract: by the flag. Assumes nothing.
 use borrow.Author.Needs.{needs}
-use Rattle.rows.specs.Rows.{rowAt}
 use Rattle.sets.specs.Entries.{onEntries}
+use Rattle.rows.specs.Rows.{rowAt}
 use Rattle.permits.specs.PermitRows.{givenBy, handed}
 use Rattle.permits.proofs.is_handed.Statement.{statement}
 use Rattle.permits.proofs.is_handed.Tie as tie

@@ -5,8 +5,8 @@ use native.Mathlib.Omega.{arith}
 use lib.ListN.{length}
 use borrow.Author.Needs.{needs}
 use Rattle.sets.specs.Entries.{onEntries}
-use Rattle.permits.specs.PermitRows.{handed}
 use Rattle.rows.proofs.CloseLaws.{Moved, moved-none, moved-next, moved-all, moved-few}
+use Rattle.permits.specs.PermitRows.{handed}
 use Rattle.permits.proofs.keep_handed.Statement.{statement}
 use Rattle.permits.proofs.keep_handed.Tie as tie
 

@@ -1,5 +1,5 @@
 -- `sections::permit_at` meets its contract. Assumes nothing.
-use Rattle.locks.specs.Permits.{permitAt}
+use Rattle.layout.specs.Records.{permitAt}
 use borrow.Author.Needs.{needs}
 use Rattle.sections.proofs.permit_at.Statement.{statement}
 use Rattle.sections.proofs.permit_at.Tie as tie

@@ -3,14 +3,14 @@ use mathlib.Core.Path.{_≡_, refl}
 use Prim.Native.Nat.{_≤_, _+_, _-_, _*_}
 use native.Mathlib.Omega.{arith}
 use borrow.Author.Needs.{needs}
-use Rattle.sections.specs.Cells.{bytesHave}
+use Rattle.cells.specs.Bits.{bytesHave}
 use Rattle.sets.proofs.GatherLaws.{Gathered, gathered-none}
 use Rattle.sections.proofs.RowLaws.{misfits, gather-more, row-gathered}
 use Rattle.sections.proofs.row.Statement.{statement}
 use Rattle.sections.proofs.row.Tie as tie
 
 abbrev Inv-loop : tie.InvT-loop
-Inv-loop locks e live at acc₀ i₀ acc i = (i ≤ 32) × Gathered (misfits locks (bytesHave live) e) i acc
+Inv-loop locks e live at acc₀ i₀ acc i = (i ≤ 32) × Gathered (misfits locks (bytesHave live 0) e) i acc
 
 abbrev μ-loop : tie.MeasureT-loop
 μ-loop locks e live at acc₀ i₀ acc i = 32 - i
@@ -29,7 +29,7 @@ returns c =
     let a = c .before .before .args in
     let l = c .before .loop in
     let done : l .i ≡ 32 = omega arith in
-    row-gathered (a .locks .now) (bytesHave (a .live .now)) (a .e) (l .acc) (rw done at (l .inv .1))
+    row-gathered (a .locks .now) (bytesHave (a .live .now) 0) (a .e) (l .acc) (rw done at (l .inv .1))
 
 pub row-spec : {M : Type 1} → statement M
 row-spec =

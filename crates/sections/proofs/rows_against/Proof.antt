@@ -5,13 +5,14 @@ use Prim.Native.Nat.{_≤_, _-_}
 use native.Mathlib.Omega.{arith}
 use borrow.Author.Needs.{needs}
 use Rattle.rules.specs.Base.{allBelow}
+use Rattle.cells.specs.Bits.{bytesHave}
 use Rattle.sets.proofs.TurnLaws.{none-yet, turn-failed, turn-passed, turns-done}
-use Rattle.sections.specs.Cells.{bytesHave, rowFits}
+use Rattle.sections.specs.Cells.{rowFits}
 use Rattle.sections.proofs.rows_against.Statement.{statement}
 use Rattle.sections.proofs.rows_against.Tie as tie
 
 abbrev Inv-loop : tie.InvT-loop
-Inv-loop locks entries live e₀ e = (e ≤ entries) × (allBelow e (rowFits locks (bytesHave live)) ≡ true)
+Inv-loop locks entries live e₀ e = (e ≤ entries) × (allBelow e (rowFits locks (bytesHave live 0)) ≡ true)
 
 abbrev μ-loop : tie.MeasureT-loop
 μ-loop locks entries live e₀ e = entries - e

@@ -1,5 +1,5 @@
 -- `sections::tie_at` meets its contract. Assumes nothing.
-use Rattle.sets.specs.Closing.{tieAt}
+use Rattle.layout.specs.Records.{tieAt}
 use borrow.Author.Needs.{needs}
 use Rattle.sections.proofs.tie_at.Statement.{statement}
 use Rattle.sections.proofs.tie_at.Tie as tie

@@ -2,7 +2,7 @@
 use Prim.Native.Nat.{_<_}
 use native.Mathlib.Omega.{arith}
 use lib.Count.{trailingZeros}
-use Rattle.sets.proofs.Digits.{trailing-hit}
+use Rattle.cells.proofs.Digits.{trailing-hit}
 use Rattle.sets.proofs.Words.{word-without}
 use Rattle.sets.proofs.without_lowest.Statement.{statement}
 use Rattle.sets.proofs.without_lowest.Tie as tie

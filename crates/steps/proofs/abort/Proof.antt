@@ -1,8 +1,8 @@
 -- `steps::abort` meets its contract. Assumes nothing.
 use mathlib.Core.Path.{sym, _∙_}
+use Rattle.rules.specs.Calls.{Abort}
 use Rattle.layout.specs.Codec.{decode}
 use Rattle.replies.proofs.GiveLaws.{turned-back, let-through}
-use Rattle.rules.specs.Calls.{Abort}
 use borrow.Author.Needs.{needs}
 use Rattle.steps.proofs.abort.Statement.{statement}
 use Rattle.steps.proofs.abort.Tie as tie

@@ -1,8 +1,8 @@
 -- `steps::commit` meets its contract. Assumes nothing.
 use mathlib.Core.Path.{sym, _∙_}
+use Rattle.rules.specs.Calls.{Commit}
 use Rattle.layout.specs.Codec.{decode}
 use Rattle.replies.proofs.GiveLaws.{turned-back, let-through}
-use Rattle.rules.specs.Calls.{Commit}
 use borrow.Author.Needs.{needs}
 use Rattle.steps.proofs.commit.Statement.{statement}
 use Rattle.steps.proofs.commit.Tie as tie

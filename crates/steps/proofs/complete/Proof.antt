@@ -1,8 +1,8 @@
 -- `steps::complete` meets its contract. Assumes nothing.
 use mathlib.Core.Path.{sym, _∙_}
+use Rattle.rules.specs.Calls.{Complete}
 use Rattle.layout.specs.Codec.{decode}
 use Rattle.replies.proofs.GiveLaws.{turned-back, let-through}
-use Rattle.rules.specs.Calls.{Complete}
 use borrow.Author.Needs.{needs}
 use Rattle.steps.proofs.complete.Statement.{statement}
 use Rattle.steps.proofs.complete.Tie as tie

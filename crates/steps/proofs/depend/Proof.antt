@@ -1,8 +1,8 @@
 -- `steps::depend` meets its contract. Assumes nothing.
 use mathlib.Core.Path.{sym, _∙_}
+use Rattle.rules.specs.Calls.{Depend}
 use Rattle.layout.specs.Codec.{decode}
 use Rattle.replies.proofs.GiveLaws.{turned-back, let-through}
-use Rattle.rules.specs.Calls.{Depend}
 use borrow.Author.Needs.{needs}
 use Rattle.steps.proofs.depend.Statement.{statement}
 use Rattle.steps.proofs.depend.Tie as tie

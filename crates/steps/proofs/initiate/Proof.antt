@@ -1,8 +1,8 @@
 -- `steps::initiate` meets its contract. Assumes nothing.
 use mathlib.Core.Path.{sym, _∙_}
+use Rattle.rules.specs.Calls.{Initiate}
 use Rattle.layout.specs.Codec.{decode}
 use Rattle.replies.proofs.GiveLaws.{turned-back, let-through}
-use Rattle.rules.specs.Calls.{Initiate}
 use borrow.Author.Needs.{needs}
 use Rattle.steps.proofs.initiate.Statement.{statement}
 use Rattle.steps.proofs.initiate.Tie as tie

@@ -1,8 +1,8 @@
 -- `steps::lock` meets its contract. Assumes nothing.
 use mathlib.Core.Path.{sym, _∙_}
+use Rattle.rules.specs.Calls.{Lock}
 use Rattle.layout.specs.Codec.{decode}
 use Rattle.replies.proofs.GiveLaws.{turned-back, let-through}
-use Rattle.rules.specs.Calls.{Lock}
 use borrow.Author.Needs.{needs}
 use Rattle.steps.proofs.lock.Statement.{statement}
 use Rattle.steps.proofs.lock.Tie as tie

@@ -1,8 +1,8 @@
 -- `steps::parent` meets its contract. Assumes nothing.
+use Rattle.rules.specs.Calls.{Parent}
 use Rattle.layout.specs.Codec.{decode}
 use Rattle.replies.proofs.GiveLaws.{turned-back, let-through}
 use Rattle.steps.proofs.LookLaws.{parent-gives}
-use Rattle.rules.specs.Calls.{Parent}
 use borrow.Author.Needs.{needs}
 use Rattle.steps.proofs.parent.Statement.{statement}
 use Rattle.steps.proofs.parent.Tie as tie

@@ -1,8 +1,8 @@
 -- `steps::permit` meets its contract. Assumes nothing.
 use mathlib.Core.Path.{sym, _∙_}
+use Rattle.rules.specs.Calls.{Permit}
 use Rattle.layout.specs.Codec.{decode}
 use Rattle.replies.proofs.GiveLaws.{turned-back, let-through}
-use Rattle.rules.specs.Calls.{Permit}
 use borrow.Author.Needs.{needs}
 use Rattle.steps.proofs.permit.Statement.{statement}
 use Rattle.steps.proofs.permit.Tie as tie

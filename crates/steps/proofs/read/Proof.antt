@@ -1,8 +1,8 @@
 -- `steps::read` meets its contract. Assumes nothing.
+use Rattle.rules.specs.Calls.{Read}
 use Rattle.layout.specs.Codec.{decode}
 use Rattle.replies.proofs.GiveLaws.{turned-back, let-through}
 use Rattle.steps.proofs.LookLaws.{read-gives}
-use Rattle.rules.specs.Calls.{Read}
 use borrow.Author.Needs.{needs}
 use Rattle.steps.proofs.read.Statement.{statement}
 use Rattle.steps.proofs.read.Tie as tie

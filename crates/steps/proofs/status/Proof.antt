@@ -1,8 +1,8 @@
 -- `steps::status` meets its contract. Assumes nothing.
+use Rattle.rules.specs.Calls.{Status}
 use Rattle.layout.specs.Codec.{decode}
 use Rattle.replies.proofs.GiveLaws.{turned-back, let-through}
 use Rattle.steps.proofs.LookLaws.{status-gives}
-use Rattle.rules.specs.Calls.{Status}
 use borrow.Author.Needs.{needs}
 use Rattle.steps.proofs.status.Statement.{statement}
 use Rattle.steps.proofs.status.Tie as tie

@@ -1,8 +1,8 @@
 -- `steps::value` meets its contract. Assumes nothing.
+use Rattle.rules.specs.Calls.{Value}
 use Rattle.layout.specs.Codec.{decode}
 use Rattle.replies.proofs.GiveLaws.{turned-back, let-through}
 use Rattle.steps.proofs.LookLaws.{value-gives}
-use Rattle.rules.specs.Calls.{Value}
 use borrow.Author.Needs.{needs}
 use Rattle.steps.proofs.value.Statement.{statement}
 use Rattle.steps.proofs.value.Tie as tie

@@ -1,8 +1,8 @@
 -- `steps::write` meets its contract. Assumes nothing.
 use mathlib.Core.Path.{sym, _∙_}
+use Rattle.rules.specs.Calls.{Write}
 use Rattle.layout.specs.Codec.{decode}
 use Rattle.replies.proofs.GiveLaws.{turned-back, let-through}
-use Rattle.rules.specs.Calls.{Write}
 use borrow.Author.Needs.{needs}
 use Rattle.steps.proofs.write.Statement.{statement}
 use Rattle.steps.proofs.write.Tie as tie

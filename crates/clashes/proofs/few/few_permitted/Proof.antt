@@ -7,9 +7,9 @@ use borrow.Author.Tests.{not-true, not-false}
 use mir.Val.{Fits}
 use mir.Syntax.{w64}
 use lib.ListN.{length, getD}
+use Rattle.layout.specs.Records.{permitAt}
 use Rattle.sets.specs.Members.{members, wordsHave}
 use Rattle.sets.proofs.WalkLaws.{lowest-of, rest-without}
-use Rattle.locks.specs.Permits.{permitAt}
 use Rattle.clashes.specs.Beside.{othersFit, entryFits}
 use Rattle.clashes.proofs.WriterLaws.{Walked, walk-start, walk-failed, walk-rises, walk-next, walk-done}
 use Rattle.clashes.proofs.few.few_permitted.Statement.{statement}

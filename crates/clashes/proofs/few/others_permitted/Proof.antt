@@ -4,10 +4,10 @@ use mathlib.Core.Bool.{_||_}
 use borrow.Author.Needs.{needs}
 use lib.ListN.{getD}
 use lib.Bits.{bitOr}
+use Rattle.layout.specs.Records.{permitAt}
+use Rattle.cells.proofs.Digits.{unpack-or}
 use Rattle.sets.specs.Members.{members, wordsHave}
-use Rattle.sets.proofs.Digits.{unpack-or}
 use Rattle.sets.proofs.Words.{ofWords, join-words}
-use Rattle.locks.specs.Permits.{permitAt}
 use Rattle.clashes.proofs.BesideLaws.{none-beside}
 use Rattle.clashes.proofs.few.others_permitted.Statement.{statement}
 use Rattle.clashes.proofs.few.others_permitted.Tie as tie

@@ -1,7 +1,7 @@
 -- `clashes::many::add_giver` meets its contract: the giver is added where the permit is to anybody and contains the mode. Assumes nothing.
 use borrow.Author.Needs.{needs}
 use Rattle.rules.specs.Locks.{contains, makePermit}
-use Rattle.locks.specs.Permits.{permitAt}
+use Rattle.layout.specs.Records.{permitAt}
 use Rattle.clashes.specs.Beside.{permitsAnybody}
 use Rattle.clashes.proofs.many.add_giver.Statement.{statement}
 use Rattle.clashes.proofs.many.add_giver.Tie as tie

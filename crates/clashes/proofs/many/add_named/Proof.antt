@@ -3,8 +3,8 @@ use mathlib.Core.Path.{_∙_, ap₂}
 use Prim.Native.Nat.{ℕ, _+_, _*_}
 use borrow.Author.Needs.{needs}
 use lib.ListN.{getD}
+use Rattle.layout.specs.Records.{permitAt}
 use Rattle.sets.specs.Members.{members}
-use Rattle.locks.specs.Permits.{permitAt}
 use Rattle.clashes.specs.Beside.{serves}
 use Rattle.clashes.proofs.BesideLaws.{named-added}
 use Rattle.clashes.proofs.many.add_named.Statement.{statement}

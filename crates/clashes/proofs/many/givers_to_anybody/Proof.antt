@@ -3,8 +3,8 @@ use mathlib.Core.Path.{_≡_, _∙_, ap}
 use Prim.Native.Nat.{ℕ, _≤_, _-_}
 use native.Mathlib.Omega.{arith}
 use borrow.Author.Needs.{needs}
+use Rattle.layout.specs.Records.{permitAt}
 use Rattle.sets.specs.Members.{members}
-use Rattle.locks.specs.Permits.{permitAt}
 use Rattle.clashes.specs.Permits.{anyOf}
 use Rattle.clashes.specs.Beside.{permitsAnybody}
 use Rattle.clashes.proofs.PlaceLaws.{any-none, any-next}

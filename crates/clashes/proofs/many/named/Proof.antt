@@ -5,8 +5,8 @@ use Prim.Native.Nat.{ℕ, _≤_, _-_, _+_}
 use native.Mathlib.Omega.{arith}
 use borrow.Author.Needs.{needs}
 use Rattle.rules.specs.Window.{PermitRecord}
+use Rattle.layout.specs.Records.{permitAt}
 use Rattle.sets.specs.Members.{members}
-use Rattle.locks.specs.Permits.{permitAt}
 use Rattle.clashes.specs.Permits.{anyOf}
 use Rattle.clashes.specs.Beside.{names}
 use Rattle.clashes.proofs.PlaceLaws.{any-none, any-next, any-skipped}

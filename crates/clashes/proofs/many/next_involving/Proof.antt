@@ -3,7 +3,7 @@ use Prim.Native.Nat.{_≤_, _-_}
 use native.Mathlib.Omega.{arith}
 use borrow.Author.Needs.{needs}
 use Rattle.rules.specs.Locks.{makePermit}
-use Rattle.locks.specs.Permits.{permitAt}
+use Rattle.layout.specs.Records.{permitAt}
 use Rattle.clashes.specs.Permits.{involves}
 use Rattle.clashes.proofs.PlaceLaws.{Skipped, skipped-more, first-found, first-nothing}
 use Rattle.clashes.proofs.many.next_involving.Statement.{statement}

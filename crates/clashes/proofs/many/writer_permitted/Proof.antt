@@ -1,7 +1,7 @@
 -- `clashes::many::writer_permitted` meets its contract: nobody is left once permits to anybody, or all permits, have been looked at. Assumes nothing.
 use borrow.Author.Needs.{needs}
+use Rattle.layout.specs.Records.{permitAt}
 use Rattle.sets.specs.Members.{members}
-use Rattle.locks.specs.Permits.{permitAt}
 use Rattle.clashes.proofs.BesideLaws.{none-left, none-rest}
 use Rattle.clashes.proofs.many.writer_permitted.Statement.{statement}
 use Rattle.clashes.proofs.many.writer_permitted.Tie as tie

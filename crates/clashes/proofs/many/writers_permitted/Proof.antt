@@ -3,10 +3,10 @@ use Prim.Native.Nat.{_-_}
 use native.Mathlib.Omega.{arith}
 use borrow.Author.Needs.{needs}
 use borrow.Author.Tests.{not-true, not-false}
+use Rattle.layout.specs.Records.{permitAt}
 use Rattle.sets.specs.Members.{members}
-use Rattle.locks.specs.Permits.{permitAt}
-use Rattle.clashes.specs.Beside.{writerFits, writersFit}
 use Rattle.sets.proofs.WalkLaws.{lowest-of, rest-without}
+use Rattle.clashes.specs.Beside.{writerFits, writersFit}
 use Rattle.clashes.proofs.WriterLaws.{Walked, walk-start, walk-failed, walk-rises, walk-next, walk-done}
 use Rattle.clashes.proofs.many.writers_permitted.Statement.{statement}
 use Rattle.clashes.proofs.many.writers_permitted.Tie as tie

@@ -2,7 +2,7 @@
 use native.Mathlib.Omega.{arith}
 use borrow.Author.Needs.{needs}
 use Rattle.sets.specs.Members.{members}
-use Rattle.sets.proofs.CloseLaws.{low-most}
+use Rattle.sets.proofs.ClosureLaws.{low-most}
 use Rattle.sets.proofs.SpreadLaws.{spread-section}
 use Rattle.sets.proofs.ChangeSet.close.Statement.{statement}
 use Rattle.sets.proofs.ChangeSet.close.Tie as tie

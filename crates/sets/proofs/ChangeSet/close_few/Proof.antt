@@ -5,12 +5,12 @@ use native.Mathlib.Omega.{arith}
 use borrow.Author.Needs.{needs}
 use lib.ListN.{length}
 use Rattle.rules.specs.Base.{countBelow}
+use Rattle.layout.specs.Records.{tieAt}
 use Rattle.sets.specs.Members.{members, wordsHave}
-use Rattle.sets.specs.Closing.{tieAt}
 use Rattle.sets.proofs.MemberLaws.{members-all, agree-at}
 use Rattle.sets.proofs.Words.{ofWords}
 use Rattle.sets.proofs.PassLaws.{Growing, growing-start, growing-less}
-use Rattle.sets.proofs.CloseLaws.{pass-keeps, pass-grows, closed-section}
+use Rattle.sets.proofs.ClosureLaws.{pass-keeps, pass-grows, closed-section}
 use Rattle.sets.proofs.ChangeSet.close_few.Statement.{statement}
 use Rattle.sets.proofs.ChangeSet.close_few.Tie as tie
 

@@ -4,7 +4,7 @@ use mathlib.Core.Bool.{_&&_}
 use borrow.Author.Needs.{needs}
 use lib.ListN.{length, getD}
 use lib.Bits.{bitAnd}
-use Rattle.sets.proofs.Digits.{unpack-and}
+use Rattle.cells.proofs.Digits.{unpack-and}
 use Rattle.sets.proofs.Words.{join-words}
 use Rattle.sets.proofs.ChangeSet.common.Statement.{statement}
 use Rattle.sets.proofs.ChangeSet.common.Tie as tie

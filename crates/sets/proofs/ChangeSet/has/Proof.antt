@@ -2,12 +2,12 @@
 use mathlib.Core.Path.{refl}
 use borrow.Author.Needs.{needs}
 use Rattle.layout.specs.Codec.{unpack}
-use Rattle.sets.specs.Members.{members}
+use Rattle.sets.specs.Members.{members, wordsHave}
 use Rattle.sets.proofs.ChangeSet.has.Statement.{statement}
 use Rattle.sets.proofs.ChangeSet.has.Tie as tie
 
 returns : tie.Need-returns
-unfolding members unpack
+unfolding members wordsHave unpack
 returns c = refl
 
 pub has-spec : {M : Type 1} → statement M

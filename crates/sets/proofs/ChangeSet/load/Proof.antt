@@ -15,7 +15,7 @@ returns-2 c = let a = c .before .before .before .before .args in λ k. c .empty2
 returns-3 : tie.Need-returns-3
 returns-3 c =
     let a = c .before .before .before .before .before .before .before .args in
-    loaded-words (a .bytes .now) (a .at) _ _ _ _ (omega arith) (c .before .before .before .word-at .ensures) (c .before .before .word-at2 .ensures) (c .before .word-at3 .ensures) (c .word-at4 .ensures)
+    loaded-words (a .bytes .now) (a .at) _ _ _ _ (omega arith) (c .before .before .before .read-u64 .ensures) (c .before .before .read-u642 .ensures) (c .before .read-u643 .ensures) (c .read-u644 .ensures)
 
 pub load-spec : {M : Type 1} → statement M
 load-spec =

@@ -20,7 +20,7 @@ returns-3 c =
     let w2 = w3 .before .before .before .before in
     let w1 = w2 .before .before .before .before in
     let a = w1 .before .before .before .before .before .before .args in
-    stored-words (a .self) (a .bytes .now) _ _ _ _ (a .at) (omega arith) (w1 .store-word .ensures) (w2 .store-word2 .ensures) (w3 .store-word3 .ensures) (w4 .store-word4 .ensures)
+    stored-words (a .self) (a .bytes .now) _ _ _ _ (a .at) (omega arith) (w1 .write-u64 .ensures) (w2 .write-u642 .ensures) (w3 .write-u643 .ensures) (w4 .write-u644 .ensures)
 
 pub store-spec : {M : Type 1} → statement M
 store-spec =

@@ -4,7 +4,7 @@ use mathlib.Core.Bool.{_||_}
 use borrow.Author.Needs.{needs}
 use lib.ListN.{length, getD}
 use lib.Bits.{bitOr}
-use Rattle.sets.proofs.Digits.{unpack-or}
+use Rattle.cells.proofs.Digits.{unpack-or}
 use Rattle.sets.proofs.Words.{join-words}
 use Rattle.sets.proofs.ChangeSet.unite.Statement.{statement}
 use Rattle.sets.proofs.ChangeSet.unite.Tie as tie

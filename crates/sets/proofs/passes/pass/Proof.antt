@@ -4,9 +4,10 @@ use Prim.Native.Nat.{ℕ, _-_, _<_, _≤_}
 use native.Mathlib.Omega.{arith}
 use borrow.Author.Needs.{needs}
 use lib.ListN.{length}
-use Rattle.sets.proofs.PassLaws.{passed-next, place-below}
+use Rattle.layout.specs.Records.{tieAt}
 use Rattle.sets.specs.Members.{wordsHave}
-use Rattle.sets.specs.Closing.{tieAt, tieFrom, passed}
+use Rattle.sets.specs.Closure.{tieFrom, passed}
+use Rattle.sets.proofs.PassLaws.{passed-next, place-below}
 use Rattle.sets.proofs.passes.pass.Statement.{statement}
 use Rattle.sets.proofs.passes.pass.Tie as tie
 

@@ -1,6 +1,6 @@
 -- `sets::passes::place` meets its contract: the definition by cases. Assumes nothing.
 use borrow.Author.Needs.{needs}
-use Rattle.sets.specs.Closing.{placeFrom}
+use Rattle.sets.specs.Closure.{placeFrom}
 use Rattle.sets.proofs.passes.place.Statement.{statement}
 use Rattle.sets.proofs.passes.place.Tie as tie
 

@@ -3,10 +3,11 @@ use mathlib.Core.Path.{_≡_, sym, fun-ext, _∙_}
 use mathlib.Core.Bool.{true, false, true≢false}
 use native.Mathlib.Omega.{arith}
 use borrow.Author.Needs.{needs}
+use Rattle.rules.proofs.TieLaws.{group-is, is-group}
+use Rattle.layout.specs.Records.{tieOf}
 use Rattle.sets.specs.Members.{wordsHave}
-use Rattle.sets.specs.Closing.{tieOf}
 use Rattle.sets.proofs.PassLaws.{pulled-none, pulled-add-follower, pulled-add-leader}
-use Rattle.sets.proofs.CloseLaws.{follows-of, follows-low, follows-high, group-is, is-group}
+use Rattle.sets.proofs.ClosureLaws.{follows-of, follows-low, follows-high}
 use Rattle.sets.proofs.passes.pull.Statement.{statement}
 use Rattle.sets.proofs.passes.pull.Tie as tie
 

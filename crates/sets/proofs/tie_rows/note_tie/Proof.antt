@@ -3,9 +3,10 @@ use mathlib.Core.Path.{_∙_}
 use native.Mathlib.Omega.{arith}
 use borrow.Author.Needs.{needs}
 use Rattle.rules.proofs.BaseLaws.{no-true}
-use Rattle.sets.specs.Closing.{tieOf}
+use Rattle.rules.proofs.TieLaws.{group-is, is-group}
+use Rattle.layout.specs.Records.{tieOf}
 use Rattle.sets.specs.Spreading.{rowHas}
-use Rattle.sets.proofs.CloseLaws.{follows-of, follows-low, follows-high, group-is, is-group}
+use Rattle.sets.proofs.ClosureLaws.{follows-of, follows-low, follows-high}
 use Rattle.sets.proofs.SpreadLaws.{lead-group, lead-one, lead-none}
 use Rattle.sets.proofs.tie_rows.note_tie.Statement.{statement}
 use Rattle.sets.proofs.tie_rows.note_tie.Tie as tie

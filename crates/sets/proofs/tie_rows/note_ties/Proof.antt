@@ -5,7 +5,7 @@ use Prim.Native.Nat.{ℕ, _-_, _≤_}
 use native.Mathlib.Omega.{arith}
 use borrow.Author.Needs.{needs}
 use lib.ListN.{length}
-use Rattle.sets.specs.Closing.{tieAt}
+use Rattle.layout.specs.Records.{tieAt}
 use Rattle.sets.specs.Spreading.{leadsIn, rowHas}
 use Rattle.sets.proofs.SpreadLaws.{leads-none, leads-more}
 use Rattle.sets.proofs.tie_rows.note_ties.Statement.{statement}

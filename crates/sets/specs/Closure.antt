@@ -1,13 +1,12 @@
--- The least set that holds a set and is closed under ties, a bound on the ties' ends, and one pass over ties in bytes. Assumes nothing.
+-- The least set that holds a set and is closed under ties, and one pass over ties in bytes. Assumes nothing.
 use mathlib.Core.Bool.{Bool, cond, _&&_, _||_}
 use mathlib.Core.List.{List}
-use Prim.Native.Nat.{ℕ, zero, suc, _+_, _-_, _*_}
-use lib.Dec.{leb, ltb, eqb}
-use lib.ListN.{getD}
-use Rattle.rules.specs.Base.{all}
+use Prim.Native.Nat.{ℕ, zero, suc, _-_}
+use lib.Dec.{leb, eqb}
 use Rattle.rules.specs.Sets.{Set, Rel}
 use Rattle.rules.specs.Window.{TieRecord}
 use Rattle.rules.specs.Ties.{isGroup, grouped, falling, leading}
+use Rattle.layout.specs.Records.{tieAt}
 use Rattle.sets.specs.declared.Along.{Along}
 use Rattle.sets.specs.declared.Along.the-variants.{Groups, Falls, Arrows}
 
@@ -16,10 +15,6 @@ unfoldable pub relation : Along → List TieRecord → Rel
 relation Groups ts = grouped ts
 relation Falls ts = falling ts
 relation Arrows ts = leading ts
-
--- both ends of each tie are below n
-unfoldable pub endsBelow : ℕ → List TieRecord → Bool
-endsBelow n ts = all (λ t. ltb t.leader n && ltb t.follower n) ts
 
 -- the kinds that are gone along from leader to follower are those from a lowest one to 3
 abbrev pub lowKind : Along → ℕ
@@ -30,13 +25,6 @@ lowKind Arrows = 1
 -- a tie of the kind is gone along from leader to follower
 unfoldable pub follows : ℕ → ℕ → Bool
 follows low kind = leb low kind && leb kind 3
-
--- a tie by its parts, and tie j of a section: kind, leader and follower in the first three of its four bytes
-abbrev pub tieOf : ℕ → ℕ → ℕ → TieRecord
-tieOf kind leader follower = record { kind = kind; leader = leader; follower = follower }
-
-unfoldable pub tieAt : List ℕ → ℕ → TieRecord
-tieAt bs j = tieOf (getD bs (j * 4) 0) (getD bs (j * 4 + 1) 0) (getD bs (j * 4 + 2) 0)
 
 -- the place that a pass over n ties comes to after j others: from the first on, or from the last back; and the tie there
 unfoldable pub placeFrom : Bool → ℕ → ℕ → ℕ

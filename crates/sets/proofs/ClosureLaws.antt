@@ -1,81 +1,24 @@
--- Ties in bytes as a list of ties, and the least set that none of them adds to as the closure of the rules. Assumes nothing.
-use mathlib.Core.Path.{_≡_, refl, sym, ap, _∙_}
-use mathlib.Core.Bool.{Bool, true, false, _&&_}
+-- The least set that none of the ties adds to is the closure of the rules. Assumes nothing.
+use mathlib.Core.Path.{_≡_, refl, sym}
+use mathlib.Core.Bool.{Bool, true, false}
 use mathlib.Core.List.{List}
 use mathlib.Core.Logic.{_⊎_, inl, inr, ⊎-elim}
-use Prim.Native.Nat.{ℕ, _+_, _*_, _≤_, _<_}
+use Prim.Native.Nat.{ℕ, _*_, _≤_, _<_}
 use native.Mathlib.Omega.{arith}
 use lib.Dec.{leb, eqb}
 use lib.ListN.{length, getD}
 use Rattle.rules.specs.Sets.{Set, closure}
 use Rattle.rules.specs.Window.{TieRecord}
 use Rattle.rules.specs.Ties.{isWait, isFall, isGroup, isArrow, tied, grouped, falling, leading}
-use Rattle.rules.proofs.BaseLaws.{or-left, or-right, or-cases, and-left, and-right, both-ways, eqb-eq, eqb-same, le-of, leb-true, Same, same, other, same?}
-use Rattle.rules.proofs.ListLaws.{any-at, any-place}
+use Rattle.rules.proofs.BaseLaws.{or-left, or-right, or-cases, and-left, and-right, both-ways, eqb-eq, le-of, leb-true, Same, same, other, same?}
 use Rattle.rules.proofs.SetLaws.{closure-holds, closure-closed, closure-to}
-use Rattle.layout.specs.Codec.{noTie, tieBytes, tieByte, tieSection}
-use Rattle.layout.proofs.SectionLaws.{length-table}
-use Rattle.layout.proofs.RecordLaws.{placeByte, place-at, first-byte}
+use Rattle.layout.specs.Codec.{noTie, tieSection}
+use Rattle.layout.specs.Records.{tieAt}
+use Rattle.layout.proofs.ReadLaws.{Stands, tied-place, tied-at, section-read, section-ends}
 use Rattle.sets.specs.declared.Along.{Along}
 use Rattle.sets.specs.declared.Along.the-variants.{Groups, Falls, Arrows}
-use Rattle.sets.specs.Closing.{relation, lowKind, follows, placeFrom, tieAt, tieFrom, passed}
+use Rattle.sets.specs.Closure.{relation, lowKind, follows, placeFrom, tieFrom, passed}
 use Rattle.sets.proofs.PassLaws.{Inside, passed-keeps, pulled-follower, pulled-leader, pulled-within, Stable, Growing, place-below, growing-on, growing-end}
-
--- TIES IN BYTES
-pub length-ties : (ts : List TieRecord) → length (tieSection ts) ≡ 2048
-unfolding tieSection
-length-ties ts = length-table 2048 0 (tieByte ts)
-
--- a place with a tie's bytes holds the tie
-pub tie-again : (bs : List ℕ) (x : TieRecord) (j : ℕ) → ((k : ℕ) → k < 4 → getD bs (j * 4 + k) 0 ≡ getD (tieBytes x) k 0) → tieAt bs j ≡ x
-unfolding tieAt tieBytes
-tie-again bs x j f = λ i. record { kind = (first-byte bs (j * 4) ∙ f 0 (omega arith)) i; leader = f 1 (omega arith) i; follower = f 2 (omega arith) i }
-
--- the ties read from a section are those that it holds
-pub tie-read : (ts : List TieRecord) (j : ℕ) → j < 512 → tieAt (tieSection ts) j ≡ getD ts j noTie
-unfolding tieSection tieByte placeByte
-tie-read ts j h = tie-again (tieSection ts) (getD ts j noTie) j (λ k l. place-at 4 (omega arith) tieBytes noTie 512 ts j k h l)
-
--- of the first n ties of a section
-pub section-read : (bs : List ℕ) (ts : List TieRecord) (n : ℕ) → 4 * n ≤ length bs → bs ≡ tieSection ts → (j : ℕ) → j < n → tieAt bs j ≡ getD ts j noTie
-section-read bs ts n room e j h = ap (λ l. tieAt l j) e ∙ tie-read ts j (omega (arith, length-ties ts, ap length e))
-
--- their ends are bytes
-pub section-ends : (bs : List ℕ) (ts : List TieRecord) (n : ℕ) → 4 * n ≤ length bs → bs ≡ tieSection ts → ((i : ℕ) → getD bs i 0 < 256)
-    → (j : ℕ) → j < n → (getD ts j noTie .leader < 256) × (getD ts j noTie .follower < 256)
-unfolding tieAt
-section-ends bs ts n room e bytes j h = let q = section-read bs ts n room e j h in (rw (← q) (bytes (j * 4 + 1)), rw (← q) (bytes (j * 4 + 2)))
-
--- a tie of a kind that stands, by its place
-pub record Stands (ts : List TieRecord) (kind : ℕ → Bool) (a b : ℕ) : Type 0 where
-  pub place : ℕ
-  pub below : place < length ts
-  pub has : kind (getD ts place noTie .kind) ≡ true
-  pub leads : getD ts place noTie .leader ≡ a
-  pub follow : getD ts place noTie .follower ≡ b
-
-module _ (ts : List TieRecord) (kind : ℕ → Bool) where
-  pub tied-place : (a b : ℕ) → tied ts kind a b ≡ true → Stands ts kind a b
-  unfolding tied
-  tied-place a b e = let m = any-place (λ t. kind t.kind && eqb t.leader a && eqb t.follower b) noTie ts e in go (m .0) (m .1) (m .2)
-    where
-      go : (j : ℕ) → j < length ts → kind (getD ts j noTie .kind) && eqb (getD ts j noTie .leader) a && eqb (getD ts j noTie .follower) b ≡ true → Stands ts kind a b
-      go j h q =
-          let t = getD ts j noTie in
-          let r = and-left (kind (t .kind) && eqb (t .leader) a) (eqb (t .follower) b) q in
-          record {
-            place = j;
-            below = h;
-            has = and-left (kind (t .kind)) (eqb (t .leader) a) r;
-            leads = eqb-eq (t .leader) a (and-right (kind (t .kind)) (eqb (t .leader) a) r);
-            follow = eqb-eq (t .follower) b (and-right (kind (t .kind) && eqb (t .leader) a) (eqb (t .follower) b) q);
-          }
-
-  -- a tie at a place ties its leader to its follower
-  pub tied-at : (j : ℕ) → j < length ts → kind (getD ts j noTie .kind) ≡ true → tied ts kind (getD ts j noTie .leader) (getD ts j noTie .follower) ≡ true
-  unfolding tied
-  tied-at j h e = any-at (λ t. kind t.kind && eqb t.leader (getD ts j noTie .leader) && eqb t.follower (getD ts j noTie .follower)) noTie ts j h
-      (rw (e, eqb-same (getD ts j noTie .leader), eqb-same (getD ts j noTie .follower)))
 
 -- KINDS
 pub follows-of : (low k : ℕ) → low ≤ k → k ≤ 3 → follows low k ≡ true
@@ -90,15 +33,6 @@ follows-low low k e = le-of low k (and-left (leb low k) (leb k 3) e)
 pub follows-high : (low k : ℕ) → follows low k ≡ true → k ≤ 3
 unfolding follows
 follows-high low k e = le-of k 3 (and-right (leb low k) (leb k 3) e)
-
--- kind 3 is the group's
-pub group-is : (k : ℕ) → k ≡ 3 → isGroup k ≡ true
-unfolding isGroup
-group-is k e = rw e
-
-pub is-group : (k : ℕ) → isGroup k ≡ true → k ≡ 3
-unfolding isGroup
-is-group k e = eqb-eq k 3 e
 
 -- a group tie is gone along from leader to follower whatever the others
 pub low-most : (along : Along) → lowKind along ≤ 3

@@ -1,0 +1,84 @@
+-- Records read by their places: the bytes of a record are the record, and what is read from a section is what it holds. Assumes nothing.
+use mathlib.Core.Path.{_≡_, _∙_, ap}
+use mathlib.Core.Bool.{Bool, true, _&&_}
+use mathlib.Core.List.{List}
+use Prim.Native.Nat.{ℕ, _+_, _*_, _≤_, _<_}
+use native.Mathlib.Omega.{arith}
+use lib.Dec.{eqb}
+use lib.ListN.{length, getD}
+use Rattle.rules.specs.Window.{PermitRecord, TieRecord}
+use Rattle.rules.specs.Locks.{makePermit}
+use Rattle.rules.specs.Ties.{tied}
+use Rattle.rules.proofs.BaseLaws.{and-left, and-right, eqb-eq, eqb-same}
+use Rattle.rules.proofs.ListLaws.{any-at, any-place}
+use Rattle.layout.specs.Codec.{noPermit, permitBytes, permitByte, permitSection, noTie, tieBytes, tieByte, tieSection}
+use Rattle.layout.specs.Records.{permitAt, tieAt}
+use Rattle.layout.proofs.SectionLaws.{length-table}
+use Rattle.layout.proofs.RecordLaws.{placeByte, place-at, first-byte}
+
+-- PERMITS
+-- a place with a permit's bytes holds the permit
+pub permit-again : (bs : List ℕ) (x : PermitRecord) (j : ℕ) → ((k : ℕ) → k < 4 → getD bs (j * 4 + k) 0 ≡ getD (permitBytes x) k 0) → permitAt bs j ≡ x
+unfolding permitAt makePermit permitBytes
+permit-again bs x j f = λ i. record { entry = (first-byte bs (j * 4) ∙ f 0 (omega arith)) i; giver = f 1 (omega arith) i; taker = f 2 (omega arith) i; ops = f 3 (omega arith) i }
+
+-- so does each place of a section
+pub permit-read : (ps : List PermitRecord) (j : ℕ) → j < 1024 → permitAt (permitSection ps) j ≡ getD ps j noPermit
+unfolding permitSection permitByte placeByte
+permit-read ps j h = permit-again (permitSection ps) (getD ps j noPermit) j (λ k l. place-at 4 (omega arith) permitBytes noPermit 1024 ps j k h l)
+
+-- TIES
+pub length-ties : (ts : List TieRecord) → length (tieSection ts) ≡ 2048
+unfolding tieSection
+length-ties ts = length-table 2048 0 (tieByte ts)
+
+-- a place with a tie's bytes holds the tie
+pub tie-again : (bs : List ℕ) (x : TieRecord) (j : ℕ) → ((k : ℕ) → k < 4 → getD bs (j * 4 + k) 0 ≡ getD (tieBytes x) k 0) → tieAt bs j ≡ x
+unfolding tieAt tieBytes
+tie-again bs x j f = λ i. record { kind = (first-byte bs (j * 4) ∙ f 0 (omega arith)) i; leader = f 1 (omega arith) i; follower = f 2 (omega arith) i }
+
+-- the ties read from a section are those that it holds
+pub tie-read : (ts : List TieRecord) (j : ℕ) → j < 512 → tieAt (tieSection ts) j ≡ getD ts j noTie
+unfolding tieSection tieByte placeByte
+tie-read ts j h = tie-again (tieSection ts) (getD ts j noTie) j (λ k l. place-at 4 (omega arith) tieBytes noTie 512 ts j k h l)
+
+-- of the first n ties of a section
+pub section-read : (bs : List ℕ) (ts : List TieRecord) (n : ℕ) → 4 * n ≤ length bs → bs ≡ tieSection ts → (j : ℕ) → j < n → tieAt bs j ≡ getD ts j noTie
+section-read bs ts n room e j h = ap (λ l. tieAt l j) e ∙ tie-read ts j (omega (arith, length-ties ts, ap length e))
+
+-- their ends are bytes
+pub section-ends : (bs : List ℕ) (ts : List TieRecord) (n : ℕ) → 4 * n ≤ length bs → bs ≡ tieSection ts → ((i : ℕ) → getD bs i 0 < 256)
+    → (j : ℕ) → j < n → (getD ts j noTie .leader < 256) × (getD ts j noTie .follower < 256)
+unfolding tieAt
+section-ends bs ts n room e bytes j h = let q = section-read bs ts n room e j h in (rw (← q) (bytes (j * 4 + 1)), rw (← q) (bytes (j * 4 + 2)))
+
+-- a tie of a kind that stands, by its place
+pub record Stands (ts : List TieRecord) (kind : ℕ → Bool) (a b : ℕ) : Type 0 where
+  pub place : ℕ
+  pub below : place < length ts
+  pub has : kind (getD ts place noTie .kind) ≡ true
+  pub leads : getD ts place noTie .leader ≡ a
+  pub follow : getD ts place noTie .follower ≡ b
+
+module _ (ts : List TieRecord) (kind : ℕ → Bool) where
+  pub tied-place : (a b : ℕ) → tied ts kind a b ≡ true → Stands ts kind a b
+  unfolding tied
+  tied-place a b e = let m = any-place (λ t. kind t.kind && eqb t.leader a && eqb t.follower b) noTie ts e in go (m .0) (m .1) (m .2)
+    where
+      go : (j : ℕ) → j < length ts → kind (getD ts j noTie .kind) && eqb (getD ts j noTie .leader) a && eqb (getD ts j noTie .follower) b ≡ true → Stands ts kind a b
+      go j h q =
+          let t = getD ts j noTie in
+          let r = and-left (kind (t .kind) && eqb (t .leader) a) (eqb (t .follower) b) q in
+          record {
+            place = j;
+            below = h;
+            has = and-left (kind (t .kind)) (eqb (t .leader) a) r;
+            leads = eqb-eq (t .leader) a (and-right (kind (t .kind)) (eqb (t .leader) a) r);
+            follow = eqb-eq (t .follower) b (and-right (kind (t .kind) && eqb (t .leader) a) (eqb (t .follower) b) q);
+          }
+
+  -- a tie at a place ties its leader to its follower
+  pub tied-at : (j : ℕ) → j < length ts → kind (getD ts j noTie .kind) ≡ true → tied ts kind (getD ts j noTie .leader) (getD ts j noTie .follower) ≡ true
+  unfolding tied
+  tied-at j h e = any-at (λ t. kind t.kind && eqb t.leader (getD ts j noTie .leader) && eqb t.follower (getD ts j noTie .follower)) noTie ts j h
+      (rw (e, eqb-same (getD ts j noTie .leader), eqb-same (getD ts j noTie .follower)))
