@@ -259,7 +259,7 @@ fn lowest_source(left: [u64; 4], blocked: [u64; 4]) -> u32
         .lowest()
 }
 
-// Whether the arrows between labels close no cycle: each label that no arrow comes to is taken away with its arrows, and none is left.
+// Whether the arrows between labels close no cycle: of the labels that arrows go from, each that no arrow comes to is taken away with its arrows, and none is left.
 fn eliminate(
     ties: &[u8],
     count: usize,

@@ -1,4 +1,4 @@
--- Each call's effect on the bytes of a sound window, from what the tables' functions leave of their sections. Assumes nothing.
+-- The effect of initiate, begin, complete and lock on the bytes of a sound window, from what the tables' functions leave of their sections. Assumes nothing.
 use mathlib.Core.Path.{_≡_, refl, sym, _∙_}
 use mathlib.Core.Bool.{Bool, true, false}
 use mathlib.Core.List.{List}

@@ -1,4 +1,4 @@
-// What a call that changes a change or a lock does when it is not refused, on the bytes of a sound window. A number that is not refused fits a byte.
+// What a call that changes a change or a lock does when it is not refused, on the bytes of a sound window. The number of a change, an entry or a mode that is not refused fits a byte.
 use layout::Changes;
 use layout::Entries;
 use layout::Header;

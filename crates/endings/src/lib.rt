@@ -85,7 +85,7 @@ fn end_all(w: &mut [u8], ended: ChangeSet, how: u8)
     set_ended(w, entries, ended, how);
 }
 
-// The log records of ended changes are undone, in a copy of the values: two parts of a window cannot be lent at once.
+// The log records of ended changes are undone, in a copy of the values: of one window, a part to write and a part to read cannot be lent at once.
 fn undo(w: &mut [u8], ended: ChangeSet)
     requires { ⌜ length (now w) ≡ windowSize ⌝ }
     requires { ⌜ soundBytes (now w) ≡ true ⌝ }

@@ -1,4 +1,4 @@
--- Tests of ties that the contracts cite. Assumes nothing.
+-- Who leads whom: the leaders of wait and fall ties to the members of a set. Assumes nothing.
 use mathlib.Core.Bool.{Bool, _&&_}
 use mathlib.Core.List.{List}
 use Prim.Native.Nat.{ℕ}

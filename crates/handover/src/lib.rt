@@ -81,7 +81,7 @@ fn permitted(w: &[u8], tables: &[u8], count: usize) -> bool
     )
 }
 
-// The window takes the tables that were handed over; so are the log's records.
+// The window takes the locks and permits as they were handed over, and its log's records are handed over too.
 fn take_over(w: &mut [u8], tables: &[u8], count: usize, from: u8, to: u8, every: bool, entry: u8)
     requires { ⌜ length (now w) ≡ windowSize ⌝ }
     requires { ⌜ soundBytes (now w) ≡ true ⌝ }

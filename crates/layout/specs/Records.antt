@@ -1,4 +1,4 @@
--- The record at a place of a section, read from the section's bytes. Assumes nothing.
+-- The record at a place of a section, read from the section's bytes; and a bound on the ends of ties. Words of inner contracts. Assumes nothing.
 use mathlib.Core.Bool.{Bool, _&&_}
 use mathlib.Core.List.{List}
 use Prim.Native.Nat.{ℕ, _+_, _*_}

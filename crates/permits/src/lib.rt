@@ -159,7 +159,7 @@ fn is_served(s: &[u8], i: usize, taker: u8, mode: u8) -> bool
     ((to == taker) | (to == 0)) & ((operations == mode) | (operations == 3))
 }
 
-// Its giver is put into the set, if it is.
+// The giver of the row at a place is put into the set, if the row serves the taker.
 fn note(set: ChangeSet, s: &[u8], i: usize, taker: u8, mode: u8) -> ChangeSet
     requires { ⌜ 4 * i + 4 ≤ length (now s) ⌝ }
     ensures { λ r. ⌜ ((k : ℕ) → members r k ≡ members set k || (eqb (rowAt (now (s .entry)) i .k2) k && serves taker mode (rowAt (now (s .entry)) i))) ⌝ }

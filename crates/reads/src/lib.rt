@@ -72,7 +72,7 @@ pub fn status(w: &[u8], c: u32) -> u8
     requires { ⌜ soundBytes (now w) ≡ true ⌝ }
     ensures { λ r. ⌜ r ≡ decode (now (w .entry)) .status c ⌝ }
 {
-    if c > 255 {
+    if Changes::MOST < c as usize {
         return 0;
     }
     places::status(&w[Changes::AT..Line::AT], c as u8)
@@ -84,7 +84,7 @@ pub fn parent(w: &[u8], c: u32) -> u8
     requires { ⌜ soundBytes (now w) ≡ true ⌝ }
     ensures { λ r. ⌜ r ≡ decode (now (w .entry)) .parent c ⌝ }
 {
-    if c > 255 {
+    if Changes::MOST < c as usize {
         return 0;
     }
     places::parent(&w[Changes::AT..Line::AT], c as u8)
@@ -96,7 +96,7 @@ pub fn value(w: &[u8], e: u32) -> u32
     requires { ⌜ soundBytes (now w) ≡ true ⌝ }
     ensures { λ r. ⌜ r ≡ decode (now (w .entry)) .value e ⌝ }
 {
-    if e > 255 {
+    if Entries::MOST <= e as usize {
         return 0;
     }
     places::value(&w[Entries::AT..Changes::AT], e as u8)
@@ -108,10 +108,10 @@ pub fn held(w: &[u8], e: u32, c: u32) -> u8
     requires { ⌜ soundBytes (now w) ≡ true ⌝ }
     ensures { λ r. ⌜ r ≡ decode (now (w .entry)) .held e c ⌝ }
 {
-    if e > 255 {
+    if Entries::MOST <= e as usize {
         return 0;
     }
-    if c > 255 {
+    if Changes::MOST < c as usize {
         return 0;
     }
     locks::mode(&w[Locks::AT..Permits::AT], e as u8, c as u8)

@@ -1,4 +1,4 @@
--- Each call's effect on the bytes of a sound window, from what the tables' functions leave of their sections. Assumes nothing.
+-- The effect of write, permit and depend on the bytes of a sound window, from what the tables' functions leave of their sections. Assumes nothing.
 use mathlib.Core.Path.{_≡_, refl, sym, _∙_}
 use mathlib.Core.Bool.{true, false}
 use mathlib.Core.List.{List, [], _∷_, _++_}

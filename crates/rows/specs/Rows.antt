@@ -50,10 +50,6 @@ rowAt l i = row (getD l (4 * i) 0) (getD l (4 * i + 1) 0) (getD l (4 * i + 2) 0)
 unfoldable pub rows : ℕ → List ℕ → List Row
 rows n l = table n 0 (rowAt l)
 
--- a row has the key of three bytes
-unfoldable pub hasKey : ℕ → ℕ → ℕ → Row → Bool
-hasKey a b c r = eqb r.k1 a && eqb r.k2 b && eqb r.k3 c
-
 -- the place of a key of rank k among the first n rows
 pub record Found (l : List ℕ) (n k at : ℕ) : Type 0 where
   -- the rows before it have lower keys

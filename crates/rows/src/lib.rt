@@ -6,11 +6,11 @@ ghost use mathlib.Core.Path.{_≡_};
 ghost use mathlib.Core.Bool.{true, cond, not};
 ghost use Prim.Native.Nat.{ℕ, _+_, _-_, _*_, _≤_, _<_};
 ghost use lib.ListN.{length, getD, set};
-ghost use Rattle.rules.specs.Base.{any, rising, exceeds};
+ghost use Rattle.rules.specs.Base.{rising, exceeds};
 ghost use Rattle.rules.specs.Locks.{contains};
 ghost use Rattle.cells.specs.Part.{part, patch};
 ghost use Rattle.sets.specs.Members.{members, wordsHave};
-ghost use Rattle.rows.specs.Rows.{row, rowKey, rankOf, rank, rowBytes, rowAt, rows, hasKey, standsAt, Found, addRow, unlessOver, spared, Stored, Closed};
+ghost use Rattle.rows.specs.Rows.{row, rowKey, rankOf, rank, rowBytes, rowAt, rows, standsAt, Found, addRow, unlessOver, spared, Stored, Closed};
 
 // A key of three bytes as one number.
 fn key(a: u8, b: u8, c: u8) -> u32
@@ -57,15 +57,6 @@ fn stands_at(s: &[u8], n: usize, at: usize, a: u8, b: u8, c: u8) -> bool
         return false;
     }
     key_at(s, at) == key(a, b, c)
-}
-
-// Whether a row of the key stands among the first n, where they are in order.
-pub fn stands(s: &[u8], n: usize, a: u8, b: u8, c: u8) -> bool
-    requires { ⌜ 4 * n ≤ length (now s) ⌝ }
-    ensures { λ r. ⌜ (rising rowKey (rows n (now (s .entry))) ≡ true → r ≡ any (hasKey a b c) (rows n (now (s .entry)))) ⌝ }
-{
-    let at = find(s, n, a, b, c);
-    stands_at(s, n, at, a, b, c)
 }
 
 // Whether a row of the key can be added.

@@ -7,7 +7,7 @@ use native.Mathlib.Nat.{eq-or-lt-of-le, le-of-suc-le-suc, not-suc-le-zero}
 use native.Mathlib.Omega.{arith}
 use lib.Dec.{leb, ltb, eqb, T, ltb→lt, nltb→le}
 use borrow.Author.Tests as tests
-use Rattle.rules.specs.Base.{put, allBelow, anyBelow, countBelow, exceeds as above}
+use Rattle.rules.specs.Base.{put, allBelow, anyBelow, countBelow, exceeds}
 
 pub or-left : (a b : Bool) → a ≡ true → a || b ≡ true
 or-left a b e = rw e
@@ -173,25 +173,25 @@ allBelow-at (suc n) p e c h = go (same? c n) (allBelow-at n p (and-left (allBelo
     go (other q) ih = ih (omega arith)
 
 -- a largest figure
-pub over-false : (m n : ℕ) → m ≤ n → above m n ≡ false
-unfolding above
+pub over-false : (m n : ℕ) → m ≤ n → exceeds m n ≡ false
+unfolding exceeds
 over-false zero n h = refl
 over-false (suc m) zero h = absurd (not-suc-le-zero h)
 over-false (suc m) (suc n) h = over-false m n (le-of-suc-le-suc h)
 
-pub over-true : (m n : ℕ) → n < m → above m n ≡ true
-unfolding above
+pub over-true : (m n : ℕ) → n < m → exceeds m n ≡ true
+unfolding exceeds
 over-true zero n h = absurd (not-suc-le-zero h)
 over-true (suc m) zero h = refl
 over-true (suc m) (suc n) h = over-true m n (le-of-suc-le-suc h)
 
-pub within-of : (m n : ℕ) → not (above m n) ≡ true → m ≤ n
-unfolding above
+pub within-of : (m n : ℕ) → not (exceeds m n) ≡ true → m ≤ n
+unfolding exceeds
 within-of zero n e = zero-le
 within-of (suc m) zero e = absurd (false≢true e)
 within-of (suc m) (suc n) e = suc-le-suc (within-of m n e)
 
-pub over-less : (m k n : ℕ) → k ≤ m → not (above m n) ≡ true → not (above k n) ≡ true
+pub over-less : (m k n : ℕ) → k ≤ m → not (exceeds m n) ≡ true → not (exceeds k n) ≡ true
 over-less m k n h e = ap not (over-false k n (omega (arith, within-of m n e)))
 
 -- the last number below a bound, and the others

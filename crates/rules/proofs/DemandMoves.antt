@@ -111,7 +111,7 @@ calm-status W c s lc ls = record {
     ons d (same q) h = and-both (ltb d (suc (W .given))) _ (and-left (ltb d (suc (W .given))) _ h) ls
     ons d (other n) h = h
 
--- the outcome of a call of which the actionOf is d
+-- the outcome of a call whose action is d, if it is answered 0
 abbrev Moved : Window → Action → Outcome → Type 0
 Moved W d o = Move W (cond (eqb (o .answer) 0) d nothing) (o .number) (o .after)
 

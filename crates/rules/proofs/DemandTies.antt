@@ -27,7 +27,7 @@ pub data Bound (W : Window) (p : List Event) (l f : ℕ) : Type 0 where
   stands : live W l ≡ true → live W f ≡ true → grouped (W .ties) l f ≡ true → Bound W p l f
   over : isEnded (shownStatus W l) ≡ true → shownStatus W f ≡ shownStatus W l → endedAt p f ≡ endedAt p l → Bound W p l f
 
--- a made arrow stands, or its follower was aborted, or its leader has ended, as the kind asks, and the follower has not or action later
+-- a made arrow stands, or its follower was aborted, or its leader has ended, as the kind asks, and the follower has not, or ended later
 pub data Led (W : Window) (p : List Event) (k l f : ℕ) : Type 0 where
   stands : live W l ≡ true → live W f ≡ true → tied (W .ties) (ofKind k) l f ≡ true → Led W p k l f
   fell : shownStatus W f ≡ 5 → Led W p k l f

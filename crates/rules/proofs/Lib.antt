@@ -1,5 +1,5 @@
 -- What is proved of the rules, by subject. Other crates cite a file X here as Rattle.rules.proofs.X.
--- the starred calls and others by computation; a sound window and single faults; the words of demand 3 on one list
+-- the starred calls and others by computation; a sound window and single faults; the words of demand 3 on two lists
 pub mod Computing
 pub mod Cases
 pub mod SoundCases

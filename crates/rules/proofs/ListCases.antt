@@ -1,4 +1,4 @@
--- The words of a list of calls, worked out on one list. Assumes nothing.
+-- The words of a list of calls, worked out on two lists. Assumes nothing.
 use mathlib.Core.Path.{_≡_, refl}
 use mathlib.Core.Bool.{true, false}
 use mathlib.Core.List.{List, [], _∷_, _++_}

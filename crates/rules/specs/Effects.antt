@@ -67,7 +67,7 @@ moveHeld from to on held e c = cond (on e) (cond (eqb c to) (max (held e from) (
 unfoldable pub moveLog : ℕ → ℕ → Set → List LogRecord → List LogRecord
 moveLog from to on = map (λ r. cond (eqb r.owner from && on r.entry) (record { owner = to; entry = r.entry; before = r.before }) r)
 
--- "moves … the permits that from has given. A permit that would be from to to itself is dropped. Permits received do not move"
+-- "moves … the permits that *from* has given. … A permit that would be from *to* to itself is dropped. Permits received do not move"
 unfoldable pub movePermits : ℕ → ℕ → Set → List PermitRecord → List PermitRecord
 movePermits from to on ps =
     foldr addPermit (keep (λ p. not (eqb p.giver from && on p.entry)) ps)

@@ -108,15 +108,15 @@ unfoldable pub walks : ℕ → ℕ → List Call
 walks zero n = []
 walks (suc k) n = table n 1 Commit ++ walks k n
 
--- what holds of the calls made so far
+-- what holds of the calls made so far, in demand 3's words (docs/PROOFS.md) where they are not document 01's
 pub record Kept (p : List Event) : Type 0 where
   -- an end is for good: whoever has ended has the status with which it ended
   pub lasts : (c : ℕ) → endedAt p c ≢ 0 → status p c ≡ endedAs p c
   -- who committed did so in the same call as all it was grouped with
   pub groups : (c d : ℕ) → status p c ≡ 4 → Grouped p c d → (status p d ≡ 4) × (endedAt p d ≡ endedAt p c)
-  -- "after each leader it must fall with had committed"
+  -- after each leader it must fall with had committed
   pub falls : (c d : ℕ) → status p c ≡ 4 → tieMade p 2 d c ≡ true → (status p d ≡ 4) × (endedAt p d < endedAt p c)
-  -- "and each it must wait for had ended"
+  -- and each it must wait for had ended
   pub waits : (c d : ℕ) → status p c ≡ 4 → tieMade p 1 d c ≡ true → (isEnded (status p d) ≡ true) × (endedAt p d < endedAt p c)
   -- "Two changes whose locks in the book clash on an entry need a permit in the book for that entry, from one of the two to the other or to anybody, that contains the taker's held mode"
   pub clashes : (e a b : ℕ) → a ≢ b → clash (book p .held e a) (book p .held e b) ≡ true

@@ -54,7 +54,7 @@ checks L W (Status c) = 3 if noChange W c ∷ []
 checks L W (Parent c) = 3 if noChange W c ∷ []
 checks L W (Value e) = 4 if noEntry W e ∷ []
 
--- "gives the first refusal that applies"; 0 if none does
+-- the first refusal that applies, in checking order; 0 if none does
 unfoldable pub firstFailed : List Check → ℕ
 firstFailed [] = 0
 firstFailed (k ∷ l) = cond k.fails k.code (firstFailed l)

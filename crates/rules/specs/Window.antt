@@ -31,7 +31,7 @@ pub record PermitRecord : Type 0 where
   pub entry : ℕ
   pub ops : ℕ
 
--- "Ties: kind 1 wait, 2 fall, 3 group; a leader and a follower" (commit, abort and group-commit dependencies)
+-- "Ties: kind 1 wait (commit dependency), 2 fall (abort dependency), 3 group; a leader and a follower" (group: group-commit dependency)
 pub record TieRecord : Type 0 where
   pub kind : ℕ
   pub leader : ℕ

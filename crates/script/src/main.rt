@@ -21,12 +21,14 @@ fn flush(out: &[u8], used: usize) -> bool
     io::write_all(STDOUT_FILENO, &out[0..used])
 }
 
-// Reads a piece of the input, feeds it and writes what it printed. At the end of the input, and after a broken first line, `more` is false.
+// Where the listing stands after a turn, and whether another one follows.
 struct Progress {
     stand: Stand,
     more: bool,
 }
 
+// Reads a piece of the input, feeds it and writes what it printed. No turn follows at the end of the input, after a broken first line
+// and where the output cannot be written.
 fn turn(s: Stand, line: &mut [u8], memory: &mut [u8], out: &mut [u8]) -> Progress
     requires { ⌜ length (now line) ≡ 65 ⌝ }
     requires { ⌜ s .held ≤ 65 ⌝ }

@@ -1,4 +1,4 @@
--- The least set that holds a set and is closed under ties, and one pass over ties in bytes. Assumes nothing.
+-- Which ties a closure goes along, and what one pass over ties in bytes adds to a set. Assumes nothing.
 use mathlib.Core.Bool.{Bool, cond, _&&_, _||_}
 use mathlib.Core.List.{List}
 use Prim.Native.Nat.{ℕ, zero, suc, _-_}

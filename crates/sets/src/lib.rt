@@ -99,17 +99,6 @@ impl ChangeSet {
         }
     }
 
-    // The members of both.
-    pub fn common(self, other: ChangeSet) -> ChangeSet
-        ensures { λ r. ⌜ ((k : ℕ) → members r k ≡ members self k && members other k) ⌝ }
-    {
-        let a = self.words;
-        let b = other.words;
-        ChangeSet {
-            words: [a[0] & b[0], a[1] & b[1], a[2] & b[2], a[3] & b[3]],
-        }
-    }
-
     // Whether there is no member.
     pub fn is_empty(self) -> bool
         ensures { λ r. ⌜ r ≡ not (anyBelow 256 (members self)) ⌝ }

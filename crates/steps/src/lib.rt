@@ -1,4 +1,4 @@
-// Each call on a sound window's bytes: the first refusal that applies, or what the call does.
+// Each call but open and delegate on a sound window's bytes: the first refusal that applies, or what the call does.
 use replies::Reply;
 use replies::done;
 use replies::refused;

@@ -1,4 +1,4 @@
--- Parts of text: what single bytes part, and whether two texts are the same. Assumes nothing.
+-- Parts of text: the pieces between single bytes, and the lines. Assumes nothing.
 use mathlib.Core.Bool.{cond}
 use mathlib.Core.List.{List, [], _∷_}
 use Prim.Native.Nat.{ℕ}

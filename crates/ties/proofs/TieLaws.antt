@@ -7,17 +7,17 @@ use native.Mathlib.Omega.{arith}
 use lib.Dec.{ltb, eqb}
 use lib.ListN.{length, replicate}
 use borrow.Author.Tests.{ltb-true, ltb-false, eqb-true}
-use Rattle.rules.specs.Base.{any, exceeds, rising}
-use Rattle.rules.specs.Sets.{Set, only}
+use Rattle.rules.specs.Base.{exceeds, rising}
+use Rattle.rules.specs.Sets.{Set}
 use Rattle.rules.specs.Window.{limits, TieRecord, tieKey}
-use Rattle.rules.specs.Ties.{isGroup, makeTie, addTie, tied}
+use Rattle.rules.specs.Ties.{isGroup, makeTie, addTie}
 use Rattle.rules.specs.Locks.{contains}
 use Rattle.rules.proofs.BaseLaws.{and-left, and-right}
 use Rattle.layout.specs.Codec.{tieBytes, tieSection}
 use Rattle.layout.proofs.RecordLaws.{ties-flat}
-use Rattle.rows.specs.Rows.{Row, row, rowKey, rowBytes, rows, hasKey, uniteRows, addRow, unlessOver, spared, Stored, Closed, Holds}
-use Rattle.rows.proofs.TableLaws.{TableOf, flat-rows, table-rising, table-any, table-fits, table-added, table-left}
-use Rattle.ties.specs.Tables.{tieStands, tiesLeft}
+use Rattle.rows.specs.Rows.{Row, row, rowKey, rowBytes, rows, uniteRows, addRow, unlessOver, spared, Stored, Closed, Holds}
+use Rattle.rows.proofs.TableLaws.{TableOf, flat-rows, table-rising, table-fits, table-added, table-left}
+use Rattle.ties.specs.Tables.{tiesLeft}
 
 -- a tie's row
 unfoldable pub tieRow : TieRecord → Row
@@ -94,10 +94,3 @@ module _ (ts : List TieRecord) (n : ℕ) (bytes : List ℕ) (len : length ts ≡
     pub ties-added : (r : ℕ) (after : List ℕ) → Stored (unlessOver 512 (addRow x (rows n bytes)) (rows n bytes)) bytes r after → Holds tieSection (unlessOver (limits .ties) (addTie t ts) ts) r after
     unfolding addTie limits
     ties-added r after s = table-added tieRow tieKey tieSection 512 tie-table ts n bytes len is few (λ p q. q) tie-united t r after (rw e at s)
-
-    -- a tie stands where a row of its key does
-    pub ties-stand : (b : Bool) → b ≡ any (hasKey (x .k1) (x .k2) (x .k3)) (rows n bytes) → b ≡ tieStands t ts
-    unfolding tieStands tied only hasKey tieRow
-    ties-stand b h =
-        h ∙ ap (λ (y : Row). any (hasKey (y .k1) (y .k2) (y .k3)) (rows n bytes)) e
-        ∙ table-any tieRow tieKey tieSection 512 tie-table ts n bytes len is few (hasKey t.kind t.leader t.follower) (λ u. eqb u.kind t.kind && eqb u.leader t.leader && eqb u.follower t.follower) (λ u. refl)

@@ -1,14 +1,9 @@
 -- What the calls on the table of ties leave, in the rules' terms. Assumes nothing.
-use mathlib.Core.Bool.{Bool, not, _||_}
+use mathlib.Core.Bool.{not, _||_}
 use mathlib.Core.List.{List}
 use Rattle.rules.specs.Base.{keep}
-use Rattle.rules.specs.Sets.{Set, only}
+use Rattle.rules.specs.Sets.{Set}
 use Rattle.rules.specs.Window.{TieRecord}
-use Rattle.rules.specs.Ties.{tied}
-
--- a tie stands already
-unfoldable pub tieStands : TieRecord → List TieRecord → Bool
-tieStands t ts = tied ts (only t.kind) t.leader t.follower
 
 -- "An ended change loses its … ties": those that are left when a set of changes ends (the ties of the rules' `endAll`)
 unfoldable pub tiesLeft : Set → List TieRecord → List TieRecord

@@ -12,7 +12,7 @@ ghost use Rattle.rules.specs.Ties.{makeTie, addTie};
 ghost use Rattle.layout.specs.Codec.{tiesSize, tieSection};
 ghost use Rattle.sets.specs.Members.{members};
 ghost use Rattle.rows.specs.Rows.{unlessOver, Holds};
-ghost use Rattle.ties.specs.Tables.{tieStands, tiesLeft};
+ghost use Rattle.ties.specs.Tables.{tiesLeft};
 
 // The ends of a tie as they are stored.
 struct Ends {
@@ -41,16 +41,6 @@ pub fn fits(ties: &[u8], count: usize, kind: u8, leader: u8, follower: u8) -> bo
 {
     let e = stored_ends(kind, leader, follower);
     rows::fits(ties, count, Ties::MOST, kind, e.leader, e.follower)
-}
-
-// Whether a tie stands already, as it would be stored.
-pub fn stands(ties: &[u8], count: usize, kind: u8, leader: u8, follower: u8) -> bool
-    requires { ⌜ length (now ties) ≡ tiesSize ⌝ }
-    requires { ⌜ count ≤ 512 ⌝ }
-    ensures { λ r. ⌜ ((ts : List TieRecord) → length ts ≡ count → now (ties .entry) ≡ tieSection ts → rising tieKey ts ≡ true → r ≡ tieStands (makeTie kind leader follower) ts) ⌝ }
-{
-    let e = stored_ends(kind, leader, follower);
-    rows::stands(ties, count, kind, e.leader, e.follower)
 }
 
 // A tie is entered, unless it stands or there is no room. What comes back is how many ties there are.
