@@ -142,7 +142,7 @@ fn full() -> Set {
         (Parent(255), None),
         (Value(255), None),
     ];
-    set("full", "every table full: one writer and four readers of each entry", &w, calls, (Read(255, 0), None))
+    set("full", "every table full but for five ties: one writer and four readers of each entry", &w, calls, (Read(255, 0), None))
 }
 
 /// The last entry has a single writer.

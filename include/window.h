@@ -6,6 +6,9 @@
  *   length  how many bytes are lent; those past the window are neither read nor changed
  * and gives an answer and a second number. The number is 0 where nothing is said of it.
  * A call answered otherwise than WINDOW_DONE has changed no byte. Where several answers apply, the lowest is given.
+ *
+ * Entries are numbered from 0, changes from 1. Calls on one window must not overlap. A call needs some 25 KiB of stack.
+ * 'Answers' lists what a call can answer besides WINDOW_DONE and WINDOW_NOT_SOUND, by the numbers of enum window_answer.
  */
 #ifndef WINDOW_H
 #define WINDOW_H
@@ -21,7 +24,7 @@ extern "C" {
 #define WINDOW_SIZE 37952
 
 typedef struct window_reply {
-    uint32_t answer;
+    uint32_t answer; /* one of enum window_answer */
     uint32_t number;
 } window_reply;
 
@@ -29,8 +32,8 @@ enum window_answer {
     WINDOW_DONE = 0,
     WINDOW_NOT_SOUND = 1,    /* the memory is shorter than a window or, in every call but open, not a sound window */
     WINDOW_BAD_ENTRIES = 2,  /* the number of entries is not 1 to 256 */
-    WINDOW_NO_CHANGE = 3,    /* a change number is 0 or was never given */
-    WINDOW_NO_ENTRY = 4,     /* an entry number is not below the number of entries */
+    WINDOW_NO_CHANGE = 3,    /* a change number is 0 (but for a parent or taker) or was never given */
+    WINDOW_NO_ENTRY = 4,     /* an entry number is not below the number of entries, nor a delegate's every entry */
     WINDOW_BAD_OPTION = 5,   /* a mode, operations or kind is not one of its values */
     WINDOW_SAME_CHANGE = 6,  /* the two changes are the same */
     WINDOW_BAD_STATUS = 7,   /* a change's status does not suit */
@@ -50,7 +53,7 @@ enum window_status {
     WINDOW_STATUS_ABORTED = 5
 };
 
-/* Modes of a lock; united with | they are the operations of a permit. */
+/* Modes of a lock; a permit's operations are one of them, or both united with |. */
 enum window_mode {
     WINDOW_MODE_READ = 1,
     WINDOW_MODE_WRITE = 2
@@ -68,32 +71,38 @@ enum window_tie {
 /*
  * A fresh window, whatever the memory held.
  *   entries  how many entries it has, 1 to 256; all values are 0
+ * Answers: 2
  */
 window_reply window_open(uint8_t *window, size_t length, uint32_t entries);
 
 /*
  * A new change; number: its number, from 1 up.
  *   parent  0 for none, or the running change that it belongs to
+ * Answers: 3, 7, 11
  */
 window_reply window_initiate(uint8_t *window, size_t length, uint32_t parent);
 
 /*
  * The change runs.
  *   change  an initiated change
+ * Answers: 3, 7
  */
 window_reply window_begin(uint8_t *window, size_t length, uint32_t change);
 
 /*
  * The change has done its work and may be committed.
  *   change  a running change
+ * Answers: 3, 7
  */
 window_reply window_complete(uint8_t *window, size_t length, uint32_t change);
 
 /*
- * Locks an entry, or answers WINDOW_BLOCKED.
+ * Locks an entry until the change ends; done too where a lock that it holds covers the mode.
+ * WINDOW_BLOCKED where another change holds a lock that clashes and has not permitted the mode to this one or to anybody.
  *   change  the running change that wants the lock
  *   entry   the entry to lock
  *   mode    WINDOW_MODE_READ, or WINDOW_MODE_WRITE, which covers reading
+ * Answers: 3, 4, 5, 7, 20
  */
 window_reply window_lock(uint8_t *window, size_t length, uint32_t change, uint32_t entry, uint32_t mode);
 
@@ -101,6 +110,7 @@ window_reply window_lock(uint8_t *window, size_t length, uint32_t change, uint32
  * Reads an entry; number: its value.
  *   change  a running change that holds a lock on the entry
  *   entry   the entry to read
+ * Answers: 3, 4, 7, 8
  */
 window_reply window_read(uint8_t *window, size_t length, uint32_t change, uint32_t entry);
 
@@ -108,64 +118,76 @@ window_reply window_read(uint8_t *window, size_t length, uint32_t change, uint32
  * Writes an entry and logs the value before.
  *   change  a running change that holds the write lock on the entry
  *   entry   the entry to write
- *   value   the new value
+ *   value   the new value, any number
+ * Answers: 3, 4, 7, 8, 11
  */
 window_reply window_write(uint8_t *window, size_t length, uint32_t change, uint32_t entry, uint32_t value);
 
 /*
- * Lets another change lock an entry beside the giver's own lock.
+ * Lets another change lock an entry beside the giver's own lock. It reaches only the two that it names.
  *   giver       the live change that permits
  *   taker       the live change that is permitted, or WINDOW_ANYBODY
  *   entry       the entry it is permitted on
- *   operations  WINDOW_MODE_READ, WINDOW_MODE_WRITE or both united; added to those permitted before
+ *   operations  WINDOW_MODE_READ, WINDOW_MODE_WRITE or both united; added to those permitted before.
+ *               Each is permitted by itself: WINDOW_MODE_WRITE alone does not permit a read lock
+ * Answers: 3, 4, 5, 6, 7, 11
  */
 window_reply window_permit(uint8_t *window, size_t length, uint32_t giver, uint32_t taker, uint32_t entry,
                            uint32_t operations);
 
 /*
- * Hands over log records, locks and given permits.
+ * Hands over log records, locks and given permits. A lock meets one that `to` holds as the greater; permits that `from` was
+ * given stay; one that `to` would give to itself is dropped. WINDOW_CLASH where two locks would then clash without a permit.
  *   from   the live change that hands over
  *   to     the live change that receives
  *   entry  the entry handed over, or WINDOW_EVERY_ENTRY
+ * Answers: 3, 4, 6, 7, 10
  */
 window_reply window_delegate(uint8_t *window, size_t length, uint32_t from, uint32_t to, uint32_t entry);
 
 /*
- * Ties two changes.
+ * Ties two changes; done too where the tie stands already.
+ * WINDOW_CYCLE where a path of wait and fall ties would return to the group that it begins in.
  *   kind      WINDOW_TIE_WAIT, WINDOW_TIE_FALL or WINDOW_TIE_GROUP
  *   leader    the live change that goes first; in a group either of the two
- *   follower  the live change that goes after
+ *   follower  the live change that goes after; in a group the other one
+ * Answers: 3, 5, 6, 7, 9, 11
  */
 window_reply window_depend(uint8_t *window, size_t length, uint32_t kind, uint32_t leader, uint32_t follower);
 
 /*
  * Commits the change with its whole group; number: how many changes this call ended.
  * WINDOW_BLOCKED where a member is not completed or a leader has not ended; number: the lowest of those.
- *   change  the change to commit; one that is committed gives 0
+ *   change  the change to commit; one that is committed is done with number 0, one that is aborted is WINDOW_ENDED
+ * Answers: 3, 20, 21
  */
 window_reply window_commit(uint8_t *window, size_t length, uint32_t change);
 
 /*
  * Aborts the change with all that must fall with it and undoes their writes; number: how many changes this call ended.
- *   change  the change to abort; one that is aborted gives 0
+ *   change  the change to abort; one that is aborted is done with number 0, one that is committed is WINDOW_ENDED
+ * Answers: 3, 21
  */
 window_reply window_abort(uint8_t *window, size_t length, uint32_t change);
 
 /*
- * Number: the status of a change.
- *   change  any change
+ * Number: the status of a change, one of enum window_status.
+ *   change  any change that was given, ended ones too
+ * Answers: 3
  */
 window_reply window_status(uint8_t *window, size_t length, uint32_t change);
 
 /*
- * Number: the parent of a change.
- *   change  any change
+ * Number: the parent of a change, 0 for none.
+ *   change  any change that was given, ended ones too
+ * Answers: 3
  */
 window_reply window_parent(uint8_t *window, size_t length, uint32_t change);
 
 /*
  * Number: the value of an entry.
  *   entry  the entry to look at; no lock is needed
+ * Answers: 4
  */
 window_reply window_value(uint8_t *window, size_t length, uint32_t entry);
 

@@ -53,7 +53,7 @@ pub fn tied() -> Window {
     w
 }
 
-/// Full tables, as ordinary use would fill them: one writer and a few readers of each entry.
+/// Full tables (but for five ties), as ordinary use would fill them: one writer and a few readers of each entry.
 pub fn full() -> Window {
     let mut w = with_changes(256, 255);
     for e in 0..=255u8 {
@@ -88,7 +88,7 @@ pub fn all_permits() -> Window {
     w
 }
 
-/// Ties against the order of the numbers, and group ties across.
+/// A wait and a fall tie from each change to the one below it.
 pub fn all_ties() -> Window {
     let mut w = with_changes(1, 255);
     w.ties = (2..=255u8).map(|c| tie(1, c, c - 1)).chain((2..=255u8).map(|c| tie(2, c, c - 1))).collect();

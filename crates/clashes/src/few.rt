@@ -1,6 +1,6 @@
 // An entry with few permits: for each writer one pass over them strikes out whom they let stand beside it.
-use crate::PERMIT;
 use crate::serves;
+use layout::Permits;
 use sets::ChangeSet;
 use sets::among;
 use sets::remove;
@@ -53,7 +53,7 @@ fn strike(
     ensures { λ _. ⌜ length (now (left .exit)) ≡ 4 ⌝ }
     ensures { λ _. ⌜ ((k : ℕ) → k ≢ writer → wordsHave (now (left .exit)) k ≡ wordsHave (now (left .entry)) k && not (beside (wordsHave (now (readers .entry))) (wordsHave (now (writers .entry))) writer k (permitAt (now (permits .entry)) place))) ⌝ }
 {
-    let at = place * PERMIT;
+    let at = place * Permits::RECORD;
     let giver = permits[at + 1];
     let taker = permits[at + 2];
     let operations = permits[at + 3];

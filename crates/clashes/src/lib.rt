@@ -4,6 +4,8 @@ mod few;
 mod many;
 
 use few::few_permitted;
+use layout::Locks;
+use layout::Permits;
 use many::givers_to_anybody;
 use many::writers_permitted;
 ghost use mathlib.Core.Path.{_≡_};
@@ -19,13 +21,6 @@ ghost use Rattle.clashes.specs.Holds.{Holds};
 ghost use Rattle.clashes.specs.Permits.{permitFrom, FirstOf, fromEntry};
 ghost use Rattle.clashes.specs.Beside.{serves, entryFits, contested};
 
-// The bytes of an entry's locks, and of one of its two sets.
-const ENTRY: usize = layout::Locks::SIZE / layout::Entries::MOST;
-
-const SET: usize = ENTRY / 2;
-
-// The bytes of a permit.
-const PERMIT: usize = layout::Permits::SIZE / layout::Permits::MOST;
 // The permits that are passed over at once. An entry with fewer has each looked at.
 const BLOCK: usize = 16;
 
@@ -36,7 +31,7 @@ fn any_held(locks: &[u8], at: usize) -> bool
 {
     let mut acc: u8 = 0;
     let mut i: usize = 0;
-    while i < SET {
+    while i < Locks::SET {
         acc = acc | locks[at + i];
         i += 1;
     }
@@ -48,8 +43,8 @@ fn contested(locks: &[u8], entry: u8) -> bool
     requires { ⌜ length (now locks) ≡ locksSize ⌝ }
     ensures { λ r. ⌜ ((held : ℕ → ℕ → ℕ) → now (locks .entry) ≡ lockSection held → r ≡ contested (inMode 1 (held entry)) (inMode 2 (held entry))) ⌝ }
 {
-    let at = entry as usize * ENTRY;
-    if !any_held(locks, at + SET) {
+    let at = entry as usize * Locks::ENTRY;
+    if !any_held(locks, at + Locks::SET) {
         return false;
     }
     if any_held(locks, at) {
@@ -66,7 +61,7 @@ fn first_from(permits: &[u8], count: usize, start: usize, entry: usize) -> usize
 {
     let mut j = start;
     while j < count {
-        if entry <= permits[j * PERMIT] as usize {
+        if entry <= permits[j * Permits::RECORD] as usize {
             return j;
         }
         j += 1;
@@ -90,8 +85,8 @@ fn entry_permitted(locks: &[u8], entry: u8, permits: &[u8], from: usize, to: usi
 {
     let readers = locks::readers(locks, entry);
     let writers = locks::writers(locks, entry);
-    let start = from * PERMIT;
-    let end = to * PERMIT;
+    let start = from * Permits::RECORD;
+    let end = to * Permits::RECORD;
     let own = &permits[start..end];
     let count = to - from;
     if count < BLOCK {

@@ -1,7 +1,7 @@
 // An entry with many permits: those to anybody by sets, and those that name a writer past blocks without its number.
 use crate::BLOCK;
-use crate::PERMIT;
 use crate::serves;
+use layout::Permits;
 use sets::ChangeSet;
 use sets::among;
 ghost use mathlib.Core.Path.{_≡_};
@@ -42,7 +42,7 @@ fn in_block(permits: &[u8], at: usize, byte: u8) -> bool
 {
     let mut found = false;
     let mut i: usize = 0;
-    while i < BLOCK * PERMIT {
+    while i < BLOCK * Permits::RECORD {
         found = found | (permits[at + i] == byte);
         i += 1;
     }
@@ -57,7 +57,7 @@ fn skip_blocks(permits: &[u8], count: usize, start: usize, change: u8) -> usize
 {
     let mut j = start;
     while BLOCK <= count - j {
-        if in_block(permits, j * PERMIT, change) {
+        if in_block(permits, j * Permits::RECORD, change) {
             return j;
         }
         j += BLOCK;
@@ -73,7 +73,7 @@ fn next_involving(permits: &[u8], count: usize, start: usize, change: u8) -> usi
 {
     let mut j = skip_blocks(permits, count, start, change);
     while j < count {
-        let at = j * PERMIT;
+        let at = j * Permits::RECORD;
         if (permits[at + 1] == change) | (permits[at + 2] == change) {
             return j;
         }
@@ -87,7 +87,7 @@ fn add_giver(s: ChangeSet, permits: &[u8], place: usize, mode: u8) -> ChangeSet
     requires { ⌜ 4 * place + 4 ≤ length (now permits) ⌝ }
     ensures { λ r. ⌜ ((k : ℕ) → members r k ≡ members s k || permitsAnybody mode k (permitAt (now (permits .entry)) place)) ⌝ }
 {
-    let at = place * PERMIT;
+    let at = place * Permits::RECORD;
     let operations = permits[at + 3];
     let contains = (operations == mode) | (operations == 3);
     add_if(s, permits[at + 1], (permits[at + 2] == 0) & contains)
@@ -119,7 +119,7 @@ fn add_named(
     requires { ⌜ 4 * place + 4 ≤ length (now permits) ⌝ }
     ensures { λ r. ⌜ ((k : ℕ) → members r k ≡ members s k || names (members readers) (members writers) writer k (permitAt (now (permits .entry)) place)) ⌝ }
 {
-    let at = place * PERMIT;
+    let at = place * Permits::RECORD;
     let giver = permits[at + 1];
     let taker = permits[at + 2];
     let operations = permits[at + 3];

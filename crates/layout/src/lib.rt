@@ -53,6 +53,11 @@ impl Locks {
     pub const AT: usize = 3136;
 
     pub const SIZE: usize = 16384;
+
+    // The bytes of an entry, its readers and its writers; and of one of the two sets.
+    pub const ENTRY: usize = 64;
+
+    pub const SET: usize = 32;
 }
 
 pub struct Permits;
@@ -63,6 +68,9 @@ impl Permits {
     pub const SIZE: usize = 4096;
 
     pub const MOST: usize = 1024;
+
+    // The bytes of a permit.
+    pub const RECORD: usize = 4;
 }
 
 pub struct Ties;
@@ -73,6 +81,9 @@ impl Ties {
     pub const SIZE: usize = 2048;
 
     pub const MOST: usize = 512;
+
+    // The bytes of a tie.
+    pub const RECORD: usize = 4;
 }
 
 pub struct Log;
@@ -83,6 +94,9 @@ impl Log {
     pub const SIZE: usize = 12288;
 
     pub const MOST: usize = 2048;
+
+    // The bytes of a record.
+    pub const RECORD: usize = 6;
 }
 
 // The largest figures.

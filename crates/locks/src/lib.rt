@@ -1,5 +1,6 @@
 // Locks in the lent section of a window: for each entry the set of its readers and the set of its writers.
 // The contracts speak of every `held`, the lock of each change on each entry, that the section is the bytes of.
+use layout::Locks;
 use sets::ChangeSet;
 ghost use mathlib.Core.Path.{_≡_};
 ghost use Prim.Native.Nat.{ℕ, _+_, _≤_, _<_, max};
@@ -12,23 +13,18 @@ ghost use Rattle.sets.specs.Members.{members, loaded};
 ghost use Rattle.locks.specs.Held.{Modes, NoneFrom, inMode, holding, clashesWith, holdersAmong, rowWithout, released, changedOn, everyEntry};
 ghost use Rattle.locks.specs.Entry.{LocksOf};
 
-// The bytes of an entry's locks, and of one of its two sets.
-const ENTRY: usize = layout::Locks::SIZE / layout::Entries::MOST;
-
-const SET: usize = ENTRY / 2;
-
 // The changes that hold an entry to read.
 pub fn readers(locks: &[u8], entry: u8) -> ChangeSet
     ensures { λ r. ⌜ ((held : ℕ → ℕ → ℕ) → now (locks .entry) ≡ lockSection held → (k : ℕ) → members r k ≡ inMode 1 (held entry) k) ⌝ }
 {
-    ChangeSet::load(locks, entry as usize * ENTRY)
+    ChangeSet::load(locks, entry as usize * Locks::ENTRY)
 }
 
 // The changes that hold an entry to write.
 pub fn writers(locks: &[u8], entry: u8) -> ChangeSet
     ensures { λ r. ⌜ ((held : ℕ → ℕ → ℕ) → now (locks .entry) ≡ lockSection held → (k : ℕ) → members r k ≡ inMode 2 (held entry) k) ⌝ }
 {
-    ChangeSet::load(locks, entry as usize * ENTRY + SET)
+    ChangeSet::load(locks, entry as usize * Locks::ENTRY + Locks::SET)
 }
 
 // The changes that hold an entry.
@@ -45,9 +41,9 @@ pub fn mode(locks: &[u8], entry: u8, change: u8) -> u8
     requires { ⌜ length (now locks) ≡ locksSize ⌝ }
     ensures { λ r. ⌜ ((held : ℕ → ℕ → ℕ) → Modes held → now (locks .entry) ≡ lockSection held → r ≡ held entry change) ⌝ }
 {
-    let at = entry as usize * ENTRY + (change / 8) as usize;
+    let at = entry as usize * Locks::ENTRY + (change / 8) as usize;
     let i = change % 8;
-    (locks[at] >> i) % 2 + (locks[at + SET] >> i) % 2 * 2
+    (locks[at] >> i) % 2 + (locks[at + Locks::SET] >> i) % 2 * 2
 }
 
 // The changes whose lock on an entry clashes with a mode, 1 or 2.
@@ -82,11 +78,11 @@ impl EntryLocks {
     fn store(self, locks: &mut [u8], entry: u8)
         ensures { λ _. ⌜ ((held : ℕ → ℕ → ℕ) (row : ℕ → ℕ) → now (locks .entry) ≡ lockSection held → LocksOf self row → now (locks .exit) ≡ lockSection (put held entry row)) ⌝ }
     {
-        let at = entry as usize * ENTRY;
+        let at = entry as usize * Locks::ENTRY;
         let r = self.readers;
         let w = self.writers;
         r.store(locks, at);
-        w.store(locks, at + SET);
+        w.store(locks, at + Locks::SET);
     }
 
     // With a change's lock in a mode, 0 being none.
@@ -144,8 +140,8 @@ fn touched(locks: &[u8], at: usize, ended: &[u8]) -> bool
 {
     let mut acc: u8 = 0;
     let mut byte: usize = 0;
-    while byte < SET {
-        acc = acc | ((locks[at + byte] | locks[at + SET + byte]) & ended[byte]);
+    while byte < Locks::SET {
+        acc = acc | ((locks[at + byte] | locks[at + Locks::SET + byte]) & ended[byte]);
         byte += 1;
     }
     acc != 0
@@ -157,7 +153,7 @@ fn release_touched(locks: &mut [u8], entry: u8, bytes: &[u8], ended: ChangeSet)
     requires { ⌜ length (now bytes) ≡ 32 ⌝ }
     ensures { λ _. ⌜ ((held : ℕ → ℕ → ℕ) → ((k : ℕ) → k < 256 → loaded (now (bytes .entry)) 0 k ≡ members ended k) → now (locks .entry) ≡ lockSection held → now (locks .exit) ≡ lockSection (changedOn (only entry) (rowWithout (members ended)) held)) ⌝ }
 {
-    if touched(locks, entry as usize * ENTRY, bytes) {
+    if touched(locks, entry as usize * Locks::ENTRY, bytes) {
         release_entry(locks, entry, ended);
     }
 }
@@ -170,7 +166,7 @@ pub fn release(locks: &mut [u8], entries: usize, ended: ChangeSet)
     if locks.len() < layout::Locks::SIZE {
         return;
     }
-    let mut bytes = [0u8; SET];
+    let mut bytes = [0u8; Locks::SET];
     ended.store(&mut bytes, 0);
     let mut entry: usize = 0;
     while entry < entries {

@@ -2,6 +2,7 @@
 use cells::clear;
 use cells::read_u32;
 use cells::write_u32;
+use layout::Log;
 use places::store_value;
 use sets::ChangeSet;
 use sets::among;
@@ -18,16 +19,13 @@ ghost use Rattle.sets.specs.Members.{members, wordsHave};
 ghost use Rattle.sets.specs.Entries.{onEntries};
 ghost use Rattle.log.specs.Records.{Dropped, movedRecord};
 
-// The bytes of a record.
-const RECORD: usize = 6;
-
 // The owner of record i.
 pub fn owner_at(log: &[u8], i: usize) -> u8
     requires { ⌜ length (now log) ≡ logSize ⌝ }
     requires { ⌜ i < 2048 ⌝ }
     ensures { λ r. ⌜ ((l : List LogRecord) → now (log .entry) ≡ logSection l → r ≡ getD l i noRecord .owner) ⌝ }
 {
-    log[i * RECORD]
+    log[i * Log::RECORD]
 }
 
 // The entry of record i.
@@ -36,7 +34,7 @@ pub fn entry_at(log: &[u8], i: usize) -> u8
     requires { ⌜ i < 2048 ⌝ }
     ensures { λ r. ⌜ ((l : List LogRecord) → now (log .entry) ≡ logSection l → r ≡ getD l i noRecord .entry) ⌝ }
 {
-    log[i * RECORD + 1]
+    log[i * Log::RECORD + 1]
 }
 
 // The value before of record i.
@@ -45,7 +43,7 @@ pub fn before_at(log: &[u8], i: usize) -> u32
     requires { ⌜ i < 2048 ⌝ }
     ensures { λ r. ⌜ ((l : List LogRecord) → now (log .entry) ≡ logSection l → getD l i noRecord .before < 2 ^ 32 → r ≡ getD l i noRecord .before) ⌝ }
 {
-    read_u32(log, i * RECORD + 2)
+    read_u32(log, i * Log::RECORD + 2)
 }
 
 // A record more, after the others.
@@ -54,7 +52,7 @@ pub fn append(log: &mut [u8], count: usize, owner: u8, entry: u8, before: u32)
     requires { ⌜ count < 2048 ⌝ }
     ensures { λ _. ⌜ ((l : List LogRecord) → length l ≡ count → now (log .entry) ≡ logSection l → now (log .exit) ≡ logSection (l ++ (record { owner = owner; entry = entry; before = before } ∷ []))) ⌝ }
 {
-    let at = count * RECORD;
+    let at = count * Log::RECORD;
     log[at] = owner;
     log[at + 1] = entry;
     write_u32(log, at + 2, before);
@@ -67,8 +65,8 @@ fn move_record(log: &mut [u8], i: usize, j: usize)
     requires { ⌜ j ≤ i ⌝ }
     ensures { λ _. ⌜ now (log .exit) ≡ patch (now (log .entry)) (j * 6) (part (now (log .entry)) (i * 6) 6) ⌝ }
 {
-    let from = i * RECORD;
-    let to = j * RECORD;
+    let from = i * Log::RECORD;
+    let to = j * Log::RECORD;
     let a = log[from];
     let b = log[from + 1];
     let c = log[from + 2];
@@ -91,7 +89,7 @@ fn keep_record(log: &mut [u8], i: usize, to: usize, ended: &[u64; 4]) -> usize
     ensures { λ r. ⌜ r ≡ cond (wordsHave (now (ended .entry)) (getD (now (log .entry)) (i * 6) 0)) to (to + 1) ⌝ }
     ensures { λ _. ⌜ now (log .exit) ≡ cond (wordsHave (now (ended .entry)) (getD (now (log .entry)) (i * 6) 0)) (now (log .entry)) (patch (now (log .entry)) (to * 6) (part (now (log .entry)) (i * 6) 6)) ⌝ }
 {
-    if among(ended, log[i * RECORD]) {
+    if among(ended, log[i * Log::RECORD]) {
         return to;
     }
     move_record(log, i, to);
@@ -111,7 +109,7 @@ pub fn drop_owned(log: &mut [u8], count: usize, ended: ChangeSet) -> usize
         kept = keep_record(log, i, kept, &words);
         i += 1;
     }
-    clear(log, kept * RECORD, count * RECORD);
+    clear(log, kept * Log::RECORD, count * Log::RECORD);
     kept
 }
 
@@ -121,7 +119,7 @@ fn hand_record(log: &mut [u8], i: usize, from: u8, to: u8, every: bool, entry: u
     requires { ⌜ i < 2048 ⌝ }
     ensures { λ _. ⌜ ((l : List LogRecord) → i < length l → now (log .entry) ≡ logSection l → now (log .exit) ≡ logSection (set l i (movedRecord from to (onEntries every entry) (getD l i noRecord)))) ⌝ }
 {
-    let at = i * RECORD;
+    let at = i * Log::RECORD;
     if (log[at] == from) & (every | (log[at + 1] == entry)) {
         log[at] = to;
     }

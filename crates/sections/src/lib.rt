@@ -141,7 +141,7 @@ fn permit_at(permits: &[u8], j: usize, entries: usize, live: &[u64; 4]) -> bool
     requires { ⌜ j * 4 + 4 ≤ length (now permits) ⌝ }
     ensures { λ r. ⌜ r ≡ permitSound entries (wordsHave (now (live .entry))) (permitAt (now (permits .entry)) j) ⌝ }
 {
-    let at = j * 4;
+    let at = j * Permits::RECORD;
     permit(
         permits[at],
         permits[at + 1],
@@ -184,7 +184,7 @@ pub fn permits(permits: &[u8], count: usize, entries: usize, live: ChangeSet) ->
     if !standing_permits(permits, count, entries, &words) {
         return false;
     }
-    all_zero(permits, count * 4, Permits::SIZE)
+    all_zero(permits, count * Permits::RECORD, Permits::SIZE)
 }
 
 // A tie: kind from 1 to 3, both ends live and different, the lower one leading a group tie.
@@ -203,7 +203,7 @@ fn tie_at(ties: &[u8], j: usize, live: &[u64; 4]) -> bool
     requires { ⌜ j * 4 + 4 ≤ length (now ties) ⌝ }
     ensures { λ r. ⌜ r ≡ tieSound (wordsHave (now (live .entry))) (tieAt (now (ties .entry)) j) && eqb (getD (now (ties .entry)) (j * 4 + 3) 0) 0 ⌝ }
 {
-    let at = j * 4;
+    let at = j * Ties::RECORD;
     tie(ties[at], ties[at + 1], ties[at + 2], live) & (ties[at + 3] == 0)
 }
 
@@ -239,7 +239,7 @@ pub fn ties(ties: &[u8], count: usize, live: ChangeSet) -> bool
     if !standing_ties(ties, count, &words) {
         return false;
     }
-    all_zero(ties, count * 4, Ties::SIZE)
+    all_zero(ties, count * Ties::RECORD, Ties::SIZE)
 }
 
 // An entry's locks: no change both reads and writes, and each is among the live ones' bytes. No early way out: the or of what does not fit.
@@ -249,12 +249,12 @@ fn row(locks: &[u8], e: usize, live: &[u8]) -> bool
     requires { ⌜ length (now live) ≡ 32 ⌝ }
     ensures { λ r. ⌜ r ≡ rowFits (now (locks .entry)) (bytesHave (now (live .entry)) 0) e ⌝ }
 {
-    let at = e * 64;
+    let at = e * Locks::ENTRY;
     let mut acc: u8 = 0;
     let mut i: usize = 0;
-    while i < 32 {
+    while i < Locks::SET {
         let r = locks[at + i];
-        let w = locks[at + 32 + i];
+        let w = locks[at + Locks::SET + i];
         acc = acc | (r & w) | ((r | w) & !live[i]);
         i += 1;
     }
@@ -284,7 +284,7 @@ fn rows(locks: &[u8], entries: usize, live: ChangeSet) -> bool
     requires { ⌜ entries ≤ 256 ⌝ }
     ensures { λ r. ⌜ r ≡ allBelow entries (rowFits (now (locks .entry)) (members live)) ⌝ }
 {
-    let mut bytes = [0u8; 32];
+    let mut bytes = [0u8; Locks::SET];
     live.store(&mut bytes, 0);
     rows_against(locks, entries, &bytes)
 }
@@ -298,7 +298,7 @@ pub fn locks(locks: &[u8], entries: usize, live: ChangeSet) -> bool
     if !rows(locks, entries, live) {
         return false;
     }
-    all_zero(locks, entries * 64, Locks::SIZE)
+    all_zero(locks, entries * Locks::ENTRY, Locks::SIZE)
 }
 
 // Whether a change's bit stands among an entry's writers.
@@ -306,7 +306,7 @@ fn is_writer(locks: &[u8], e: u8, c: u8) -> bool
     requires { ⌜ length (now locks) ≡ locksSize ⌝ }
     ensures { λ r. ⌜ r ≡ writes (now (locks .entry)) e c ⌝ }
 {
-    (locks[wide(e) * 64 + 32 + wide(c / 8)] >> (c % 8)) % 2 == 1
+    (locks[wide(e) * Locks::ENTRY + Locks::SET + wide(c / 8)] >> (c % 8)) % 2 == 1
 }
 
 // The log record at place j: the owner among the entry's writers.
@@ -315,7 +315,7 @@ fn record_at(log: &[u8], j: usize, locks: &[u8]) -> bool
     requires { ⌜ length (now locks) ≡ locksSize ⌝ }
     ensures { λ r. ⌜ r ≡ recordFits (now (log .entry)) (now (locks .entry)) j ⌝ }
 {
-    let at = j * 6;
+    let at = j * Log::RECORD;
     let owner = log[at];
     let entry = log[at + 1];
     is_writer(locks, entry, owner)
@@ -348,5 +348,5 @@ pub fn log(log: &[u8], count: usize, locks: &[u8]) -> bool
     if !standing_records(log, count, locks) {
         return false;
     }
-    all_zero(log, count * 6, Log::SIZE)
+    all_zero(log, count * Log::RECORD, Log::SIZE)
 }
