@@ -52,7 +52,7 @@ fn has_arrow(ties: &[u8], count: usize) -> bool
 {
     let mut place: usize = 0;
     while place < count {
-        if is_arrow(ties[place * 4]) {
+        if is_arrow(ties[place * Ties::RECORD]) {
             return true;
         }
         place += 1;
@@ -114,7 +114,7 @@ fn label_groups(ties: &[u8], count: usize, labels: &mut [u8])
     own_labels(labels);
     let mut i: usize = 0;
     while i < count {
-        let at = i * 4;
+        let at = i * Ties::RECORD;
         join(labels, ties[at], ties[at + 1], ties[at + 2]);
         i += 1;
     }
@@ -194,7 +194,7 @@ fn link_ties(
 {
     let mut j: usize = 0;
     while j < count {
-        let at = j * 4;
+        let at = j * Ties::RECORD;
         link_tie(
             labels,
             heads,
@@ -243,7 +243,7 @@ fn remove_arrows(
     let mut e = heads[v as usize] as usize;
     while e > 0 {
         let j = e - 1;
-        let at = j * 4 + 2;
+        let at = j * Ties::RECORD + 2;
         let k = label_of(labels, ties[at]);
         remove_arrow(incoming, blocked, k);
         e = next[j] as usize;

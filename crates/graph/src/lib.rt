@@ -1,4 +1,5 @@
 // Groups, end sets and leaders of changes, read from the first `count` ties of a section.
+use layout::Ties;
 use sets::Along;
 use sets::ChangeSet;
 ghost use mathlib.Core.Path.{_≡_};
@@ -68,7 +69,7 @@ pub fn leaders(ties: &[u8], count: usize, followers: ChangeSet) -> ChangeSet
     let mut s = ChangeSet::empty();
     let mut j: usize = 0;
     while j < count {
-        let at = j * 4;
+        let at = j * Ties::RECORD;
         s = with_leader(s, followers, ties[at], ties[at + 1], ties[at + 2]);
         j += 1;
     }

@@ -1,6 +1,7 @@
 // Passes over ties: what they add to a set whose words are lent.
 use crate::among;
 use crate::insert;
+use layout::Ties;
 ghost use mathlib.Core.Path.{_≡_};
 ghost use Prim.Native.Nat.{_*_, _<_, _≤_};
 ghost use lib.ListN.{length};
@@ -46,7 +47,7 @@ pub fn pass(words: &mut [u64; 4], ties: &[u8], count: usize, low: u8, back: bool
 {
     let mut j: usize = 0;
     while j < count {
-        let at = place(j, count, back) * 4;
+        let at = place(j, count, back) * Ties::RECORD;
         pull(words, low, ties[at], ties[at + 1], ties[at + 2]);
         j += 1;
     }

@@ -1,5 +1,6 @@
 // Ties noted in rows, four words for each number: the numbers that a tie leads to from it.
 use crate::ChangeSet;
+use layout::Ties;
 ghost use mathlib.Core.Path.{_≡_};
 ghost use mathlib.Core.Bool.{_||_, _&&_};
 ghost use Prim.Native.Nat.{ℕ, _*_, _≤_};
@@ -43,7 +44,7 @@ pub fn note_ties(rows: &mut [u64], ties: &[u8], count: usize, low: u8)
 {
     let mut next: usize = 0;
     while next < count {
-        let at = next * 4;
+        let at = next * Ties::RECORD;
         note_tie(rows, low, ties[at], ties[at + 1], ties[at + 2]);
         next += 1;
     }
