@@ -1,18 +1,19 @@
 -- The bytes of a fresh window: zeros, but for the number of entries. Assumes nothing.
 use mathlib.Core.Path.{_≡_, refl, sym, _∙_, ap}
-use mathlib.Core.Bool.{Bool, true, false}
+use mathlib.Core.Bool.{true}
 use mathlib.Core.List.{List, [], _∷_, _++_, append-nil}
-use Prim.Native.Nat.{ℕ, zero, suc, _-_, _<_, _^_, _/_, _%_}
+use Prim.Native.Nat.{ℕ, suc, _-_, _<_, _/_, _%_}
 use native.Mathlib.Omega.{arith}
-use native.Mathlib.Nat.{zero-div}
 use lib.Dec.{eqb}
 use lib.ListN.{length, getD, set, take, drop, replicate, length-replicate, replicate-append-replicate, drop-of-length-le}
-use Rattle.rules.specs.Base.{table, all}
+use Rattle.rules.specs.Base.{all}
 use Rattle.rules.specs.Window.{fresh}
 use Rattle.rules.proofs.BaseLaws.{eqb-eq, eqb-other}
 use Rattle.rules.proofs.ListLaws.{all-getD}
-use Rattle.layout.specs.Codec.{headAt, headSize, windowSize, byte, pack, headByte, valueByte, changeByte, lineByte, lockByte, permitBytes, permitByte, tieBytes, tieByte, recordBytes, logByte, headSection, figures, lay, encode}
+use Rattle.layout.specs.Codec.{headAt, headSize, windowSize, byte, headByte, valueByte, changeByte, lineByte, lockByte, permitBytes, permitByte, tieBytes, tieByte, recordBytes, logByte, headSection, figures, lay, encode}
+use Rattle.layout.proofs.CodecLaws.{byte-zero, pack-none}
 use Rattle.layout.proofs.SectionLaws.{Section, section, sections, layOut, total, encode-sections}
+use Rattle.layout.proofs.RecordLaws.{table-zeros}
 use Rattle.layout.proofs.PartLaws.{head-part}
 use Rattle.layout.proofs.PutLaws.{laidAt, head-put}
 use Rattle.cells.specs.Part.{patch}
@@ -22,24 +23,10 @@ abbrev AllZero : List Section → Type 0
 AllZero [] = Unit {0}
 AllZero (s ∷ l) = ((i : ℕ) → s .content i ≡ 0) × AllZero l
 
-table-zero : (f : ℕ → ℕ) → ((i : ℕ) → f i ≡ 0) → (k i : ℕ) → table k i f ≡ replicate k 0
-unfolding table
-table-zero f h zero i = refl
-table-zero f h (suc k) i = λ j. h i j ∷ table-zero f h k (suc i) j
-
 layOut-zero : (l : List Section) → AllZero l → layOut l ≡ replicate (total l) 0
 unfolding layOut
 layOut-zero [] z = refl
-layOut-zero (s ∷ l) z = (λ j. table-zero (s .content) (z .0) (s .size) 0 j ++ layOut-zero l (z .1) j) ∙ replicate-append-replicate (s .size) (total l) 0
-
-byte-zero : (k : ℕ) → byte k 0 ≡ 0
-unfolding byte
-byte-zero k = rw (zero-div (256 ^ k))
-
-pack-none : (n : ℕ) (p : ℕ → Bool) → ((b : ℕ) → p b ≡ false) → pack n p ≡ 0
-unfolding pack
-pack-none zero p h = refl
-pack-none (suc n) p h = rw (h 0, pack-none n (λ j. p (suc j)) (λ j. h (suc j)))
+layOut-zero (s ∷ l) z = (λ j. table-zeros (s .size) 0 (s .content) (z .0) j ++ layOut-zero l (z .1) j) ∙ replicate-append-replicate (s .size) (total l) 0
 
 -- nothing in any place
 none : (l : List ℕ) → all (λ x. eqb x 0) l ≡ true → (i : ℕ) → getD l i 0 ≡ 0
@@ -61,7 +48,7 @@ no-entries = (
       (
         λ i. refl,
         (
-          λ i. pack-none 8 _ (λ b. eqb-other 0 (suc (i % 64 / 32)) (λ e. omega arith)),
+          λ i. pack-none 8 _ (λ b l. eqb-other 0 (suc (i % 64 / 32)) (λ e. omega arith)),
           (
             λ i. unfold all in none (0 ∷ 0 ∷ 0 ∷ 0 ∷ []) refl (i % 4),
             (

@@ -8,7 +8,6 @@ use native.Mathlib.Decide.{decLt}
 use native.Mathlib.Omega.{arith}
 use lib.Dec.{eqb}
 use lib.ListN.{length, getD, take, drop}
-use lib.Seq.{getD-take, getD-drop}
 use Rattle.rules.specs.Base.{anyBelow, rising}
 use Rattle.rules.specs.Window.{PermitRecord, permitKey}
 use Rattle.rules.specs.Locks.{makePermit}
@@ -16,6 +15,8 @@ use Rattle.rules.proofs.BaseLaws.{both-ways, any-intro, any-elim, anyBelow-none
 use Rattle.rules.proofs.SortLaws.{Before, by1, by2, by3, rising-at}
 use Rattle.layout.specs.Codec.{noPermit}
 use Rattle.layout.specs.Records.{permitAt}
+use Rattle.cells.specs.Part.{part}
+use Rattle.cells.proofs.PartLaws.{getD-part}
 use Rattle.sets.proofs.BoundLaws.{any-ext}
 use Rattle.clashes.specs.Permits.{permitFrom, anyOf, FirstOf, NoneBefore, involves, byteIs}
 
@@ -104,16 +105,12 @@ block-none bs c j found e f k h l =
     let byte : (i : ℕ) → i < 4 → eqb (getD bs (k * 4 + i) 0) c ≡ false = λ i m. let q : j * 4 + ((k - j) * 4 + i) ≡ k * 4 + i = omega arith in rw q at (anyBelow-none 64 (byteIs bs (j * 4) c) (sym e ∙ f) ((k - j) * 4 + i) (omega arith)) in
     rw (byte 1 (omega arith), byte 2 (omega arith))
 
--- A PART OF A SECTION
-part-byte : (bs : List ℕ) (start n i at : ℕ) → i < n → start + i ≡ at → getD (take n (drop start bs)) i 0 ≡ getD bs at 0
-part-byte bs start n i at h e = getD-take n (drop start bs) i 0 h ∙ getD-drop start bs i 0 ∙ ap (λ k. getD bs k 0) e
-
--- its permits are those from a place on
+-- A PART OF A SECTION: its permits are those from a place on
 pub part-permit : (bs : List ℕ) (from n j : ℕ) → j * 4 + 4 ≤ n → permitAt (take n (drop (from * 4) bs)) j ≡ permitFrom bs from j
-unfolding permitAt permitFrom
+unfolding permitAt permitFrom part
 part-permit bs from n j h =
-    let byte : (k : ℕ) → k < 4 → getD (take n (drop (from * 4) bs)) (j * 4 + k) 0 ≡ getD bs ((from + j) * 4 + k) 0 = λ k l. part-byte bs (from * 4) n (j * 4 + k) ((from + j) * 4 + k) (omega arith) (omega arith) in
-    λ i. makePermit (byte 1 (omega arith) i) (byte 2 (omega arith) i) (part-byte bs (from * 4) n (j * 4) ((from + j) * 4) (omega arith) (omega arith) i) (byte 3 (omega arith) i)
+    let byte : (k at : ℕ) → k < n → from * 4 + k ≡ at → getD (take n (drop (from * 4) bs)) k 0 ≡ getD bs at 0 = λ k at l e. getD-part bs (from * 4) n k l ∙ ap (λ x. getD bs x 0) e in
+    λ i. makePermit (byte (j * 4 + 1) ((from + j) * 4 + 1) (omega arith) (omega arith) i) (byte (j * 4 + 2) ((from + j) * 4 + 2) (omega arith) (omega arith) i) (byte (j * 4) ((from + j) * 4) (omega arith) (omega arith) i) (byte (j * 4 + 3) ((from + j) * 4 + 3) (omega arith) (omega arith) i)
 
 -- IN ORDER
 -- the entries of permits in order do not fall

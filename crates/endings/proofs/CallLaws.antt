@@ -18,13 +18,11 @@ use Rattle.rules.proofs.BaseLaws.{and-left, and-right, or-cases, both-ways, and
 use Rattle.rules.proofs.ListLaws.{find}
 use Rattle.rules.proofs.SoundParts.{status-none, live-below, live-of}
 use Rattle.rules.proofs.SoundStep.{group-live, fall-live}
-use Rattle.layout.specs.Codec.{changesAt, changesSize, tiesAt, tiesSize, windowSize, changeSection, tieSection, decode, encode}
+use Rattle.layout.specs.Codec.{changesAt, changesSize, tiesAt, tiesSize, changeSection, tieSection, decode, encode}
 use Rattle.layout.specs.Memory.{soundBytes}
 use Rattle.layout.specs.Records.{endsBelow}
 use Rattle.layout.proofs.SoundCodec.{sound-again}
 use Rattle.layout.proofs.MemoryLaws.{bytes-sound}
-use Rattle.cells.specs.Part.{part}
-use Rattle.cells.proofs.PartLaws.{length-part}
 use Rattle.sets.proofs.BoundLaws.{any-bound, lowest-bound, count-bound}
 use Rattle.graph.specs.Leaders.{leadsTo, leadersOf}
 use Rattle.graph.proofs.WindowLaws.{sound-ends, blockers-leaders}
@@ -33,11 +31,6 @@ use Rattle.replies.specs.Gives.{Gives, written}
 use Rattle.replies.proofs.GiveLaws.{left, looked, unrefused}
 use Rattle.reads.proofs.ReadLaws.{changes-known, ties-known, given-most}
 use Rattle.endings.proofs.EndLaws.{undo-sound}
-
--- the bytes of the section of ties
-pub ties-size : (bs : List ℕ) → length bs ≡ windowSize → length (take tiesSize (drop tiesAt bs)) ≡ tiesSize
-unfolding part
-ties-size bs size = length-part bs tiesAt tiesSize (omega arith)
 
 module _ (bs : List ℕ) (s : soundBytes bs ≡ true) where
   -- a change number is below 256

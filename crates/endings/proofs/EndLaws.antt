@@ -12,7 +12,7 @@ use Rattle.rules.specs.Sound.{recordSound}
 use Rattle.rules.specs.Effects.{endAll, undo}
 use Rattle.rules.proofs.BaseLaws.{lt-of}
 use Rattle.rules.proofs.ListLaws.{all-weaken, all-getD}
-use Rattle.rules.proofs.SoundParts.{Sound, record-parts, held-no-entry}
+use Rattle.rules.proofs.SoundParts.{Sound, record-parts}
 use Rattle.rules.proofs.SoundPlain.{undo-values, value-sound}
 use Rattle.layout.specs.Codec.{valuesAt, valuesSize, changesAt, changesSize, locksAt, locksSize, logAt, logSize, windowSize, noRecord, valueByte, valueSection, changeSection, lockSection, logSection, decode, encode}
 use Rattle.layout.specs.Memory.{soundBytes}
@@ -27,7 +27,7 @@ use Rattle.log.specs.Records.{isUnowned, unowned}
 use Rattle.permits.specs.Tables.{permitsLeft}
 use Rattle.permits.proofs.HandLaws.{copied}
 use Rattle.ties.specs.Tables.{tiesLeft}
-use Rattle.reads.proofs.ReadLaws.{values-known, log-known}
+use Rattle.reads.proofs.ReadLaws.{values-known, log-known, none-from}
 use Rattle.endings.proofs.BackLaws.{statuses-back, locks-back, values-back}
 
 -- the last two steps: statuses and locks
@@ -48,10 +48,6 @@ unfolding endAll withHeld withStatus withTies withPermits withLog withStatuses r
 all-ended how m W = refl
 
 module _ (bs : List ℕ) (s : soundBytes bs ≡ true) where
-  no-locks : (entries : ℕ) → entries ≡ decode bs .entries → NoneFrom entries (decode bs .held)
-  unfolding NoneFrom
-  no-locks entries h e c l = held-no-entry (decode bs) (bytes-sound bs s .helds) e c (omega arith)
-
   pub ended : (m : Set) (how entries permits ties : ℕ) {b1 b2 b3 b4 : List ℕ} → entries ≡ decode bs .entries → permits ≡ length (decode bs .permits) → ties ≡ length (decode bs .ties)
       → b1 ≡ encode (withLog (decode bs) (unowned m (decode bs .log)))
       → ((W : Window) → permits ≡ length (W .permits) → b1 ≡ encode W → b2 ≡ encode (withPermits W (permitsLeft m (W .permits))))
@@ -59,7 +55,7 @@ module _ (bs : List ℕ) (s : soundBytes bs ≡ true) where
       → ((W : Window) → NoneFrom entries (W .held) → b3 ≡ encode W → b4 ≡ encode (withEnded how m W))
       → b4 ≡ encode (endAll how m (decode bs))
   unfolding withLog withPermits withTies
-  ended m how entries permits ties x y z e f g h = h _ (no-locks entries x) (g _ z (f _ y e)) ∙ ap encode (all-ended how m (decode bs))
+  ended m how entries permits ties x y z e f g h = h _ (none-from bs s entries x) (g _ z (f _ y e)) ∙ ap encode (all-ended how m (decode bs))
 
   -- UNDONE
   -- the values before fit

@@ -11,13 +11,12 @@ use Rattle.rules.specs.Window.{PermitRecord, Window, withHeld, withLog, withPer
 use Rattle.rules.specs.Effects.{moveLog, handOver}
 use Rattle.layout.specs.Codec.{headAt, headSize, locksAt, locksSize, permitsAt, permitsSize, logAt, logSize, windowSize, figures, headSection, lockSection, permitSection, logSection, lay, encode}
 use Rattle.layout.proofs.CodecLaws.{length-encode}
+use Rattle.layout.proofs.LengthLaws.{length-locks, length-permits}
 use Rattle.layout.proofs.PartLaws.{head-part, log-part}
 use Rattle.layout.proofs.PutLaws.{laidAt, head-put, locks-put, permits-put, log-put}
 use Rattle.cells.specs.Part.{patch}
 use Rattle.cells.proofs.PartLaws.{take-patch-end, drop-patch}
-use Rattle.locks.proofs.SectionLaws.{length-locks}
 use Rattle.handover.specs.Delegated.{tablesSize, tablesOf, AreTables}
-use Rattle.handover.proofs.TableLaws.{length-permits}
 
 -- TWO LISTS written one after the other
 patch-both : (l : List ℕ) (at : ℕ) (xs ys : List ℕ) → at ≤ length l → patch l at (xs ++ ys) ≡ patch (patch l at xs) (at + length xs) ys

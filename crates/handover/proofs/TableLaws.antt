@@ -4,21 +4,17 @@ use mathlib.Core.Bool.{Bool, true, false}
 use mathlib.Core.List.{List, _++_, append-nil}
 use Prim.Native.Nat.{ℕ}
 use native.Mathlib.Omega.{arith}
-use lib.ListN.{length, take, drop, drop-of-length-le}
+use lib.ListN.{take, drop, drop-of-length-le}
 use lib.Seq.{take-at, take-all, drop-at}
 use Rattle.rules.specs.Sets.{Set, only}
 use Rattle.rules.specs.Window.{PermitRecord, Window, withHeld, withPermits}
 use Rattle.rules.specs.Effects.{moveHeld, movePermits, handOver}
-use Rattle.rules.proofs.SoundParts.{held-no-entry}
-use Rattle.layout.specs.Codec.{locksSize, permitsSize, lockSection, permitSection, decode}
-use Rattle.layout.specs.Memory.{soundBytes}
-use Rattle.layout.proofs.MemoryLaws.{bytes-sound}
-use Rattle.layout.proofs.SectionLaws.{length-table}
+use Rattle.layout.specs.Codec.{locksSize, permitsSize, lockSection, permitSection}
+use Rattle.layout.proofs.LengthLaws.{length-locks, length-permits}
 use Rattle.layout.proofs.PutLaws.{laidAt}
 use Rattle.sets.specs.Entries.{onEntries}
 use Rattle.rows.specs.Rows.{Holds}
-use Rattle.locks.specs.Held.{NoneFrom, everyEntry}
-use Rattle.locks.proofs.SectionLaws.{length-locks}
+use Rattle.locks.specs.Held.{everyEntry}
 use Rattle.handover.specs.Delegated.{tablesOf, AreTables}
 
 -- the entries of which locks are handed over, by the flag
@@ -29,16 +25,6 @@ on-every all entry e = rw e (fun-ext (λ x. refl))
 pub on-one : (all : Bool) (entry : ℕ) → all ≡ false → only entry ≡ onEntries all entry
 unfolding only onEntries
 on-one all entry e = rw e (fun-ext (λ x. refl))
-
--- how long the section of permits is
-pub length-permits : (ps : List PermitRecord) → length (permitSection ps) ≡ permitsSize
-unfolding permitSection
-length-permits ps = length-table permitsSize 0 _
-
--- no lock of a sound window is on an entry that there is not
-pub none-from : (bs : List ℕ) → soundBytes bs ≡ true → (n : ℕ) → n ≡ decode bs .entries → NoneFrom n (decode bs .held)
-unfolding NoneFrom
-none-from bs s n e x c h = held-no-entry (decode bs) (bytes-sound bs s .helds) x c (omega arith)
 
 -- EACH TABLE cut out
 module _ (W : Window) where

@@ -2,7 +2,7 @@
 use mathlib.Core.Path.{_≡_, refl, sym, _∙_, ap, fun-ext}
 use mathlib.Core.Bool.{Bool, true, false, cond, _&&_}
 use Prim.Native.Nat.{ℕ, zero, suc, _+_, _*_, _/_, _%_, _^_, _≤_, _<_}
-use native.Mathlib.Nat.{pow-suc, mul-comm, div-div-eq-div-mul, add-zero, not-suc-le-zero, le-of-suc-le-suc}
+use native.Mathlib.Nat.{pow-suc, mul-comm, zero-div, div-div-eq-div-mul, add-zero, not-suc-le-zero, le-of-suc-le-suc}
 use native.Mathlib.Omega.{arith}
 use lib.Dec.{eqb}
 use lib.ListN.{getD, length}
@@ -51,6 +51,11 @@ pub join2-byte : (v : ℕ) → v < 65536 → join2 (byte 0 v) (byte 1 v) ≡ v
 unfolding join2 byte
 join2-byte v h = omega arith
 
+-- the bytes of 0
+pub byte-zero : (k : ℕ) → byte k 0 ≡ 0
+unfolding byte
+byte-zero k = rw (zero-div (256 ^ k))
+
 -- three divisions by 256, one after the other
 chain : (v q1 q2 q3 r0 r1 r2 r3 : ℕ) → q1 * 256 + r0 ≡ v → q2 * 256 + r1 ≡ q1 → q3 * 256 + r2 ≡ q2 → r3 ≡ q3
     → r0 + r1 * 256 + r2 * 65536 + r3 * 16777216 ≡ v
@@ -95,6 +100,12 @@ pub pack-same : (n : ℕ) (p q : ℕ → Bool) → ((j : ℕ) → j < n → p j 
 unfolding pack
 pack-same zero p q h = refl
 pack-same (suc n) p q h = rw (h 0 (omega arith), pack-same n (λ j. p (suc j)) (λ j. q (suc j)) (λ j l. h (suc j) (omega arith)))
+
+-- no test holds
+pub pack-none : (n : ℕ) (p : ℕ → Bool) → ((j : ℕ) → j < n → p j ≡ false) → pack n p ≡ 0
+unfolding pack
+pack-none zero p h = refl
+pack-none (suc n) p h = rw (h 0 (omega arith), pack-none n (λ j. p (suc j)) (λ j l. h (suc j) (omega arith)))
 
 eqb-bit : (x : ℕ) (b : Bool) → x ≡ bit b → eqb x 1 ≡ b
 eqb-bit x true e = rw e

@@ -8,6 +8,8 @@ pub mod ReadLaws
 pub mod PartLaws
 pub mod PutLaws
 pub mod LentLaws
+-- how long the sections of locks, permits, ties and the log are
+pub mod LengthLaws
 -- decode (encode W) ≡ W of a sound W (SoundCodec.sound-again)
 pub mod CodecLaws
 pub mod SoundCodec

@@ -13,7 +13,7 @@ use Rattle.rules.proofs.BaseLaws.{and-left, and-right, eqb-eq, eqb-same}
 use Rattle.rules.proofs.ListLaws.{any-at, any-place}
 use Rattle.layout.specs.Codec.{noPermit, permitBytes, permitByte, permitSection, noTie, tieBytes, tieByte, tieSection}
 use Rattle.layout.specs.Records.{permitAt, tieAt}
-use Rattle.layout.proofs.SectionLaws.{length-table}
+use Rattle.layout.proofs.LengthLaws.{length-ties}
 use Rattle.layout.proofs.RecordLaws.{placeByte, place-at, first-byte}
 
 -- PERMITS
@@ -28,10 +28,6 @@ unfolding permitSection permitByte placeByte
 permit-read ps j h = permit-again (permitSection ps) (getD ps j noPermit) j (λ k l. place-at 4 (omega arith) permitBytes noPermit 1024 ps j k h l)
 
 -- TIES
-pub length-ties : (ts : List TieRecord) → length (tieSection ts) ≡ 2048
-unfolding tieSection
-length-ties ts = length-table 2048 0 (tieByte ts)
-
 -- a place with a tie's bytes holds the tie
 pub tie-again : (bs : List ℕ) (x : TieRecord) (j : ℕ) → ((k : ℕ) → k < 4 → getD bs (j * 4 + k) 0 ≡ getD (tieBytes x) k 0) → tieAt bs j ≡ x
 unfolding tieAt tieBytes

@@ -1,26 +1,19 @@
 -- A printed line, made from its end, and put after what waits. Assumes nothing.
-use mathlib.Core.Path.{_≡_, refl, ap, _∙_}
+use mathlib.Core.Path.{_≡_, ap, _∙_}
 use mathlib.Core.List.{List, [], _∷_, _++_}
-use Prim.Native.Nat.{ℕ, zero, suc, _+_, _-_, _≤_, _<_}
-use native.Mathlib.Nat.{le-of-suc-le-suc, not-suc-le-zero}
+use Prim.Native.Nat.{ℕ, _+_, _-_, _≤_}
 use native.Mathlib.Omega.{arith}
 use lib.ListN.{length, take, drop, set, length-drop, drop-of-length-le}
 use lib.Seq.{take-all}
 use Rattle.cells.specs.Part.{patch}
 use Rattle.cells.proofs.PartLaws.{take-patch-end}
 use Rattle.text.specs.Decimal.{shownBefore}
+use Rattle.text.proofs.ShownLaws.{drop-set}
 use Rattle.listing.specs.Listing.{printed}
 
 -- A BYTE put in front of what stands from m on
-drop-set : (l : List ℕ) (i v : ℕ) → i < length l → drop i (set l i v) ≡ v ∷ drop (suc i) l
-drop-set [] i v h = absurd (not-suc-le-zero h)
-drop-set (x ∷ l) zero v h = refl
-drop-set (x ∷ l) (suc i) v h = drop-set l i v (le-of-suc-le-suc h)
-
 byte-before : (l : List ℕ) (m v : ℕ) → 1 ≤ m → m ≤ length l → drop (m - 1) (set l (m - 1) v) ≡ v ∷ drop m l
-byte-before l m v h k =
-    let e : suc (m - 1) ≡ m = omega arith in
-    drop-set l (m - 1) v (omega arith) ∙ ap (λ (j : ℕ). v ∷ drop j l) e
+byte-before l m v h k = drop-set l (m - 1) v m (omega arith) (omega arith)
 
 -- A LINE: the newline, then the numbers and commas in front of it
 pub line-printed : (p a n : ℕ) (t u v w : List ℕ) (i j k : ℕ) → length t ≡ 64 → length u ≡ 64 → length v ≡ 64 → 43 ≤ i → i ≤ 63 → 22 ≤ j → j ≤ 63

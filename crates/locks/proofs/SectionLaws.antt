@@ -5,20 +5,14 @@ use mathlib.Core.List.{List}
 use Prim.Native.Nat.{ℕ, zero, suc, _+_, _*_, _/_, _%_, _^_, _≤_, _<_}
 use native.Mathlib.Omega.{arith}
 use lib.Dec.{eqb}
-use lib.ListN.{length, getD}
+use lib.ListN.{getD}
 use Rattle.rules.specs.Base.{put, put2}
 use Rattle.rules.specs.Sets.{Set}
 use Rattle.rules.proofs.BaseLaws.{Same, same, other, same?, ltb-true}
-use Rattle.layout.specs.Codec.{bit, unpack, locksSize, lockSection}
-use Rattle.layout.proofs.SectionLaws.{length-table}
+use Rattle.layout.specs.Codec.{bit, unpack, lockSection}
 use Rattle.sets.specs.Members.{loaded, stored}
 use Rattle.locks.specs.Held.{Modes, inMode}
 use Rattle.locks.proofs.BitLaws.{bitsSection, lockBits, lock-bits, bits-same, bits-read, bits-loaded, bits-stored}
-
--- how long the section is
-pub length-locks : (held : ℕ → ℕ → ℕ) → length (lockSection held) ≡ locksSize
-unfolding lockSection
-length-locks held = length-table locksSize 0 _
 
 -- the same locks below 256, the same section
 pub section-same : (held after : ℕ → ℕ → ℕ) → ((e m c : ℕ) → e < 256 → m < 2 → c < 256 → eqb (held e c) (suc m) ≡ eqb (after e c) (suc m)) → lockSection held ≡ lockSection after

@@ -13,8 +13,8 @@ use Rattle.rules.specs.Base.{table}
 use Rattle.rules.specs.Window.{LogRecord}
 use Rattle.rules.proofs.BaseLaws.{Below, under, over, below}
 use Rattle.rules.proofs.ListLaws.{length-append-one}
-use Rattle.layout.specs.Codec.{noRecord, recordBytes, logByte, logSection, logSize}
-use Rattle.layout.proofs.SectionLaws.{length-table}
+use Rattle.layout.specs.Codec.{noRecord, recordBytes, logByte, logSection}
+use Rattle.layout.proofs.LengthLaws.{length-log}
 use Rattle.layout.proofs.RecordLaws.{placed, cell-read}
 use Rattle.cells.specs.Part.{part, patch}
 use Rattle.cells.specs.Num.{le, num}
@@ -31,11 +31,7 @@ log-places : (l : List LogRecord) → logSection l ≡ table 12288 0 (placed 6 (
 unfolding logSection logByte placed
 log-places l = refl
 
--- how long the section and a record are
-length-log : (l : List LogRecord) → length (logSection l) ≡ logSize
-unfolding logSection
-length-log l = length-table logSize 0 (logByte l)
-
+-- how long a record is
 pub length-record : (r : LogRecord) → length (recordBytes r) ≡ 6
 unfolding recordBytes
 length-record r = refl

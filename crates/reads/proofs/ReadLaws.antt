@@ -10,13 +10,13 @@ use Rattle.rules.specs.Base.{outside}
 use Rattle.rules.specs.Window.{limits, Window, noChange, noEntry, live, running}
 use Rattle.rules.specs.Sound.{valueSound}
 use Rattle.rules.proofs.BaseLaws.{and-left, or-false-right, ge-of, gt-of, both-ways, le-of, lt-of, leb-true, ltb-true, within-of}
-use Rattle.rules.proofs.SoundParts.{Sound, held-most}
+use Rattle.rules.proofs.SoundParts.{Sound, held-most, held-no-entry}
 use Rattle.layout.specs.Codec.{headAt, headSize, valuesAt, valuesSize, changesAt, changesSize, locksAt, locksSize, permitsAt, permitsSize, tiesAt, tiesSize, logAt, logSize, figures, headSection, valueSection, changeSection, lockSection, permitSection, tieSection, logSection, lay, decode, encode}
 use Rattle.layout.specs.Memory.{soundBytes}
 use Rattle.layout.proofs.PartLaws.{head-part, values-part, changes-part, locks-part, permits-part, ties-part, log-part}
 use Rattle.layout.proofs.SoundCodec.{decode-blank}
 use Rattle.layout.proofs.MemoryLaws.{bytes-sound, bytes-again, part-of}
-use Rattle.locks.specs.Held.{Modes}
+use Rattle.locks.specs.Held.{Modes, NoneFrom}
 
 -- numbers that a sound window has
 module _ (W : Window) (k : Sound limits W) where
@@ -66,6 +66,11 @@ module _ (bs : List ℕ) (s : soundBytes bs ≡ true) where
   pub modes-known : Modes (decode bs .held)
   unfolding Modes
   modes-known = held-most (decode bs) (bytes-sound bs s .helds)
+
+  -- there is no lock on an entry that there is not
+  pub none-from : (entries : ℕ) → entries ≡ decode bs .entries → NoneFrom entries (decode bs .held)
+  unfolding NoneFrom
+  none-from entries q e c h = held-no-entry (decode bs) (bytes-sound bs s .helds) e c (omega arith)
 
   -- a figure that is read, and its bound
   figure-read : (k most : ℕ) → getD (figures (decode bs)) k 0 ≤ most → most < 65536

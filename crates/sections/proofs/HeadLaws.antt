@@ -9,14 +9,14 @@ use lib.Seq.{ext-getD}
 use Rattle.rules.specs.Base.{allBelow, table}
 use Rattle.rules.proofs.BaseLaws.{Below, under, over, below}
 use Rattle.layout.specs.Codec.{byte, join2, headByte, headSection}
-use Rattle.layout.proofs.CodecLaws.{join2-byte}
+use Rattle.layout.proofs.CodecLaws.{join2-byte, byte-zero}
 use Rattle.layout.proofs.SectionLaws.{Bytes, length-table, getD-table0}
 use Rattle.cells.specs.Part.{part, zeroAt}
 use Rattle.cells.specs.Num.{num}
 use Rattle.cells.proofs.NumLaws.{part2}
 use Rattle.cells.proofs.ZeroLaws.{zeros-at, zeros-all}
 use Rattle.sections.specs.Sections.{HeadSound}
-use Rattle.sections.proofs.ByteLaws.{byte-join2, byte-zero}
+use Rattle.sections.proofs.ByteLaws.{byte-join2}
 
 -- figure k of the header
 unfoldable pub figureAt : List ℕ → ℕ → ℕ

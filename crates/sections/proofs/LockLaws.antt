@@ -13,7 +13,7 @@ use Rattle.rules.specs.Sets.{Set}
 use Rattle.rules.specs.Sound.{heldSound}
 use Rattle.rules.proofs.BaseLaws.{and-left, and-right, or-cases, and-false, no-true, not-true, not-false, eqb-eq, ltb-true, ltb-false, lt-of, allBelow-at, allBelow-intro, Same, same, other, same?, Below, under, over, below}
 use Rattle.layout.specs.Codec.{bit, pack, unpack, lockByte, lockSection}
-use Rattle.layout.proofs.CodecLaws.{pack-most, pack-same, unpack-pack}
+use Rattle.layout.proofs.CodecLaws.{pack-most, pack-same, pack-none, unpack-pack}
 use Rattle.layout.proofs.SectionLaws.{Bytes, length-table, getD-table0}
 use Rattle.cells.specs.Bits.{bytesHave}
 use Rattle.cells.specs.Part.{zeroAt}
@@ -26,11 +26,6 @@ use Rattle.sections.specs.Sections.{LocksSound}
 -- eight bits of a byte are the byte
 pack-unpack : (n x : ℕ) → x < 2 ^ n → pack n (unpack x) ≡ x
 pack-unpack n x h = unpack-ext n (pack n (unpack x)) x (pack-most n (unpack x)) h (unpack-pack n (unpack x))
-
-pack-none : (n : ℕ) → pack n (λ j. false) ≡ 0
-unfolding pack
-pack-none zero = refl
-pack-none (suc n) = rw (pack-none n)
 
 -- who holds a lock lives, and holds it on an entry that there is
 pub held-live : {bs : List ℕ} {entries : ℕ} {lives : Set} (s : LocksSound bs entries lives) (e c : ℕ) → (s .held e c ≡ 0 → ⊥) → (e < entries) × (lives c ≡ true)
@@ -142,7 +137,7 @@ module _ (bs : List ℕ) (b : Bytes bs) (size : length bs ≡ 16384) (entries : 
 
     rest-of : (i : ℕ) → entries * 64 ≤ i → i < 16384 → getD bs i 0 ≡ 0
     unfolding lockSection lockByte
-    rest-of i h l = ap (λ x. getD x i 0) (s .bytes) ∙ getD-table0 16384 (lockByte (s .held)) i 0 l ∙ pack-same 8 _ (λ j. false) (λ j k. none-there (i / 64) (i % 32 * 8 + j) (suc (i % 64 / 32)) (omega arith) (omega arith)) ∙ pack-none 8
+    rest-of i h l = ap (λ x. getD x i 0) (s .bytes) ∙ getD-table0 16384 (lockByte (s .held)) i 0 l ∙ pack-none 8 _ (λ j k. none-there (i / 64) (i % 32 * 8 + j) (suc (i % 64 / 32)) (omega arith) (omega arith))
       where
         none-there : (e c m : ℕ) → entries ≤ e → 0 < m → eqb (s .held e c) m ≡ false
         none-there e c m q p = no-true (eqb (s .held e c) m) (λ x. let y : s .held e c ≡ m = eqb-eq (s .held e c) m x in let z = held-live s e c (λ w. omega (arith, y, w, p)) .0 in omega arith)

@@ -12,11 +12,12 @@ use Rattle.rules.specs.Base.{allBelow, table}
 use Rattle.rules.specs.Sound.{valueSound}
 use Rattle.rules.proofs.BaseLaws.{and-right, or-cases, lt-of, ltb-true, eqb-eq, Below, under, over, below}
 use Rattle.layout.specs.Codec.{byte, join4, valueByte, lineByte, valueSection, lineSection}
+use Rattle.layout.proofs.CodecLaws.{byte-zero}
 use Rattle.layout.proofs.SectionLaws.{Bytes, length-table, getD-table0}
 use Rattle.cells.specs.Part.{zeroAt}
 use Rattle.cells.proofs.ZeroLaws.{zeros-at, zeros-all}
 use Rattle.sections.specs.Sections.{ValuesSound}
-use Rattle.sections.proofs.ByteLaws.{join4-below, byte-join4, join4-zero, byte-zero}
+use Rattle.sections.proofs.ByteLaws.{join4-below, byte-join4, join4-zero}
 
 -- VALUES
 module _ (bs : List ℕ) (b : Bytes bs) (size : length bs ≡ 1024) (entries : ℕ) (most : entries ≤ 256) where

@@ -2,10 +2,10 @@
 use mathlib.Core.Path.{_≡_, refl, sym, _∙_, ap}
 use mathlib.Core.Bool.{true, not, _&&_}
 use mathlib.Core.List.{List, [], _∷_, _++_}
-use Prim.Native.Nat.{ℕ, suc, _≤_}
+use Prim.Native.Nat.{ℕ, suc}
 use native.Mathlib.Omega.{arith}
 use lib.ListN.{length, take, drop}
-use Rattle.rules.specs.Base.{exceeds, all}
+use Rattle.rules.specs.Base.{all}
 use Rattle.rules.specs.Window.{limits, Window, live}
 use Rattle.rules.specs.Sound.{heldSound, tieSound}
 use Rattle.rules.specs.Locks.{clashesPermitted}
@@ -17,13 +17,10 @@ use Rattle.layout.specs.Memory.{soundBytes}
 use Rattle.layout.specs.Records.{endsBelow}
 use Rattle.layout.proofs.MemoryLaws.{encode-sound, bytes-sound, part-of}
 use Rattle.layout.proofs.PartLaws.{head-part, values-part, changes-part, line-part, locks-part, permits-part, ties-part, log-part, eight-parts}
+use Rattle.cells.specs.Part.{part}
 use Rattle.locks.specs.Held.{Modes}
 use Rattle.sections.specs.Sections.{HeadSound, ChangesSound}
-use Rattle.soundness.specs.Parts.{lives, cut, FrontSound, BackSound, Listed}
-
--- a figure within its largest
-within : (m n : ℕ) → m ≤ n → not (exceeds m n) ≡ true
-within m n h = ap not (over-false m n h)
+use Rattle.soundness.specs.Parts.{lives, FrontSound, BackSound, Listed}
 
 -- eight lists one after the other
 join8 : {a b c d e f g h a′ b′ c′ d′ e′ f′ g′ h′ : List ℕ} → a ≡ a′ → b ≡ b′ → c ≡ c′ → d ≡ d′ → e ≡ e′ → f ≡ f′ → g ≡ g′ → h ≡ h′
@@ -31,7 +28,7 @@ join8 : {a b c d e f g h a′ b′ c′ d′ e′ f′ g′ h′ : List ℕ} →
 join8 p q r s t u v w = λ i. p i ++ (q i ++ (r i ++ (s i ++ (t i ++ (u i ++ (v i ++ w i))))))
 
 -- FROM THE SECTIONS TO THE WINDOW
-module _ (bs : List ℕ) (size : length bs ≡ windowSize) (h : HeadSound (cut bs headAt headSize)) (c : ChangesSound (cut bs changesAt changesSize) (h .given))
+module _ (bs : List ℕ) (size : length bs ≡ windowSize) (h : HeadSound (part bs headAt headSize)) (c : ChangesSound (part bs changesAt changesSize) (h .given))
     (f : FrontSound bs (h .entries) (lives (h .given) (c .status)))
     (k : BackSound bs (h .entries) (h .permits) (h .ties) (h .records) (lives (h .given) (c .status)) (f .locks .held)) where
   -- the window that they are
@@ -49,7 +46,7 @@ module _ (bs : List ℕ) (size : length bs ≡ windowSize) (h : HeadSound (cut b
   }
 
   pub gathered-bytes : encode gathered ≡ bs
-  unfolding gathered encode lay figures
+  unfolding gathered encode lay figures part
   gathered-bytes = sym (eight-parts bs size ∙ join8
       (h .bytes ∙ (λ i. headSection (h .entries ∷ h .given ∷ sym (k .log .size) i ∷ sym (k .permits .size) i ∷ sym (k .ties .size) i ∷ [])))
       (f .values .bytes) (c .bytes) (f .line) (f .locks .bytes) (k .permits .bytes) (k .ties .bytes) (k .log .bytes))
@@ -58,11 +55,11 @@ module _ (bs : List ℕ) (size : length bs ≡ windowSize) (h : HeadSound (cut b
   unfolding gathered live lives limits
   gathered-sound a p = record {
     some = ltb-true 0 (h .entries) (omega (arith, h .some));
-    entries = within (h .entries) 256 (h .entries-most);
-    changes = within (h .given) 255 (h .given-most);
-    room-log = rw (k .log .size) (within (h .records) 2048 (h .records-most));
-    room-permits = rw (k .permits .size) (within (h .permits) 1024 (h .permits-most));
-    room-ties = rw (k .ties .size) (within (h .ties) 512 (h .ties-most));
+    entries = ap not (over-false (h .entries) 256 (h .entries-most));
+    changes = ap not (over-false (h .given) 255 (h .given-most));
+    room-log = rw (k .log .size) (ap not (over-false (h .records) 2048 (h .records-most)));
+    room-permits = rw (k .permits .size) (ap not (over-false (h .permits) 1024 (h .permits-most)));
+    room-ties = rw (k .ties .size) (ap not (over-false (h .ties) 512 (h .ties-most)));
     values = f .values .fine;
     statuses = c .statuses;
     parents = c .parents;
@@ -120,8 +117,8 @@ module _ (bs : List ℕ) (size : length bs ≡ windowSize) (s : soundBytes bs �
   unfolding W
   at p n e = part-of bs s p n e
 
-  unfoldable pub head-known : HeadSound (cut bs headAt headSize)
-  unfolding figures limits
+  unfoldable pub head-known : HeadSound (part bs headAt headSize)
+  unfolding figures limits part
   head-known = record {
     entries = W .entries;
     given = W .given;
@@ -137,11 +134,12 @@ module _ (bs : List ℕ) (size : length bs ≡ windowSize) (s : soundBytes bs �
     ties-most = within-of (length (W .ties)) 512 (z .room-ties);
   }
 
-  unfoldable pub changes-known : ChangesSound (cut bs changesAt changesSize) (W .given)
+  unfoldable pub changes-known : ChangesSound (part bs changesAt changesSize) (W .given)
+  unfolding part
   changes-known = record { status = W .status; parent = W .parent; bytes = at changesAt changesSize (changes-part (figures W) W); statuses = z .statuses; parents = z .parents }
 
   unfoldable pub front-known : FrontSound bs (W .entries) (lives (W .given) (W .status))
-  unfolding live lives
+  unfolding live lives part
   front-known = record {
     values = record { value = W .value; bytes = at valuesAt valuesSize (values-part (figures W) W); fine = z .values };
     line = at lineAt lineSize (line-part (figures W) W);
@@ -149,7 +147,7 @@ module _ (bs : List ℕ) (size : length bs ≡ windowSize) (s : soundBytes bs �
   }
 
   pub back-known : BackSound bs (W .entries) (length (W .permits)) (length (W .ties)) (length (W .log)) (lives (W .given) (W .status)) (W .held)
-  unfolding live lives
+  unfolding live lives part
   back-known = record {
     permits = record { permits = W .permits; size = refl; bytes = at permitsAt permitsSize (permits-part (figures W) W); fine = z .permits; order = z .permit-order };
     ties = record { ties = W .ties; size = refl; bytes = at tiesAt tiesSize (ties-part (figures W) W); fine = z .ties; order = z .tie-order };

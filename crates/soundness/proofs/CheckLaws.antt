@@ -13,33 +13,34 @@ use Rattle.rules.specs.Ties.{acyclic}
 use Rattle.rules.proofs.BaseLaws.{and-left, and-right}
 use Rattle.layout.specs.Codec.{headAt, headSize, changesAt, changesSize, locksAt, locksSize, windowSize, changeSection}
 use Rattle.layout.specs.Memory.{soundBytes}
+use Rattle.cells.specs.Part.{part}
 use Rattle.sections.specs.Sections.{HeadSound, ChangesSound, LocksSound}
-use Rattle.soundness.specs.Parts.{lives, cut, FrontSound, BackSound, Listed}
+use Rattle.soundness.specs.Parts.{lives, FrontSound, BackSound, Listed}
 use Rattle.soundness.specs.Read.{AreFigures}
 use Rattle.soundness.specs.declared.Figures.{Figures}
 use Rattle.soundness.proofs.Assembly.{W, head-known, changes-known, front-known, back-known, gathered, gathered-all, gathered-listed, listed-known, relations-known}
 
 -- m is the set of the live changes that bytes of changes say
 abbrev pub Lives : List ℕ → ℕ → Set → Type 0
-Lives bs given m = (st pa : ℕ → ℕ) → cut bs changesAt changesSize ≡ changeSection st pa → (k : ℕ) → m k ≡ ltb k (suc given) && isLive (st k)
+Lives bs given m = (st pa : ℕ → ℕ) → part bs changesAt changesSize ≡ changeSection st pa → (k : ℕ) → m k ≡ ltb k (suc given) && isLive (st k)
 
 -- r decides whether the permits, the ties and the log are sound beside sound locks
 abbrev pub Decided : List ℕ → ℕ → ℕ → ℕ → ℕ → Set → Bool → Type 0
-Decided bs entries permits ties records m r = (z : LocksSound (cut bs locksAt locksSize) entries m) → (r ≡ true ↔ BackSound bs entries permits ties records m (z .held))
+Decided bs entries permits ties records m r = (z : LocksSound (part bs locksAt locksSize) entries m) → (r ≡ true ↔ BackSound bs entries permits ties records m (z .held))
 
 -- r is what the last two tests say
 abbrev pub Says : List ℕ → ℕ → ℕ → ℕ → Bool → Type 0
 Says bs entries permits ties r = (w : Window) → Listed bs entries permits ties w → r ≡ acyclic (suc (w .given)) (w .ties) && clashesPermitted w
 
 module _ (bs : List ℕ) (size : length bs ≡ windowSize) where
-  pub header-asked : soundBytes bs ≡ true → HeadSound (cut bs headAt headSize)
+  pub header-asked : soundBytes bs ≡ true → HeadSound (part bs headAt headSize)
   header-asked s = head-known bs size s
 
-  module _ (f : Figures) (read : (h : HeadSound (cut bs headAt headSize)) → AreFigures h f) (s : soundBytes bs ≡ true) where
+  module _ (f : Figures) (read : (h : HeadSound (part bs headAt headSize)) → AreFigures h f) (s : soundBytes bs ≡ true) where
     figures-known : AreFigures (head-known bs size s) f
     figures-known = read (head-known bs size s)
 
-    pub changes-asked : ChangesSound (cut bs changesAt changesSize) (f .given)
+    pub changes-asked : ChangesSound (part bs changesAt changesSize) (f .given)
     unfolding head-known
     changes-asked = rw (figures-known .given) (changes-known bs size s)
 
@@ -63,9 +64,9 @@ module _ (bs : List ℕ) (size : length bs ≡ windowSize) where
     unfolding head-known
     related-asked r d = d (W bs size s) (rw (figures-known .entries, figures-known .permits, figures-known .ties) (listed-known bs size s)) ∙ relations-known bs size s
 
-module _ (bs : List ℕ) (size : length bs ≡ windowSize) (h : HeadSound (cut bs headAt headSize)) where
+module _ (bs : List ℕ) (size : length bs ≡ windowSize) (h : HeadSound (part bs headAt headSize)) where
   -- all passed: the sections are sound, and the last two tests say so
-  sections-passed : (c : ChangesSound (cut bs changesAt changesSize) (h .given)) (t : FrontSound bs (h .entries) (lives (h .given) (c .status)))
+  sections-passed : (c : ChangesSound (part bs changesAt changesSize) (h .given)) (t : FrontSound bs (h .entries) (lives (h .given) (c .status)))
       → BackSound bs (h .entries) (h .permits) (h .ties) (h .records) (lives (h .given) (c .status)) (t .locks .held)
       → (r : Bool) → Says bs (h .entries) (h .permits) (h .ties) r → r ≡ true → soundBytes bs ≡ true
   unfolding gathered
@@ -74,7 +75,7 @@ module _ (bs : List ℕ) (size : length bs ≡ windowSize) (h : HeadSound (cut b
       gathered-all bs size h c t k (and-left (acyclic (suc (h .given)) (k .ties .ties)) (clashesPermitted (gathered bs size h c t k)) both) (and-right (acyclic (suc (h .given)) (k .ties .ties)) (clashesPermitted (gathered bs size h c t k)) both)
 
   -- the same, by the live changes found
-  tests-passed : (m : Set) → Lives bs (h .given) m → ChangesSound (cut bs changesAt changesSize) (h .given) → FrontSound bs (h .entries) m
+  tests-passed : (m : Set) → Lives bs (h .given) m → ChangesSound (part bs changesAt changesSize) (h .given) → FrontSound bs (h .entries) m
       → (q : Bool) → Decided bs (h .entries) (h .permits) (h .ties) (h .records) m q → q ≡ true
       → (r : Bool) → Says bs (h .entries) (h .permits) (h .ties) r → r ≡ true → soundBytes bs ≡ true
   unfolding lives
@@ -85,7 +86,7 @@ module _ (bs : List ℕ) (size : length bs ≡ windowSize) (h : HeadSound (cut b
       sections-passed c t′ (d′ (t′ .locks) .0 e) r g y
 
   -- the same, by the figures read
-  pub passed : (f : Figures) → AreFigures h f → (m : Set) → Lives bs (f .given) m → ChangesSound (cut bs changesAt changesSize) (f .given) → FrontSound bs (f .entries) m
+  pub passed : (f : Figures) → AreFigures h f → (m : Set) → Lives bs (f .given) m → ChangesSound (part bs changesAt changesSize) (f .given) → FrontSound bs (f .entries) m
       → (q : Bool) → Decided bs (f .entries) (f .permits) (f .ties) (f .records) m q → q ≡ true
       → (r : Bool) → Says bs (f .entries) (f .permits) (f .ties) r → r ≡ true → soundBytes bs ≡ true
   passed f a m live c t q d e r g y = tests-passed m (rw (a .given) at live) (rw (a .given) at c) (rw (a .entries) at t) q (rw (a .entries, a .permits, a .ties, a .records) at d) e r (rw (a .entries, a .permits, a .ties) at g) y

@@ -1,10 +1,10 @@
--- A test that failed or did not, and what it decides; the length of a part; memory that begins with a window. Assumes nothing.
+-- A test that failed or did not, and what it decides; memory that begins with a window. Assumes nothing.
 use mathlib.Core.Path.{_≡_, sym, _∙_}
 use mathlib.Core.Logic.{_↔_}
 use mathlib.Core.List.{List}
-use Prim.Native.Nat.{ℕ, _+_, _≤_, _<_}
+use Prim.Native.Nat.{ℕ, _≤_, _<_}
 use native.Mathlib.Omega.{arith}
-use lib.ListN.{length, take, drop, length-take, length-drop}
+use lib.ListN.{length, take}
 use mathlib.Core.Bool.{Bool, true, false, not, false≢true}
 use Rattle.rules.proofs.BaseLaws.{no-true, not-true, not-false, and-left, le-of, leb-true}
 use Rattle.layout.specs.Codec.{windowSize}
@@ -18,19 +18,11 @@ fails {r} e n a = false≢true (sym (not-true r n) ∙ e .1 a)
 pub passes {ℓ} : {A : Type ℓ} {r : Bool} → r ≡ true ↔ A → not r ≡ false → A
 passes {r} e n = e .0 (not-false r n)
 
--- what is not so is false
-pub refuted : (b : Bool) → (b ≡ true → ⊥) → false ≡ b
-refuted b f = sym (no-true b f)
-
--- a part of a window's bytes is as long as it says
-pub length-cut : (bs : List ℕ) (at n size : ℕ) → length bs ≡ size → at + n ≤ size → length (take n (drop at bs)) ≡ n
-length-cut bs at n size e h = simp (length-take, length-drop) (omega arith)
-
 -- MEMORY
 -- shorter than a window
 pub memory-short : (mem : List ℕ) → length mem < windowSize → false ≡ soundMemory mem
 unfolding soundMemory long
-memory-short mem h = refuted _ (λ s. let l = le-of windowSize (length mem) (and-left _ _ s) in omega arith)
+memory-short mem h = sym (no-true _ (λ s. let l = le-of windowSize (length mem) (and-left _ _ s) in omega arith))
 
 -- not shorter
 pub memory-long : (mem : List ℕ) → windowSize ≤ length mem → soundBytes (take windowSize mem) ≡ soundMemory mem

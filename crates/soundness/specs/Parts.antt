@@ -4,11 +4,12 @@ use mathlib.Core.Bool.{true, _&&_}
 use mathlib.Core.List.{List}
 use Prim.Native.Nat.{ℕ, suc}
 use lib.Dec.{ltb}
-use lib.ListN.{length, take, drop}
+use lib.ListN.{length}
 use Rattle.rules.specs.Sets.{Set}
 use Rattle.rules.specs.Window.{Window, isLive}
 use Rattle.layout.specs.Codec.{valuesAt, valuesSize, lineAt, lineSize, locksAt, locksSize, permitsAt, permitsSize, tiesAt, tiesSize, logAt, logSize, lineSection, tieSection}
 use Rattle.layout.specs.Records.{endsBelow}
+use Rattle.cells.specs.Part.{part}
 use Rattle.sections.specs.Sections.{ValuesSound, LocksSound, LogSound, PermitsSound, TiesSound}
 use Rattle.clashes.specs.Holds.{Holds}
 
@@ -16,25 +17,21 @@ use Rattle.clashes.specs.Holds.{Holds}
 unfoldable pub lives : ℕ → (ℕ → ℕ) → Set
 lives given status c = ltb c (suc given) && isLive (status c)
 
--- the part of a window's bytes from a place on
-abbrev pub cut : List ℕ → ℕ → ℕ → List ℕ
-cut bs at size = take size (drop at bs)
-
 -- the values, the line and the locks
 pub record FrontSound (bs : List ℕ) (entries : ℕ) (live : Set) : Type 0 where
-  pub values : ValuesSound (cut bs valuesAt valuesSize) entries
-  pub line : cut bs lineAt lineSize ≡ lineSection
-  pub locks : LocksSound (cut bs locksAt locksSize) entries live
+  pub values : ValuesSound (part bs valuesAt valuesSize) entries
+  pub line : part bs lineAt lineSize ≡ lineSection
+  pub locks : LocksSound (part bs locksAt locksSize) entries live
 
 -- the permits, the ties and the log
 pub record BackSound (bs : List ℕ) (entries permitted tied written : ℕ) (live : Set) (held : ℕ → ℕ → ℕ) : Type 0 where
-  pub permits : PermitsSound (cut bs permitsAt permitsSize) permitted entries live
-  pub ties : TiesSound (cut bs tiesAt tiesSize) tied live
-  pub log : LogSound (cut bs logAt logSize) written entries live held
+  pub permits : PermitsSound (part bs permitsAt permitsSize) permitted entries live
+  pub ties : TiesSound (part bs tiesAt tiesSize) tied live
+  pub log : LogSound (part bs logAt logSize) written entries live held
 
 -- a window whose locks, permits and ties are in the bytes, in range and in order
 pub record Listed (bs : List ℕ) (entries permitted tied : ℕ) (W : Window) : Type 0 where
-  pub held : Holds (cut bs locksAt locksSize) (cut bs permitsAt permitsSize) entries permitted W
-  pub tie-bytes : cut bs tiesAt tiesSize ≡ tieSection (W .ties)
+  pub held : Holds (part bs locksAt locksSize) (part bs permitsAt permitsSize) entries permitted W
+  pub tie-bytes : part bs tiesAt tiesSize ≡ tieSection (W .ties)
   pub tie-count : length (W .ties) ≡ tied
   pub ends : endsBelow (suc (W .given)) (W .ties) ≡ true

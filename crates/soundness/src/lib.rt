@@ -19,9 +19,10 @@ ghost use Rattle.rules.specs.Locks.{clashesPermitted};
 ghost use Rattle.rules.specs.Ties.{acyclic};
 ghost use Rattle.layout.specs.Codec.{headAt, headSize, locksAt, locksSize, windowSize};
 ghost use Rattle.layout.specs.Memory.{soundBytes, soundMemory};
+ghost use Rattle.cells.specs.Part.{part};
 ghost use Rattle.sets.specs.Members.{members};
 ghost use Rattle.sections.specs.Sections.{HeadSound, LocksSound};
-ghost use Rattle.soundness.specs.Parts.{cut, FrontSound, BackSound, Listed};
+ghost use Rattle.soundness.specs.Parts.{FrontSound, BackSound, Listed};
 ghost use Rattle.soundness.specs.Read.{AreFigures};
 
 // The figures of a header.
@@ -36,7 +37,7 @@ pub struct Figures {
 // The figures of a window.
 pub fn read_figures(w: &[u8]) -> Figures
     requires { ⌜ length (now w) ≡ windowSize ⌝ }
-    ensures { λ r. ⌜ ((h : HeadSound (cut (now (w .entry)) headAt headSize)) → AreFigures h r) ⌝ }
+    ensures { λ r. ⌜ ((h : HeadSound (part (now (w .entry)) headAt headSize)) → AreFigures h r) ⌝ }
 {
     let head = &w[Header::AT..Entries::AT];
     Figures {
@@ -74,7 +75,7 @@ fn back(
 ) -> bool
     requires { ⌜ length (now w) ≡ windowSize ⌝ }
     requires { ⌜ (permits ≤ 1024) × (ties ≤ 512) × (records ≤ 2048) ⌝ }
-    ensures { λ r. ⌜ ((z : LocksSound (cut (now (w .entry)) locksAt locksSize) entries (members live)) → (r ≡ true ↔ BackSound (now (w .entry)) entries permits ties records (members live) (z .held))) ⌝ }
+    ensures { λ r. ⌜ ((z : LocksSound (part (now (w .entry)) locksAt locksSize) entries (members live)) → (r ≡ true ↔ BackSound (now (w .entry)) entries permits ties records (members live) (z .held))) ⌝ }
 {
     if !sections::permits(&w[Permits::AT..Ties::AT], permits, entries, live) {
         return false;

@@ -54,7 +54,7 @@ unfolding shownBefore
 shown-step n after = digits-enough n (n / 10) ((48 + n % 10) ∷ after) (omega arith) (n / 10) (omega arith)
 
 -- a store in front of other bytes
-drop-set : (l : List ℕ) (i v m : ℕ) → m ≡ suc i → i < length l → drop i (set l i v) ≡ v ∷ drop m l
+pub drop-set : (l : List ℕ) (i v m : ℕ) → m ≡ suc i → i < length l → drop i (set l i v) ≡ v ∷ drop m l
 drop-set l i v m e h =
     let there : i < length (set l i v) = rw length-set h in
     drop-cons (set l i v) i 0 there ∙ rw (e, getD-set-same l i v 0 h, drop-set-lt (suc i) l i v (omega arith)) refl

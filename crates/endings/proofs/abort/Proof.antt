@@ -2,10 +2,13 @@
 use native.Mathlib.Omega.{arith}
 use borrow.Author.Needs.{needs}
 use Rattle.rules.specs.Effects.{abortChange, effect}
+use Rattle.layout.specs.Codec.{tiesAt, tiesSize}
 use Rattle.layout.proofs.MemoryLaws.{bytes-sound}
+use Rattle.cells.specs.Part.{part}
+use Rattle.cells.proofs.PartLaws.{length-part}
 use Rattle.sets.specs.Members.{members}
 use Rattle.reads.proofs.ReadLaws.{change-fits}
-use Rattle.endings.proofs.CallLaws.{ties-size, abort-known, ended-so, ended-else, end-set-read, abort-done}
+use Rattle.endings.proofs.CallLaws.{abort-known, ended-so, ended-else, end-set-read, abort-done}
 use Rattle.endings.proofs.abort.Statement.{statement}
 use Rattle.endings.proofs.abort.Tie as tie
 
@@ -32,7 +35,8 @@ cast-end-set c =
     record { fits = change-fits _ (bytes-sound w (s .pre .1 .0)) (s .args .change) (abort-known w (s .pre .1 .0) (s .args .change) (s .pre .1 .1)) }
 
 end-set-requires : tie.Need-end-set-requires
-end-set-requires c κs = let s = c .before .before .before .before .before .before .before .before .before in omega (arith, ties-size (s .args .w .now) (s .pre .0), c .before .before .ties .ensures .1)
+unfolding part
+end-set-requires c κs = let s = c .before .before .before .before .before .before .before .before .before in omega (arith, length-part (s .args .w .now) tiesAt tiesSize (omega (arith, s .pre .0)), c .before .before .ties .ensures .1)
 
 -- it ends
 returns-3 : tie.Need-returns-3

@@ -4,10 +4,13 @@ use native.Mathlib.Omega.{arith}
 use borrow.Author.Needs.{needs}
 use Rattle.rules.specs.Effects.{commitChange, effect}
 use Rattle.rules.proofs.BaseLaws.{not-true, not-false}
+use Rattle.layout.specs.Codec.{tiesAt, tiesSize}
 use Rattle.layout.proofs.MemoryLaws.{bytes-sound}
+use Rattle.cells.specs.Part.{part}
+use Rattle.cells.proofs.PartLaws.{length-part}
 use Rattle.sets.specs.Members.{members}
 use Rattle.reads.proofs.ReadLaws.{change-fits}
-use Rattle.endings.proofs.CallLaws.{ties-size, commit-known, ended-so, ended-else, group-read, commit-waits, commit-done}
+use Rattle.endings.proofs.CallLaws.{commit-known, ended-so, ended-else, group-read, commit-waits, commit-done}
 use Rattle.endings.proofs.commit.Statement.{statement}
 use Rattle.endings.proofs.commit.Tie as tie
 
@@ -34,7 +37,8 @@ cast-group c =
     record { fits = change-fits _ (bytes-sound w (s .pre .1 .0)) (s .args .change) (commit-known w (s .pre .1 .0) (s .args .change) (s .pre .1 .1)) }
 
 group-requires : tie.Need-group-requires
-group-requires c κs = let s = c .before .before .before .before .before .before .before .before .before in omega (arith, ties-size (s .args .w .now) (s .pre .0), c .before .before .ties .ensures .1)
+unfolding part
+group-requires c κs = let s = c .before .before .before .before .before .before .before .before .before in omega (arith, length-part (s .args .w .now) tiesAt tiesSize (omega (arith, s .pre .0)), c .before .before .ties .ensures .1)
 
 -- something holds it up
 returns-3 : tie.Need-returns-3

@@ -5,8 +5,8 @@ use lib.Dec.{lit≤}
 use Rattle.layout.specs.Codec.{decode}
 use Rattle.layout.proofs.MemoryLaws.{bytes-sound}
 use Rattle.sets.specs.Entries.{onEntries}
-use Rattle.reads.proofs.ReadLaws.{modes-known}
-use Rattle.handover.proofs.TableLaws.{none-from, tables-handed}
+use Rattle.reads.proofs.ReadLaws.{modes-known, none-from}
+use Rattle.handover.proofs.TableLaws.{tables-handed}
 use Rattle.handover.proofs.hand_tables.Statement.{statement}
 use Rattle.handover.proofs.hand_tables.Tie as tie
 

@@ -1,10 +1,12 @@
 -- `soundness::read_figures` meets its contract. Assumes nothing.
 use native.Mathlib.Omega.{arith}
 use borrow.Author.Needs.{needs}
+use Rattle.cells.specs.Part.{part}
 use Rattle.soundness.proofs.read_figures.Statement.{statement}
 use Rattle.soundness.proofs.read_figures.Tie as tie
 
 returns : tie.Need-returns
+unfolding part
 returns c = λ h. record {
   entries = c .before .before .before .before .figure .ensures _ (h .bytes) (omega (arith, h .entries-most));
   given = c .before .before .before .figure2 .ensures _ (h .bytes) (omega (arith, h .given-most));

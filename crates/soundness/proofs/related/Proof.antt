@@ -4,7 +4,8 @@ use mathlib.Core.Bool.{_&&_}
 use native.Mathlib.Omega.{arith}
 use Rattle.rules.specs.Locks.{clashesPermitted}
 use Rattle.rules.proofs.BaseLaws.{not-true, not-false}
-use Rattle.soundness.proofs.TestLaws.{length-cut}
+use Rattle.cells.specs.Part.{part}
+use Rattle.cells.proofs.PartLaws.{length-part}
 use borrow.Author.Needs.{needs}
 use Rattle.soundness.proofs.related.Statement.{statement}
 use Rattle.soundness.proofs.related.Tie as tie
@@ -13,17 +14,20 @@ acyclic-requires : tie.Need-acyclic-requires
 acyclic-requires c κs = omega (arith, c .before .before .pre)
 
 returns : tie.Need-returns
+unfolding part
 returns c = λ W l.
     let e = c .before .acyclic .ensures (W .ties) _ (l .tie-count) (l .tie-bytes) (l .ends) in
     sym (ap (λ x. x && clashesPermitted W) (sym e ∙ not-true _ (c .if1 .taken)))
 
 all-permitted-requires : tie.Need-all-permitted-requires
+unfolding part
 all-permitted-requires c κs =
     let w = c .before .before .before .before .before .before .args .w .now in
     let p = c .before .before .before .before .before .before .pre in
-    (length-cut w 3136 16384 37952 (p .0) (omega arith), (length-cut w 19520 4096 37952 (p .0) (omega arith), (p .1 .0, p .1 .1)))
+    (length-part w 3136 16384 (omega (arith, p .0)), (length-part w 19520 4096 (omega (arith, p .0)), (p .1 .0, p .1 .1)))
 
 returns-2 : tie.Need-returns-2
+unfolding part
 returns-2 c = λ W l.
     let e = c .before .before .before .before .acyclic .ensures (W .ties) _ (l .tie-count) (l .tie-bytes) (l .ends) in
     c .all-permitted .ensures W (l .held) ∙ ap (λ x. x && clashesPermitted W) (sym (not-false _ (c .before .before .before .if1 .left)) ∙ e)

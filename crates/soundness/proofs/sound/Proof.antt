@@ -2,57 +2,69 @@
 use mathlib.Core.Path.{sym, _∙_}
 use mathlib.Core.Bool.{false≢true}
 use native.Mathlib.Omega.{arith}
-use Rattle.rules.proofs.BaseLaws.{not-true, not-false, both-ways}
+use Rattle.rules.proofs.BaseLaws.{no-true, not-true, not-false, both-ways}
+use Rattle.cells.specs.Part.{part}
+use Rattle.cells.proofs.PartLaws.{length-part}
 use Rattle.sets.specs.Members.{members}
 use Rattle.soundness.proofs.CheckLaws.{header-asked, changes-asked, front-asked, back-asked, related-asked, passed}
-use Rattle.soundness.proofs.TestLaws.{refuted, fails, passes, length-cut}
+use Rattle.soundness.proofs.TestLaws.{fails, passes}
 use borrow.Author.Needs.{needs}
 use Rattle.soundness.proofs.sound.Statement.{statement}
 use Rattle.soundness.proofs.sound.Tie as tie
 
 returns : tie.Need-returns
-returns c = refuted _ (λ s. fails (c .before .header .ensures) (c .if1 .taken) (header-asked (c .before .before .before .before .args .w .now) (c .before .before .before .before .pre) s))
+unfolding part
+returns c = sym (no-true _ (λ s. fails (c .before .header .ensures) (c .if1 .taken) (header-asked (c .before .before .before .before .args .w .now) (c .before .before .before .before .pre) s)))
 
 changes-requires : tie.Need-changes-requires
+unfolding part
 changes-requires c κs =
     let h = passes (c .before .before .before .header .ensures) (c .before .before .if1 .left) in
     let a = c .before .read-figures .ensures h in
-    (length-cut (c .before .before .before .before .before .before .args .w .now) 1088 1024 37952 (c .before .before .before .before .before .before .pre) (omega arith), omega (arith, a .given, h .given-most))
+    (length-part (c .before .before .before .before .before .before .args .w .now) 1088 1024 (omega (arith, c .before .before .before .before .before .before .pre)), omega (arith, a .given, h .given-most))
 
 returns-2 : tie.Need-returns-2
-returns-2 c = refuted _ (λ s. fails (c .before .changes .ensures) (c .if2 .taken) (changes-asked (c .before .before .before .before .before .before .before .before .args .w .now) (c .before .before .before .before .before .before .before .before .pre) (c .before .before .before .read-figures .result) (c .before .before .before .read-figures .ensures) s))
+unfolding part
+returns-2 c = sym (no-true _ (λ s. fails (c .before .changes .ensures) (c .if2 .taken) (changes-asked (c .before .before .before .before .before .before .before .before .args .w .now) (c .before .before .before .before .before .before .before .before .pre) (c .before .before .before .read-figures .result) (c .before .before .before .read-figures .ensures) s)))
 
 live-set-requires : tie.Need-live-set-requires
+unfolding part
 live-set-requires c κs =
     let h = passes (c .before .before .before .before .before .before .header .ensures) (c .before .before .before .before .before .if1 .left) in
     let a = c .before .before .before .before .read-figures .ensures h in
-    (length-cut (c .before .before .before .before .before .before .before .before .before .args .w .now) 1088 1024 37952 (c .before .before .before .before .before .before .before .before .before .pre) (omega arith), omega (arith, a .given, h .given-most))
+    (length-part (c .before .before .before .before .before .before .before .before .before .args .w .now) 1088 1024 (omega (arith, c .before .before .before .before .before .before .before .before .before .pre)), omega (arith, a .given, h .given-most))
 
 front-requires : tie.Need-front-requires
+unfolding part
 front-requires c κs =
     let h = passes (c .before .before .before .before .before .before .before .header .ensures) (c .before .before .before .before .before .before .if1 .left) in
     let a = c .before .before .before .before .before .read-figures .ensures h in
     (c .before .before .before .before .before .before .before .before .before .before .pre, omega (arith, a .entries, h .entries-most))
 
 returns-3 : tie.Need-returns-3
-returns-3 c = refuted _ (λ s. fails (c .before .front .ensures) (c .if3 .taken) (front-asked (c .before .before .before .before .before .before .before .before .before .before .before .before .args .w .now) (c .before .before .before .before .before .before .before .before .before .before .before .before .pre) (c .before .before .before .before .before .before .before .read-figures .result) (c .before .before .before .before .before .before .before .read-figures .ensures) s (members (c .before .before .live-set .result)) (c .before .before .live-set .ensures)))
+unfolding part
+returns-3 c = sym (no-true _ (λ s. fails (c .before .front .ensures) (c .if3 .taken) (front-asked (c .before .before .before .before .before .before .before .before .before .before .before .before .args .w .now) (c .before .before .before .before .before .before .before .before .before .before .before .before .pre) (c .before .before .before .before .before .before .before .read-figures .result) (c .before .before .before .before .before .before .before .read-figures .ensures) s (members (c .before .before .live-set .result)) (c .before .before .live-set .ensures))))
 
 back-requires : tie.Need-back-requires
+unfolding part
 back-requires c κs =
     let h = passes (c .before .before .before .before .before .before .before .before .before .header .ensures) (c .before .before .before .before .before .before .before .before .if1 .left) in
     let a = c .before .before .before .before .before .before .before .read-figures .ensures h in
     (c .before .before .before .before .before .before .before .before .before .before .before .before .pre, (omega (arith, a .permits, h .permits-most), omega (arith, a .ties, h .ties-most), omega (arith, a .records, h .records-most)))
 
 returns-4 : tie.Need-returns-4
-returns-4 c = refuted _ (λ s. false≢true (sym (not-true _ (c .if4 .taken)) ∙ back-asked (c .before .before .before .before .before .before .before .before .before .before .before .before .before .before .args .w .now) (c .before .before .before .before .before .before .before .before .before .before .before .before .before .before .pre) (c .before .before .before .before .before .before .before .before .before .read-figures .result) (c .before .before .before .before .before .before .before .before .before .read-figures .ensures) s (members (c .before .before .before .before .live-set .result)) (c .before .before .before .before .live-set .ensures) _ (c .before .back .ensures)))
+unfolding part
+returns-4 c = sym (no-true _ (λ s. false≢true (sym (not-true _ (c .if4 .taken)) ∙ back-asked (c .before .before .before .before .before .before .before .before .before .before .before .before .before .before .args .w .now) (c .before .before .before .before .before .before .before .before .before .before .before .before .before .before .pre) (c .before .before .before .before .before .before .before .before .before .read-figures .result) (c .before .before .before .before .before .before .before .before .before .read-figures .ensures) s (members (c .before .before .before .before .live-set .result)) (c .before .before .before .before .live-set .ensures) _ (c .before .back .ensures))))
 
 related-requires : tie.Need-related-requires
+unfolding part
 related-requires c κs =
     let h = passes (c .before .before .before .before .before .before .before .before .before .before .before .header .ensures) (c .before .before .before .before .before .before .before .before .before .before .if1 .left) in
     let a = c .before .before .before .before .before .before .before .before .before .read-figures .ensures h in
     (c .before .before .before .before .before .before .before .before .before .before .before .before .before .before .pre, (omega (arith, a .entries, h .entries-most), omega (arith, a .permits, h .permits-most), omega (arith, a .ties, h .ties-most)))
 
 returns-5 : tie.Need-returns-5
+unfolding part
 returns-5 c =
     let h = passes (c .before .before .before .before .before .before .before .before .before .before .before .before .header .ensures) (c .before .before .before .before .before .before .before .before .before .before .before .if1 .left) in
     let a = c .before .before .before .before .before .before .before .before .before .before .read-figures .ensures h in
