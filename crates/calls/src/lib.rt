@@ -146,7 +146,7 @@ pub fn commit(memory: &mut [u8], change: u32) -> Reply
     steps::commit(&mut memory[0..Window::SIZE], change)
 }
 
-// The change is withdrawn, with all that must end with it; the second number says how many.
+// The change is aborted, with all that must end with it; the second number says how many.
 pub fn abort(memory: &mut [u8], change: u32) -> Reply
     ensures { λ r. ⌜ Gives (perform (now (memory .entry)) (Abort change)) r (now (memory .exit)) ⌝ }
 {

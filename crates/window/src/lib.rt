@@ -98,7 +98,7 @@ pub extern "C" fn window_commit(window: &mut [u8], change: u32) -> Reply
     calls::commit(window, change)
 }
 
-// The change is withdrawn, with all that must end with it; the second number says how many.
+// The change is aborted, with all that must end with it; the second number says how many.
 #[no_mangle]
 pub extern "C" fn window_abort(window: &mut [u8], change: u32) -> Reply
     ensures { λ r. ⌜ Gives (perform (now (window .entry)) (Abort change)) r (now (window .exit)) ⌝ }
