@@ -97,7 +97,7 @@ window_reply window_begin(uint8_t *window, size_t length, uint32_t change);
 window_reply window_complete(uint8_t *window, size_t length, uint32_t change);
 
 /*
- * Locks an entry until the change ends; done too where a lock that it holds covers the mode.
+ * Locks an entry until the change ends or hands it over; done too where a lock that it holds covers the mode.
  * WINDOW_BLOCKED where another change holds a lock that clashes and has not permitted the mode to this one or to anybody.
  *   change  the running change that wants the lock
  *   entry   the entry to lock

@@ -98,7 +98,7 @@ unfolding rules
 tied-and-delegated e c r p t = refl
 
 -- an existing tie is 0 again, a group tie also when named the other way round; a permit given again unites
-pub tie-again : Gives (two (Depend 3 2 1 ∷ Depend 3 1 2 ∷ Permit 1 2 0 1 ∷ Permit 1 2 0 2 ∷ Lock 1 0 2 ∷ Lock 2 0 2 ∷ Read 2 0 ∷ Write 2 1 5 ∷ []))
-    (begun ((0, 0) ∷ (0, 0) ∷ (0, 0) ∷ (0, 0) ∷ (0, 0) ∷ (0, 0) ∷ (0, 0) ∷ (8, 0) ∷ []))
+pub tie-again : Gives (two (Depend 3 2 1 ∷ Depend 3 1 2 ∷ Permit 1 2 0 1 ∷ Permit 1 2 0 2 ∷ Lock 1 0 2 ∷ Lock 2 0 1 ∷ Lock 2 0 2 ∷ Read 2 0 ∷ Write 2 1 5 ∷ []))
+    (begun ((0, 0) ∷ (0, 0) ∷ (0, 0) ∷ (0, 0) ∷ (0, 0) ∷ (0, 0) ∷ (0, 0) ∷ (0, 0) ∷ (8, 0) ∷ []))
 unfolding rules
 tie-again e c r p t = refl
