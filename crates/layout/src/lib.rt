@@ -55,9 +55,9 @@ impl Locks {
     pub const SIZE: usize = 16384;
 
     // The bytes of an entry, its readers and its writers; and of one of the two sets.
-    pub const ENTRY: usize = 64;
+    pub const ENTRY: usize = Locks::SIZE / Entries::MOST;
 
-    pub const SET: usize = 32;
+    pub const SET: usize = Locks::ENTRY / 2;
 }
 
 pub struct Permits;
@@ -70,7 +70,7 @@ impl Permits {
     pub const MOST: usize = 1024;
 
     // The bytes of a permit.
-    pub const RECORD: usize = 4;
+    pub const RECORD: usize = Permits::SIZE / Permits::MOST;
 }
 
 pub struct Ties;
@@ -83,7 +83,7 @@ impl Ties {
     pub const MOST: usize = 512;
 
     // The bytes of a tie.
-    pub const RECORD: usize = 4;
+    pub const RECORD: usize = Ties::SIZE / Ties::MOST;
 }
 
 pub struct Log;
@@ -96,7 +96,7 @@ impl Log {
     pub const MOST: usize = 2048;
 
     // The bytes of a record.
-    pub const RECORD: usize = 6;
+    pub const RECORD: usize = Log::SIZE / Log::MOST;
 }
 
 // The largest figures.

@@ -1,3 +1,4 @@
+-- `reads::entries` meets its contract. Assumes nothing.
 use Rattle.reads.proofs.ReadLaws.{entries-read}
 use borrow.Author.Needs.{needs}
 use Rattle.reads.proofs.entries.Statement.{statement}

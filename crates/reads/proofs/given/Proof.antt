@@ -1,3 +1,4 @@
+-- `reads::given` meets its contract. Assumes nothing.
 use Rattle.reads.proofs.ReadLaws.{given-read}
 use borrow.Author.Needs.{needs}
 use Rattle.reads.proofs.given.Statement.{statement}

@@ -1,3 +1,4 @@
+-- `reads::held` meets its contract. Assumes nothing.
 use Rattle.reads.proofs.ReadLaws.{locks-known, modes-known, no-held-entry, no-held-change}
 use borrow.Author.Needs.{needs}
 use Rattle.reads.proofs.held.Statement.{statement}

@@ -1,3 +1,4 @@
+-- `reads::is_live` meets its contract. Assumes nothing.
 use Rattle.reads.proofs.ReadLaws.{live-read}
 use borrow.Author.Needs.{needs}
 use Rattle.reads.proofs.is_live.Statement.{statement}

@@ -1,3 +1,4 @@
+-- `reads::is_running` meets its contract. Assumes nothing.
 use Rattle.reads.proofs.ReadLaws.{running-read}
 use borrow.Author.Needs.{needs}
 use Rattle.reads.proofs.is_running.Statement.{statement}

@@ -1,3 +1,4 @@
+-- `reads::no_change` meets its contract. Assumes nothing.
 use Rattle.reads.proofs.ReadLaws.{no-change-read}
 use borrow.Author.Needs.{needs}
 use Rattle.reads.proofs.no_change.Statement.{statement}

@@ -1,3 +1,4 @@
+-- `reads::no_entry` meets its contract. Assumes nothing.
 use Rattle.reads.proofs.ReadLaws.{no-entry-read}
 use borrow.Author.Needs.{needs}
 use Rattle.reads.proofs.no_entry.Statement.{statement}

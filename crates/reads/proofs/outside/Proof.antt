@@ -1,3 +1,4 @@
+-- `reads::outside` meets its contract. Assumes nothing.
 use mathlib.Core.Path.{refl}
 use Rattle.rules.specs.Base.{outside as isOutside}
 use Rattle.reads.proofs.outside.Statement.{statement}

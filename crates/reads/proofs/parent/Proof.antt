@@ -1,3 +1,4 @@
+-- `reads::parent` meets its contract. Assumes nothing.
 use Rattle.reads.proofs.ReadLaws.{changes-known, no-parent}
 use borrow.Author.Needs.{needs}
 use Rattle.reads.proofs.parent.Statement.{statement}

@@ -1,3 +1,4 @@
+-- `reads::permits` meets its contract. Assumes nothing.
 use Rattle.reads.proofs.ReadLaws.{permits-read}
 use borrow.Author.Needs.{needs}
 use Rattle.reads.proofs.permits.Statement.{statement}

@@ -1,3 +1,4 @@
+-- `reads::records` meets its contract. Assumes nothing.
 use Rattle.reads.proofs.ReadLaws.{records-read}
 use borrow.Author.Needs.{needs}
 use Rattle.reads.proofs.records.Statement.{statement}

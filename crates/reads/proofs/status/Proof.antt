@@ -1,3 +1,4 @@
+-- `reads::status` meets its contract. Assumes nothing.
 use Rattle.reads.proofs.ReadLaws.{changes-known, no-status}
 use borrow.Author.Needs.{needs}
 use Rattle.reads.proofs.status.Statement.{statement}

@@ -1,3 +1,4 @@
+-- `reads::ties` meets its contract. Assumes nothing.
 use Rattle.reads.proofs.ReadLaws.{ties-read}
 use borrow.Author.Needs.{needs}
 use Rattle.reads.proofs.ties.Statement.{statement}

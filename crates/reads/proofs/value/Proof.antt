@@ -1,3 +1,4 @@
+-- `reads::value` meets its contract. Assumes nothing.
 use Rattle.reads.proofs.ReadLaws.{values-known, value-fits, no-value}
 use borrow.Author.Needs.{needs}
 use Rattle.reads.proofs.value.Statement.{statement}

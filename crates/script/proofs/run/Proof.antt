@@ -1,3 +1,4 @@
+-- `script::run` meets its contract. Assumes nothing but what `read` and `write` of the C library say.
 use Prim.Native.Nat.{_+_, _*_, _≤_, _^_}
 use mathlib.Core.Path.{_≡_}
 use borrow.Author.Needs.{needs}
