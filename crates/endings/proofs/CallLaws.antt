@@ -30,7 +30,7 @@ use Rattle.replies.specs.declared.Reply.{Reply}
 use Rattle.replies.specs.Gives.{Gives, written}
 use Rattle.replies.proofs.GiveLaws.{left, looked, unrefused}
 use Rattle.reads.proofs.ReadLaws.{changes-known, ties-known, given-most}
-use Rattle.endings.proofs.EndLaws.{undo-sound}
+use Rattle.ended.proofs.EndLaws.{undo-sound}
 
 module _ (bs : List ℕ) (s : soundBytes bs ≡ true) where
   -- a change number is below 256

@@ -1,7 +1,3 @@
--- What is proved of changes that end. Other crates cite a file X here as Rattle.endings.proofs.X.
--- a section lent and put back, from the bytes of one window to those of another
-pub mod BackLaws
--- changes of a set ended, and their log records undone
-pub mod EndLaws
+-- What is proved of commit and abort. Other crates cite a file X here as Rattle.endings.proofs.X.
 -- what a commit and an abort give
 pub mod CallLaws

@@ -1,9 +1,9 @@
--- `endings::end_all` meets its contract. Assumes nothing.
+-- `ended::end_all` meets its contract. Assumes nothing.
 use borrow.Author.Needs.{needs}
 use Rattle.sets.specs.Members.{members}
-use Rattle.endings.proofs.EndLaws.{ended}
-use Rattle.endings.proofs.end_all.Statement.{statement}
-use Rattle.endings.proofs.end_all.Tie as tie
+use Rattle.ended.proofs.EndLaws.{ended}
+use Rattle.ended.proofs.end_all.Statement.{statement}
+use Rattle.ended.proofs.end_all.Tie as tie
 
 returns : tie.Need-returns
 returns c =

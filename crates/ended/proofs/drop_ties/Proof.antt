@@ -1,9 +1,9 @@
--- `endings::drop_ties` meets its contract. Assumes nothing.
+-- `ended::drop_ties` meets its contract. Assumes nothing.
 use borrow.Author.Needs.{needs}
 use Rattle.sets.specs.Members.{members}
-use Rattle.endings.proofs.BackLaws.{ties-left}
-use Rattle.endings.proofs.drop_ties.Statement.{statement}
-use Rattle.endings.proofs.drop_ties.Tie as tie
+use Rattle.ended.proofs.BackLaws.{ties-left}
+use Rattle.ended.proofs.drop_ties.Statement.{statement}
+use Rattle.ended.proofs.drop_ties.Tie as tie
 
 returns : tie.Need-returns
 returns c =

@@ -1,9 +1,9 @@
--- `endings::drop_permits` meets its contract. Assumes nothing.
+-- `ended::drop_permits` meets its contract. Assumes nothing.
 use borrow.Author.Needs.{needs}
 use Rattle.sets.specs.Members.{members}
-use Rattle.endings.proofs.BackLaws.{permits-left}
-use Rattle.endings.proofs.drop_permits.Statement.{statement}
-use Rattle.endings.proofs.drop_permits.Tie as tie
+use Rattle.ended.proofs.BackLaws.{permits-left}
+use Rattle.ended.proofs.drop_permits.Statement.{statement}
+use Rattle.ended.proofs.drop_permits.Tie as tie
 
 returns : tie.Need-returns
 returns c =

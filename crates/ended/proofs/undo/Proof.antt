@@ -1,13 +1,13 @@
--- `endings::undo` meets its contract: the values are undone in a copy, which is put back. Assumes nothing.
+-- `ended::undo` meets its contract: the values are undone in a copy, which is put back. Assumes nothing.
 use native.Mathlib.Omega.{arith}
 use borrow.Author.Needs.{needs}
 use Rattle.layout.specs.Codec.{logAt, logSize}
 use Rattle.cells.specs.Part.{part}
 use Rattle.cells.proofs.PartLaws.{length-part}
 use Rattle.sets.specs.Members.{members}
-use Rattle.endings.proofs.EndLaws.{copy-size, undone}
-use Rattle.endings.proofs.undo.Statement.{statement}
-use Rattle.endings.proofs.undo.Tie as tie
+use Rattle.ended.proofs.EndLaws.{copy-size, undone}
+use Rattle.ended.proofs.undo.Statement.{statement}
+use Rattle.ended.proofs.undo.Tie as tie
 
 undo-requires : tie.Need-undo-requires
 unfolding part

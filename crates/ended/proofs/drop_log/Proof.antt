@@ -1,12 +1,12 @@
--- `endings::drop_log` meets its contract. Assumes nothing.
+-- `ended::drop_log` meets its contract. Assumes nothing.
 use mathlib.Core.Path.{sym}
 use borrow.Author.Needs.{needs}
 use Rattle.layout.specs.Codec.{decode}
 use Rattle.layout.proofs.MemoryLaws.{bytes-again}
 use Rattle.sets.specs.Members.{members}
-use Rattle.endings.proofs.BackLaws.{log-fits, log-left}
-use Rattle.endings.proofs.drop_log.Statement.{statement}
-use Rattle.endings.proofs.drop_log.Tie as tie
+use Rattle.ended.proofs.BackLaws.{log-fits, log-left}
+use Rattle.ended.proofs.drop_log.Statement.{statement}
+use Rattle.ended.proofs.drop_log.Tie as tie
 
 cast-store-figure : tie.Need-cast-store-figure
 cast-store-figure c =

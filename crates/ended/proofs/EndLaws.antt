@@ -28,7 +28,7 @@ use Rattle.permits.specs.Tables.{permitsLeft}
 use Rattle.permits.proofs.HandLaws.{copied}
 use Rattle.ties.specs.Tables.{tiesLeft}
 use Rattle.reads.proofs.ReadLaws.{values-known, log-known, none-from}
-use Rattle.endings.proofs.BackLaws.{statuses-back, locks-back, values-back}
+use Rattle.ended.proofs.BackLaws.{statuses-back, locks-back, values-back}
 
 -- the last two steps: statuses and locks
 abbrev withEnded : ℕ → Set → Window → Window

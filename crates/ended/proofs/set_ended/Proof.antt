@@ -1,9 +1,9 @@
--- `endings::set_ended` meets its contract. Assumes nothing.
+-- `ended::set_ended` meets its contract. Assumes nothing.
 use borrow.Author.Needs.{needs}
 use Rattle.sets.specs.Members.{members}
-use Rattle.endings.proofs.EndLaws.{statuses-and-locks}
-use Rattle.endings.proofs.set_ended.Statement.{statement}
-use Rattle.endings.proofs.set_ended.Tie as tie
+use Rattle.ended.proofs.EndLaws.{statuses-and-locks}
+use Rattle.ended.proofs.set_ended.Statement.{statement}
+use Rattle.ended.proofs.set_ended.Tie as tie
 
 returns : tie.Need-returns
 returns c = let a = c .before .before .before .before .before .before .before .before .before .args in λ W n e. statuses-and-locks W e (members (a .ended)) (a .how) (a .entries) n (c .before .before .before .before .before .before .set-statuses .ensures) (c .before .before .release .ensures)

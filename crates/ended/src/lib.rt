@@ -1,0 +1,101 @@
+// What becomes of a window when a set of changes ends: its log records undone, and all that the changes have in the tables gone.
+use cells::copy_in;
+use layout::Changes;
+use layout::Entries;
+use layout::Header;
+use layout::Line;
+use layout::Locks;
+use layout::Log;
+use layout::Permits;
+use layout::Ties;
+use places::store_figure;
+use sets::ChangeSet;
+ghost use mathlib.Core.Path.{_≡_};
+ghost use mathlib.Core.Bool.{true};
+ghost use Prim.Native.Nat.{_≤_};
+ghost use lib.ListN.{length};
+ghost use Rattle.rules.specs.Window.{Window, withValue, withStatus, withHeld, withLog, withPermits, withTies};
+ghost use Rattle.rules.specs.Effects.{endAll, undo as undone};
+ghost use Rattle.layout.specs.Codec.{windowSize, decode, encode};
+ghost use Rattle.layout.specs.Memory.{soundBytes};
+ghost use Rattle.sets.specs.Members.{members};
+ghost use Rattle.places.specs.Statuses.{withStatuses};
+ghost use Rattle.locks.specs.Held.{NoneFrom, released};
+ghost use Rattle.log.specs.Records.{unowned};
+ghost use Rattle.permits.specs.Tables.{permitsLeft};
+ghost use Rattle.ties.specs.Tables.{tiesLeft};
+
+// The log records of ended changes go.
+fn drop_log(w: &mut [u8], ended: ChangeSet)
+    requires { ⌜ length (now w) ≡ windowSize ⌝ }
+    requires { ⌜ soundBytes (now w) ≡ true ⌝ }
+    ensures { λ _. ⌜ now (w .exit) ≡ encode (withLog (decode (now (w .entry))) (unowned (members ended) (decode (now (w .entry)) .log))) ⌝ }
+{
+    let count = reads::records(w);
+    let left = log::drop_owned(&mut w[Log::AT..layout::Window::SIZE], count, ended);
+    store_figure(&mut w[Header::AT..Entries::AT], 2, left as u16);
+}
+
+// The permits that ended changes gave or received go.
+fn drop_permits(w: &mut [u8], count: usize, ended: ChangeSet)
+    requires { ⌜ length (now w) ≡ windowSize ⌝ }
+    requires { ⌜ count ≤ 1024 ⌝ }
+    ensures { λ _. ⌜ ((W : Window) → count ≡ length (W .permits) → now (w .entry) ≡ encode W → now (w .exit) ≡ encode (withPermits W (permitsLeft (members ended) (W .permits)))) ⌝ }
+{
+    let left = permits::drop_ended(&mut w[Permits::AT..Ties::AT], count, ended);
+    store_figure(&mut w[Header::AT..Entries::AT], 3, left as u16);
+}
+
+// The ties that ended changes lead or follow go.
+fn drop_ties(w: &mut [u8], count: usize, ended: ChangeSet)
+    requires { ⌜ length (now w) ≡ windowSize ⌝ }
+    requires { ⌜ count ≤ 512 ⌝ }
+    ensures { λ _. ⌜ ((W : Window) → count ≡ length (W .ties) → now (w .entry) ≡ encode W → now (w .exit) ≡ encode (withTies W (tiesLeft (members ended) (W .ties)))) ⌝ }
+{
+    let left = ties::drop_ended(&mut w[Ties::AT..Log::AT], count, ended);
+    store_figure(&mut w[Header::AT..Entries::AT], 4, left as u16);
+}
+
+// Ended changes get their last status, and their locks go.
+fn set_ended(w: &mut [u8], entries: usize, ended: ChangeSet, how: u8)
+    requires { ⌜ length (now w) ≡ windowSize ⌝ }
+    requires { ⌜ entries ≤ 256 ⌝ }
+    ensures { λ _. ⌜ ((W : Window) → NoneFrom entries (W .held) → now (w .entry) ≡ encode W → now (w .exit) ≡ encode (withHeld (withStatus W (withStatuses (members ended) how (W .status))) (released (members ended) (W .held)))) ⌝ }
+{
+    places::set_statuses(&mut w[Changes::AT..Line::AT], ended, how);
+    locks::release(&mut w[Locks::AT..Permits::AT], entries, ended);
+}
+
+// Changes end, as committed (4) or aborted (5).
+pub fn end_all(w: &mut [u8], ended: ChangeSet, how: u8)
+    requires { ⌜ length (now w) ≡ windowSize ⌝ }
+    requires { ⌜ soundBytes (now w) ≡ true ⌝ }
+    ensures { λ _. ⌜ now (w .exit) ≡ encode (endAll how (members ended) (decode (now (w .entry)))) ⌝ }
+{
+    let entries = reads::entries(w);
+    let permits = reads::permits(w);
+    let ties = reads::ties(w);
+    drop_log(w, ended);
+    drop_permits(w, permits, ended);
+    drop_ties(w, ties, ended);
+    set_ended(w, entries, ended, how);
+}
+
+// The log records of ended changes are undone, in a copy of the values: of one window, a part to write and a part to read cannot be lent at once.
+pub fn undo(w: &mut [u8], ended: ChangeSet)
+    requires { ⌜ length (now w) ≡ windowSize ⌝ }
+    requires { ⌜ soundBytes (now w) ≡ true ⌝ }
+    ensures { λ _. ⌜ now (w .exit) ≡ encode (withValue (decode (now (w .entry))) (undone (members ended) (decode (now (w .entry)) .log) (decode (now (w .entry)) .value))) ⌝ }
+    ensures { λ _. ⌜ soundBytes (now (w .exit)) ≡ true ⌝ }
+{
+    let records = reads::records(w);
+    let mut values = [0u8; Entries::SIZE];
+    copy_in(&w[Entries::AT..Changes::AT], &mut values, 0);
+    log::undo(
+        &mut values,
+        &w[Log::AT..layout::Window::SIZE],
+        records,
+        ended,
+    );
+    copy_in(&values, w, Entries::AT);
+}
