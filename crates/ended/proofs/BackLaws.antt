@@ -6,15 +6,13 @@ use native.Mathlib.Omega.{arith}
 use lib.ListN.{length, take, drop, set}
 use Rattle.rules.specs.Sets.{Set}
 use Rattle.rules.specs.Window.{LogRecord, PermitRecord, TieRecord, Window, withValue, withStatus, withHeld, withLog, withPermits, withTies}
+use Rattle.rules.specs.Effects.{isUnowned, unowned, permitsLeft, tiesLeft}
 use Rattle.rules.proofs.ListLaws.{length-keep}
 use Rattle.layout.specs.Codec.{headAt, headSize, valuesAt, valuesSize, changesAt, changesSize, locksAt, locksSize, permitsAt, permitsSize, tiesAt, tiesSize, logAt, logSize, figures, valueSection, changeSection, lockSection, permitSection, tieSection, logSection, lay, encode}
+use Rattle.layout.specs.Records.{Tabled}
 use Rattle.layout.proofs.PartLaws.{changes-part, locks-part, permits-part, ties-part, log-part}
 use Rattle.layout.proofs.LentLaws.{lent, FigureStored, head-lent}
 use Rattle.layout.proofs.PutLaws.{laidAt, withChanges, values-put, changes-put, locks-put, permits-put, ties-put, log-put}
-use Rattle.rows.specs.Rows.{Holds}
-use Rattle.log.specs.Records.{isUnowned, unowned, Dropped}
-use Rattle.permits.specs.Tables.{permitsLeft}
-use Rattle.ties.specs.Tables.{tiesLeft}
 
 module _ (W : Window) {bs : List ℕ} (e : bs ≡ encode W) where
   -- THE TABLES OF A FIXED SIZE
@@ -34,33 +32,33 @@ module _ (W : Window) {bs : List ℕ} (e : bs ≡ encode W) where
   module _ {A : Type 0} (section : List A → List ℕ) (l : List A) (after : List A → Window) (at n k : ℕ) where
     table-left : take n (drop at (lay (figures W) W)) ≡ section l → ((x : List A) → laidAt (lay (figures W) W) at n (section x) ≡ lay (figures W) (after x)) → k < 5
         → ((x : List A) → lay (set (figures W) k (length x)) (after x) ≡ encode (after x)) → (x : List A) (r : ℕ) {out head : List ℕ}
-        → (take n (drop at bs) ≡ section l → Holds section x r out) → FigureStored (laidAt bs at n out) k r head → laidAt (laidAt bs at n out) headAt headSize head ≡ encode (after x)
+        → (take n (drop at bs) ≡ section l → Tabled section x r out) → FigureStored (laidAt bs at n out) k r head → laidAt (laidAt bs at n out) headAt headSize head ≡ encode (after x)
     unfolding encode figures
     table-left cut put h own x r {out} f g =
         let d = f (ap (λ b. take n (drop at b)) e ∙ cut) in
         head-lent (figures W) (after x) (lent at n cut (put x) e (λ q. d .bytes)) k r (omega arith) g ∙ ap (λ c. lay (set (figures W) k c) (after x)) (d .count) ∙ own x
 
   -- what is left of the log is counted in two bytes
-  pub log-fits : (m : Set) (count r : ℕ) {out : List ℕ} → count ≡ length (W .log) → count ≤ 2048 → ((l : List LogRecord) → length l ≡ count → take logSize (drop logAt bs) ≡ logSection l → Dropped m l r out) → r < 65536
+  pub log-fits : (m : Set) (count r : ℕ) {out : List ℕ} → count ≡ length (W .log) → count ≤ 2048 → ((l : List LogRecord) → length l ≡ count → take logSize (drop logAt bs) ≡ logSection l → Tabled logSection (unowned m l) r out) → r < 65536
   unfolding encode unowned
   log-fits m count r c h d = omega (arith, d (W .log) (sym c) (ap (λ l. take logSize (drop logAt l)) e ∙ log-part (figures W) W) .count, length-keep (isUnowned m) (W .log))
 
   pub log-left : (m : Set) (count r : ℕ) {out head : List ℕ} → count ≡ length (W .log)
-      → ((l : List LogRecord) → length l ≡ count → take logSize (drop logAt bs) ≡ logSection l → Dropped m l r out) → FigureStored (laidAt bs logAt logSize out) 2 r head
+      → ((l : List LogRecord) → length l ≡ count → take logSize (drop logAt bs) ≡ logSection l → Tabled logSection (unowned m l) r out) → FigureStored (laidAt bs logAt logSize out) 2 r head
       → laidAt (laidAt bs logAt logSize out) headAt headSize head ≡ encode (withLog W (unowned m (W .log)))
   unfolding encode figures withLog
   log-left m count r c d = table-left logSection (W .log) (withLog W) logAt logSize 2 (log-part (figures W) W) (log-put (figures W) W) (omega arith) (λ x. refl)
-      (unowned m (W .log)) r (λ q. let x = d (W .log) (sym c) q in record { count = x .count; bytes = x .bytes })
+      (unowned m (W .log)) r (d (W .log) (sym c))
 
   pub permits-left : (m : Set) (count r : ℕ) {out head : List ℕ} → count ≡ length (W .permits)
-      → ((l : List PermitRecord) → length l ≡ count → take permitsSize (drop permitsAt bs) ≡ permitSection l → Holds permitSection (permitsLeft m l) r out) → FigureStored (laidAt bs permitsAt permitsSize out) 3 r head
+      → ((l : List PermitRecord) → length l ≡ count → take permitsSize (drop permitsAt bs) ≡ permitSection l → Tabled permitSection (permitsLeft m l) r out) → FigureStored (laidAt bs permitsAt permitsSize out) 3 r head
       → laidAt (laidAt bs permitsAt permitsSize out) headAt headSize head ≡ encode (withPermits W (permitsLeft m (W .permits)))
   unfolding encode figures withPermits
   permits-left m count r c d = table-left permitSection (W .permits) (withPermits W) permitsAt permitsSize 3 (permits-part (figures W) W) (permits-put (figures W) W) (omega arith) (λ x. refl)
       (permitsLeft m (W .permits)) r (d (W .permits) (sym c))
 
   pub ties-left : (m : Set) (count r : ℕ) {out head : List ℕ} → count ≡ length (W .ties)
-      → ((l : List TieRecord) → length l ≡ count → take tiesSize (drop tiesAt bs) ≡ tieSection l → Holds tieSection (tiesLeft m l) r out) → FigureStored (laidAt bs tiesAt tiesSize out) 4 r head
+      → ((l : List TieRecord) → length l ≡ count → take tiesSize (drop tiesAt bs) ≡ tieSection l → Tabled tieSection (tiesLeft m l) r out) → FigureStored (laidAt bs tiesAt tiesSize out) 4 r head
       → laidAt (laidAt bs tiesAt tiesSize out) headAt headSize head ≡ encode (withTies W (tiesLeft m (W .ties)))
   unfolding encode figures withTies
   ties-left m count r c d = table-left tieSection (W .ties) (withTies W) tiesAt tiesSize 4 (ties-part (figures W) W) (ties-put (figures W) W) (omega arith) (λ x. refl)

@@ -9,7 +9,7 @@ use lib.ListN.{length, getD, take, drop, replicate}
 use Rattle.rules.specs.Sets.{Set}
 use Rattle.rules.specs.Window.{limits, LogRecord, Window, live, withValue, withStatus, withHeld, withLog, withPermits, withTies}
 use Rattle.rules.specs.Sound.{recordSound}
-use Rattle.rules.specs.Effects.{endAll, undo}
+use Rattle.rules.specs.Effects.{withStatuses, released, unowned, permitsLeft, tiesLeft, endAll, undo}
 use Rattle.rules.proofs.BaseLaws.{lt-of}
 use Rattle.rules.proofs.ListLaws.{all-weaken, all-getD}
 use Rattle.rules.proofs.SoundParts.{Sound, record-parts}
@@ -21,12 +21,8 @@ use Rattle.layout.proofs.SectionLaws.{length-table}
 use Rattle.layout.proofs.PutLaws.{laidAt}
 use Rattle.cells.specs.Part.{part, patch}
 use Rattle.cells.proofs.PartLaws.{length-part}
-use Rattle.places.specs.Statuses.{withStatuses}
-use Rattle.locks.specs.Held.{NoneFrom, rowWithout, released}
-use Rattle.log.specs.Records.{isUnowned, unowned}
-use Rattle.permits.specs.Tables.{permitsLeft}
+use Rattle.locks.specs.Held.{NoneFrom}
 use Rattle.permits.proofs.HandLaws.{copied}
-use Rattle.ties.specs.Tables.{tiesLeft}
 use Rattle.reads.proofs.ReadLaws.{values-known, log-known, none-from}
 use Rattle.ended.proofs.BackLaws.{statuses-back, locks-back, values-back}
 
@@ -44,7 +40,7 @@ statuses-and-locks W e m how entries n f g =
 
 -- all steps are the rules'
 all-ended : (how : ℕ) (m : Set) (W : Window) → withEnded how m (withTies (withPermits (withLog W (unowned m (W .log))) (permitsLeft m (W .permits))) (tiesLeft m (W .ties))) ≡ endAll how m W
-unfolding endAll withHeld withStatus withTies withPermits withLog withStatuses released rowWithout unowned isUnowned permitsLeft tiesLeft
+unfolding endAll withHeld withStatus withTies withPermits withLog withStatuses released unowned permitsLeft tiesLeft
 all-ended how m W = refl
 
 module _ (bs : List ℕ) (s : soundBytes bs ≡ true) where

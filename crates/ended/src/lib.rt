@@ -15,15 +15,11 @@ ghost use mathlib.Core.Bool.{true};
 ghost use Prim.Native.Nat.{_≤_};
 ghost use lib.ListN.{length};
 ghost use Rattle.rules.specs.Window.{Window, withValue, withStatus, withHeld, withLog, withPermits, withTies};
-ghost use Rattle.rules.specs.Effects.{endAll, undo as undone};
+ghost use Rattle.rules.specs.Effects.{withStatuses, released, unowned, permitsLeft, tiesLeft, endAll, undo as undone};
 ghost use Rattle.layout.specs.Codec.{windowSize, decode, encode};
 ghost use Rattle.layout.specs.Memory.{soundBytes};
 ghost use Rattle.sets.specs.Members.{members};
-ghost use Rattle.places.specs.Statuses.{withStatuses};
-ghost use Rattle.locks.specs.Held.{NoneFrom, released};
-ghost use Rattle.log.specs.Records.{unowned};
-ghost use Rattle.permits.specs.Tables.{permitsLeft};
-ghost use Rattle.ties.specs.Tables.{tiesLeft};
+ghost use Rattle.locks.specs.Held.{NoneFrom};
 
 // The log records of ended changes go.
 fn drop_log(w: &mut [u8], ended: ChangeSet)

@@ -10,10 +10,10 @@ use Rattle.rules.specs.Sets.{Set, only}
 use Rattle.rules.specs.Window.{PermitRecord, Window, withHeld, withPermits}
 use Rattle.rules.specs.Effects.{moveHeld, movePermits, handOver}
 use Rattle.layout.specs.Codec.{locksSize, permitsSize, lockSection, permitSection}
+use Rattle.layout.specs.Records.{Tabled}
 use Rattle.layout.proofs.LengthLaws.{length-locks, length-permits}
 use Rattle.layout.proofs.PutLaws.{laidAt}
 use Rattle.sets.specs.Entries.{onEntries}
-use Rattle.rows.specs.Rows.{Holds}
 use Rattle.locks.specs.Held.{everyEntry}
 use Rattle.handover.specs.Delegated.{tablesOf, AreTables}
 
@@ -54,7 +54,7 @@ module _ (W : Window) where
 -- HANDED OVER, one after the other
 pub tables-handed : (W : Window) (from to : ℕ) (on : Set) (bytes xs ys : List ℕ) (n : ℕ) → bytes ≡ tablesOf W
     → (take locksSize bytes ≡ lockSection W.held → xs ≡ lockSection (moveHeld from to on W.held))
-    → (take permitsSize (drop locksSize (laidAt bytes 0 locksSize xs)) ≡ permitSection W.permits → Holds permitSection (movePermits from to on W.permits) n ys)
+    → (take permitsSize (drop locksSize (laidAt bytes 0 locksSize xs)) ≡ permitSection W.permits → Tabled permitSection (movePermits from to on W.permits) n ys)
     → AreTables (handOver W from to on) n (laidAt (laidAt bytes 0 locksSize xs) locksSize permitsSize ys)
 unfolding withHeld withPermits handOver tablesOf
 tables-handed W from to on bytes xs ys n e f g =

@@ -1,9 +1,10 @@
--- The record at a place of a section, read from the section's bytes; and a bound on the ends of ties. Words of inner contracts. Assumes nothing.
+-- The record at a place of a section, read from the section's bytes; a bound on the ends of ties; a table in its section. Words of inner contracts. Assumes nothing.
+use mathlib.Core.Path.{_≡_}
 use mathlib.Core.Bool.{Bool, _&&_}
 use mathlib.Core.List.{List}
 use Prim.Native.Nat.{ℕ, _+_, _*_}
 use lib.Dec.{ltb}
-use lib.ListN.{getD}
+use lib.ListN.{getD, length}
 use Rattle.rules.specs.Base.{all}
 use Rattle.rules.specs.Window.{LogRecord, PermitRecord, TieRecord}
 use Rattle.rules.specs.Locks.{makePermit}
@@ -27,3 +28,10 @@ recordAt bs j = record { owner = getD bs (j * 6) 0; entry = getD bs (j * 6 + 1) 
 -- both ends of each tie are below n
 unfoldable pub endsBelow : ℕ → List TieRecord → Bool
 endsBelow n ts = all (λ t. ltb t.leader n && ltb t.follower n) ts
+
+-- a table of r records, as a section's bytes
+pub record Tabled {A : Type 0} (section : List A → List ℕ) (l : List A) (r : ℕ) (after : List ℕ) : Type 0 where
+  -- how many there are
+  pub count : r ≡ length l
+  -- every byte of the section
+  pub bytes : after ≡ section l

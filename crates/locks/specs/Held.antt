@@ -36,10 +36,6 @@ holdersAmong locks at bytes c = (loaded locks at c || loaded locks (at + 32) c) 
 unfoldable pub rowWithout : Set → (ℕ → ℕ) → ℕ → ℕ
 rowWithout s row c = cond (s c) 0 (row c)
 
--- "An ended change loses its locks": every row without those of the set
-unfoldable pub released : Set → (ℕ → ℕ → ℕ) → ℕ → ℕ → ℕ
-released s held e = rowWithout s (held e)
-
 -- the locks with the rows of a set of entries changed by one rule
 unfoldable pub changedOn : Set → ((ℕ → ℕ) → ℕ → ℕ) → (ℕ → ℕ → ℕ) → ℕ → ℕ → ℕ
 changedOn on rule held e c = cond (on e) (rule (held e) c) (held e c)

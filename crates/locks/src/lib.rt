@@ -7,10 +7,10 @@ ghost use Prim.Native.Nat.{ℕ, _+_, _≤_, _<_, max};
 ghost use lib.ListN.{length};
 ghost use Rattle.rules.specs.Base.{anyBelow, put, put2};
 ghost use Rattle.rules.specs.Sets.{only};
-ghost use Rattle.rules.specs.Effects.{moveHeld};
+ghost use Rattle.rules.specs.Effects.{moveHeld, released};
 ghost use Rattle.layout.specs.Codec.{lockSection, locksSize};
 ghost use Rattle.sets.specs.Members.{members, loaded};
-ghost use Rattle.locks.specs.Held.{Modes, NoneFrom, inMode, holding, clashesWith, holdersAmong, rowWithout, released, changedOn, everyEntry};
+ghost use Rattle.locks.specs.Held.{Modes, NoneFrom, inMode, holding, clashesWith, holdersAmong, rowWithout, changedOn, everyEntry};
 ghost use Rattle.locks.specs.Entry.{LocksOf};
 
 // The changes that hold an entry to read.

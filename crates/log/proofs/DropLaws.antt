@@ -10,14 +10,15 @@ use lib.ListN.{length, getD, set, replicate, replicate-append-replicate}
 use Rattle.rules.specs.Base.{keep}
 use Rattle.rules.specs.Sets.{Set}
 use Rattle.rules.specs.Window.{LogRecord}
+use Rattle.rules.specs.Effects.{isUnowned, unowned}
 use Rattle.rules.proofs.ListLaws.{length-keep}
 use Rattle.layout.specs.Codec.{noRecord, recordBytes, logSection}
+use Rattle.layout.specs.Records.{Tabled}
 use Rattle.layout.proofs.RecordLaws.{flat, log-flat}
 use Rattle.cells.specs.Part.{part, patch}
 use Rattle.cells.proofs.PartLaws.{getD-part, part-cons, sets-patch}
 use Rattle.cells.proofs.NumLaws.{part4}
 use Rattle.cells.proofs.CloseLaws.{Closing, closing-none, closing-here, closing-turn, closing-all}
-use Rattle.log.specs.Records.{isUnowned, unowned, Dropped}
 use Rattle.log.proofs.LogLaws.{length-record}
 
 -- A RECORD MOVED: its six bytes, as straight-line code reads them
@@ -75,7 +76,7 @@ cleared l x y h e =
 
 -- all were read, and the rest is cleared
 pub dropping-all : (s : Set) (l : List LogRecord) (log : List ℕ) (n j : ℕ) (out : List ℕ) → length l ≡ n → n ≤ 2048 → Dropping s l log n j
-    → out ≡ patch log (j * 6) (replicate (n * 6 - j * 6) 0) → Dropped s l j out
+    → out ≡ patch log (j * 6) (replicate (n * 6 - j * 6) 0) → Tabled logSection (unowned s l) j out
 unfolding unowned
 dropping-all s l log n j out e h m o =
     let a = closing-all 6 recordBytes (isUnowned s) l (unused l) log n j e m (j * 6) (n * 6) refl refl in

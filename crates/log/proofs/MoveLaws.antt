@@ -10,10 +10,9 @@ use lib.ListN.{length, take, drop, getD, set}
 use lib.Seq.{set-getD}
 use Rattle.rules.specs.Sets.{Set}
 use Rattle.rules.specs.Window.{LogRecord}
-use Rattle.rules.specs.Effects.{moveLog}
+use Rattle.rules.specs.Effects.{moveLog, movedRecord}
 use Rattle.layout.specs.Codec.{noRecord, logSection}
 use Rattle.sets.specs.Entries.{onEntries}
-use Rattle.log.specs.Records.{movedRecord}
 use Rattle.log.proofs.LogLaws.{owner-read, entry-read, owner-store}
 
 -- ONE RECORD, by the test of its two bytes

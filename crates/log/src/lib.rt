@@ -12,12 +12,12 @@ ghost use mathlib.Core.List.{List, [], _∷_, _++_};
 ghost use Prim.Native.Nat.{ℕ, _+_, _*_, _^_, _≤_, _<_};
 ghost use lib.ListN.{length, getD, set};
 ghost use Rattle.rules.specs.Window.{LogRecord};
-ghost use Rattle.rules.specs.Effects.{moveLog, undo as undone};
+ghost use Rattle.rules.specs.Effects.{movedRecord, moveLog, unowned, undo as undone};
 ghost use Rattle.layout.specs.Codec.{noRecord, valuesSize, logSize, valueSection, logSection};
+ghost use Rattle.layout.specs.Records.{Tabled};
 ghost use Rattle.cells.specs.Part.{part, patch};
 ghost use Rattle.sets.specs.Members.{members, wordsHave};
 ghost use Rattle.sets.specs.Entries.{onEntries};
-ghost use Rattle.log.specs.Records.{Dropped, movedRecord};
 
 // The owner of record i.
 pub fn owner_at(log: &[u8], i: usize) -> u8
@@ -100,7 +100,7 @@ fn keep_record(log: &mut [u8], i: usize, to: usize, ended: &[u64; 4]) -> usize
 pub fn drop_owned(log: &mut [u8], count: usize, ended: ChangeSet) -> usize
     requires { ⌜ length (now log) ≡ logSize ⌝ }
     requires { ⌜ count ≤ 2048 ⌝ }
-    ensures { λ r. ⌜ ((l : List LogRecord) → length l ≡ count → now (log .entry) ≡ logSection l → Dropped (members ended) l r (now (log .exit))) ⌝ }
+    ensures { λ r. ⌜ ((l : List LogRecord) → length l ≡ count → now (log .entry) ≡ logSection l → Tabled logSection (unowned (members ended) l) r (now (log .exit))) ⌝ }
 {
     let words = ended.words;
     let mut kept = 0;

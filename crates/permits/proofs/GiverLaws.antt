@@ -16,7 +16,7 @@ use Rattle.rules.proofs.BaseLaws.{and-false, no-true}
 use Rattle.layout.specs.Codec.{permitSection}
 use Rattle.layout.proofs.SectionLaws.{Bytes}
 use Rattle.sets.proofs.MemberLaws.{add-passed, nothing-added}
-use Rattle.rows.specs.Rows.{Row, rowKey, rankOf, rank, rowAt, rows, Found}
+use Rattle.rows.specs.Rows.{Row, rowKey, rankOf, rank, rowAt, rows, KeyPlace}
 use Rattle.rows.proofs.OrderLaws.{Small, small-at, ranks-rise}
 use Rattle.rows.proofs.RowLaws.{rows-split}
 use Rattle.rows.proofs.PlaceLaws.{any-where}
@@ -79,7 +79,7 @@ FromEntry l n entry i = (j : ℕ) → i ≤ j → j < n → entry ≤ rowAt l j 
 
 module _ (l : List ℕ) (n : ℕ) (b : Bytes l) (taker entry mode : ℕ) where
   -- the rows before the entry's place do not count
-  pub walk-from : (at : ℕ) → at ≤ n → Found l n (rankOf entry 0 0) at → (k : ℕ) → ahead l n taker entry mode at k ≡ any (grants k taker entry mode) (rows n l)
+  pub walk-from : (at : ℕ) → at ≤ n → KeyPlace l n (rankOf entry 0 0) at → (k : ℕ) → ahead l n taker entry mode at k ≡ any (grants k taker entry mode) (rows n l)
   unfolding ahead
   walk-from at h f k =
       sym (ap (any (grants k taker entry mode)) (rows-split l n at h) ∙ any-append (grants k taker entry mode) (table at 0 (rowAt l)) (table (n - at) at (rowAt l))
@@ -89,7 +89,7 @@ module _ (l : List ℕ) (n : ℕ) (b : Bytes l) (taker entry mode : ℕ) where
       before j g e = let low : rank (rowAt l j) < rankOf entry 0 0 = f .lower j g in unfold rank in omega arith
 
   -- from its place on no row has a lower entry
-  pub walk-entry : (at : ℕ) → Found l n (rankOf entry 0 0) at → FromEntry l n entry at
+  pub walk-entry : (at : ℕ) → KeyPlace l n (rankOf entry 0 0) at → FromEntry l n entry at
   walk-entry at f j h g = let s : Small (rowAt l j) = small-at l b j in let high : rankOf entry 0 0 ≤ rank (rowAt l j) = f .higher j h g in unfold rank in omega arith
 
   -- the next row is of the entry: its giver may be noted

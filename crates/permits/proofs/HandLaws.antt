@@ -16,8 +16,9 @@ use Rattle.rules.proofs.ListLaws.{length-parts}
 use Rattle.rules.proofs.SortLaws.{rising-keep, length-inserts}
 use Rattle.rules.proofs.SoundPermit.{unite-key}
 use Rattle.layout.specs.Codec.{permitSection}
+use Rattle.layout.specs.Records.{Tabled}
 use Rattle.cells.specs.Part.{patch}
-use Rattle.rows.specs.Rows.{Row, rowKey, rows, addRow, Stored, Closed, Holds}
+use Rattle.rows.specs.Rows.{Row, rowKey, rows, addRow, Stored, Closed}
 use Rattle.rows.proofs.RowLaws.{length-rows}
 use Rattle.rows.proofs.CloseLaws.{closed-rows}
 use Rattle.rows.proofs.TableLaws.{keep-map, added-all-map, length-least-all, table-rows, table-rising, table-stored, table-closed}
@@ -57,7 +58,7 @@ pub record Parted (bytes : List ℕ) (n from to : ℕ) (on : Set) (moved : List 
 module _ (ps : List PermitRecord) (n : ℕ) (bytes : List ℕ) (len : length ps ≡ n) (is : bytes ≡ permitSection ps) (few : n ≤ 1024)
     (from to : ℕ) (on : Set) (moved : List ℕ) (m : ℕ) (rest : List ℕ) (left : ℕ) (p : Parted bytes n from to on moved m rest left) where
   -- the permits that stay are what is left
-  here : Holds permitSection (keep (stays from on) ps) left rest
+  here : Tabled permitSection (keep (stays from on) ps) left rest
   unfolding handed givenBy permitRow
   here = table-closed permitRow permitKey permitSection 1024 permit-table ps n bytes len is few (handed from to on false) (stays from on) (λ q. refl) left rest (p .kept)
 
@@ -82,7 +83,7 @@ module _ (ps : List PermitRecord) (n : ℕ) (bytes : List ℕ) (len : length ps 
   hand-rising r = table-rising permitRow permitKey permitSection 1024 permit-table (keep (stays from on) ps) left rest (sym (here .count)) (here .bytes) (omega (arith, hand-fits)) (rising-keep permitKey (stays from on) ps r)
 
   -- those that move, given by another, with those that stay: the rules' hand-over
-  pub hand-over : (r : ℕ) (after : List ℕ) → Stored (foldr addRow (rows left rest) (map (withGiver to) (rows m moved))) rest r after → Holds permitSection (movePermits from to on ps) r after
+  pub hand-over : (r : ℕ) (after : List ℕ) → Stored (foldr addRow (rows left rest) (map (withGiver to) (rows m moved))) rest r after → Tabled permitSection (movePermits from to on ps) r after
   unfolding movePermits addPermit
   hand-over r after s =
       table-stored permitRow permitKey permitSection 1024 permit-table (keep (stays from on) ps) left rest (sym (here .count)) (here .bytes) (omega (arith, hand-fits))

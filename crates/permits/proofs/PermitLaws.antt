@@ -1,6 +1,6 @@
 -- Permits as rows, and what the calls on rows come to in permits. Assumes nothing.
 use mathlib.Core.Path.{_≡_, refl, ap, _∙_}
-use mathlib.Core.Bool.{Bool, true, not, _||_}
+use mathlib.Core.Bool.{Bool, true, not}
 use mathlib.Core.List.{List, _++_}
 use Prim.Native.Nat.{ℕ, _-_, _*_, _≤_}
 use lib.ListN.{length, replicate}
@@ -8,11 +8,12 @@ use Rattle.rules.specs.Base.{exceeds, rising}
 use Rattle.rules.specs.Sets.{Set}
 use Rattle.rules.specs.Window.{limits, PermitRecord, permitKey}
 use Rattle.rules.specs.Locks.{makePermit, unitePermits, addPermit}
+use Rattle.rules.specs.Effects.{permitStays, permitsLeft}
 use Rattle.layout.specs.Codec.{permitBytes, permitSection}
+use Rattle.layout.specs.Records.{Tabled}
 use Rattle.layout.proofs.RecordLaws.{permits-flat}
-use Rattle.rows.specs.Rows.{Row, row, rowKey, rowBytes, rows, uniteRows, addRow, unlessOver, spared, Stored, Closed, Holds}
+use Rattle.rows.specs.Rows.{Row, row, rowKey, rowBytes, rows, uniteRows, addRow, unlessOver, spared, Stored, Closed}
 use Rattle.rows.proofs.TableLaws.{TableOf, flat-rows, table-rising, table-fits, table-added, table-left}
-use Rattle.permits.specs.Tables.{permitsLeft}
 
 -- a permit's row
 unfoldable pub permitRow : PermitRecord → Row
@@ -33,9 +34,9 @@ permit-united p q = refl
 
 -- the rows that are spared are those that the rules leave
 pub permits-left : (s : Set) (n : ℕ) (bytes : List ℕ) → n ≤ 1024 → (r : ℕ) (after : List ℕ) → Closed (spared s) n bytes r after
-    → (r ≤ n) × ((ps : List PermitRecord) → length ps ≡ n → bytes ≡ permitSection ps → Holds permitSection (permitsLeft s ps) r after)
-unfolding permitsLeft spared permitRow
-permits-left = table-left permitRow permitKey permitSection 1024 permit-table (λ s p. not (s p.giver || s p.taker)) (λ s p. refl)
+    → (r ≤ n) × ((ps : List PermitRecord) → length ps ≡ n → bytes ≡ permitSection ps → Tabled permitSection (permitsLeft s ps) r after)
+unfolding permitsLeft permitStays spared permitRow
+permits-left = table-left permitRow permitKey permitSection 1024 permit-table permitStays (λ s p. refl)
 
 -- THE CALLS, on `ps` whose section is `bytes`
 module _ (ps : List PermitRecord) (n : ℕ) (bytes : List ℕ) (len : length ps ≡ n) (is : bytes ≡ permitSection ps) (few : n ≤ 1024) where
@@ -50,6 +51,6 @@ module _ (ps : List PermitRecord) (n : ℕ) (bytes : List ℕ) (len : length ps 
 
     -- a permit is added where its row is
     pub permits-added : (r : ℕ) (after : List ℕ) → Stored (unlessOver 1024 (addRow (row e g t o) (rows n bytes)) (rows n bytes)) bytes r after
-        → Holds permitSection (unlessOver (limits .permits) (addPermit (makePermit g t e o) ps) ps) r after
+        → Tabled permitSection (unlessOver (limits .permits) (addPermit (makePermit g t e o) ps) ps) r after
     unfolding addPermit makePermit permitRow limits
     permits-added r after s = table-added permitRow permitKey permitSection 1024 permit-table ps n bytes len is few unitePermits permit-united (makePermit g t e o) r after s

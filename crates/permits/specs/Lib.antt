@@ -1,3 +1,2 @@
--- The table of permits: in the rules' terms, and row by row.
-pub mod Tables
+-- The table of permits, row by row.
 pub mod PermitRows

@@ -14,12 +14,12 @@ ghost use lib.ListN.{length};
 ghost use Rattle.rules.specs.Base.{rising, exceeds};
 ghost use Rattle.rules.specs.Window.{limits, PermitRecord, permitKey};
 ghost use Rattle.rules.specs.Locks.{permitted, makePermit, addPermit};
-ghost use Rattle.rules.specs.Effects.{movePermits};
+ghost use Rattle.rules.specs.Effects.{movePermits, permitsLeft};
 ghost use Rattle.layout.specs.Codec.{permitsSize, permitSection};
+ghost use Rattle.layout.specs.Records.{Tabled};
 ghost use Rattle.sets.specs.Members.{members};
 ghost use Rattle.sets.specs.Entries.{onEntries};
-ghost use Rattle.rows.specs.Rows.{rowKey, rowAt, rows, addRow, unlessOver, Stored, Closed, Holds};
-ghost use Rattle.permits.specs.Tables.{permitsLeft};
+ghost use Rattle.rows.specs.Rows.{rowKey, rowAt, rows, addRow, unlessOver, Stored, Closed};
 ghost use Rattle.permits.specs.PermitRows.{handed, withGiver, serves};
 
 // Whether a permit of the key can be added, with any operations: there is room, or one stands already.
@@ -44,7 +44,7 @@ pub fn add(
     requires { ⌜ length (now permits) ≡ permitsSize ⌝ }
     requires { ⌜ count ≤ 1024 ⌝ }
     ensures { λ r. ⌜ r ≤ 1024 ⌝ }
-    ensures { λ r. ⌜ ((ps : List PermitRecord) → length ps ≡ count → now (permits .entry) ≡ permitSection ps → rising permitKey ps ≡ true → Holds permitSection (unlessOver (limits .permits) (addPermit (makePermit giver taker entry operations) ps) ps) r (now (permits .exit))) ⌝ }
+    ensures { λ r. ⌜ ((ps : List PermitRecord) → length ps ≡ count → now (permits .entry) ≡ permitSection ps → rising permitKey ps ≡ true → Tabled permitSection (unlessOver (limits .permits) (addPermit (makePermit giver taker entry operations) ps) ps) r (now (permits .exit))) ⌝ }
 {
     let most = Permits::MOST;
     rows::add(permits, count, most, entry, giver, taker, operations)
@@ -55,7 +55,7 @@ pub fn drop_ended(permits: &mut [u8], count: usize, ended: ChangeSet) -> usize
     requires { ⌜ length (now permits) ≡ permitsSize ⌝ }
     requires { ⌜ count ≤ 1024 ⌝ }
     ensures { λ r. ⌜ r ≤ count ⌝ }
-    ensures { λ r. ⌜ ((ps : List PermitRecord) → length ps ≡ count → now (permits .entry) ≡ permitSection ps → Holds permitSection (permitsLeft (members ended) ps) r (now (permits .exit))) ⌝ }
+    ensures { λ r. ⌜ ((ps : List PermitRecord) → length ps ≡ count → now (permits .entry) ≡ permitSection ps → Tabled permitSection (permitsLeft (members ended) ps) r (now (permits .exit))) ⌝ }
 {
     rows::drop_involving(permits, count, ended)
 }
@@ -139,7 +139,7 @@ pub fn hand_over(
     requires { ⌜ length (now permits) ≡ permitsSize ⌝ }
     requires { ⌜ count ≤ 1024 ⌝ }
     ensures { λ r. ⌜ r ≤ 1024 ⌝ }
-    ensures { λ r. ⌜ ((ps : List PermitRecord) → length ps ≡ count → now (permits .entry) ≡ permitSection ps → rising permitKey ps ≡ true → Holds permitSection (movePermits from to (onEntries every entry) ps) r (now (permits .exit))) ⌝ }
+    ensures { λ r. ⌜ ((ps : List PermitRecord) → length ps ≡ count → now (permits .entry) ≡ permitSection ps → rising permitKey ps ≡ true → Tabled permitSection (movePermits from to (onEntries every entry) ps) r (now (permits .exit))) ⌝ }
 {
     let mut moved = [0u8; Permits::SIZE];
     copy_in(permits, &mut moved, 0);

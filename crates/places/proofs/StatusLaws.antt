@@ -12,11 +12,12 @@ use borrow.Author.Tests.{eq-eqb}
 use lib.ListN.{getD}
 use Rattle.rules.specs.Base.{put, outside}
 use Rattle.rules.specs.Sets.{Set}
+use Rattle.rules.specs.Effects.{withStatuses}
 use Rattle.rules.proofs.BaseLaws.{Same, same, other, same?, ltb-true, ltb-false, Below, under, over, below, and-false, and-right, or-comm, both-ways, eqb-eq, lt-of}
 use Rattle.layout.specs.Codec.{changeSection, bit, unpack}
 use Rattle.cells.proofs.Digits.{unpack-zero, unpack-power, unpack-or, unpack-mod}
 use Rattle.sets.proofs.WalkLaws.{Lowest, lowest-rises}
-use Rattle.places.specs.Statuses.{withStatuses, firsts, inRange}
+use Rattle.places.specs.Statuses.{firsts, inRange}
 use Rattle.places.proofs.TableLaws.{status-read, change-ext}
 
 -- the members of a set that are not left any more

@@ -7,10 +7,6 @@ use lib.ListN.{getD}
 use Rattle.rules.specs.Base.{outside}
 use Rattle.rules.specs.Sets.{Set}
 
--- the members of the set have the status `how`, the others their own: the statuses of rules' `endAll`
-unfoldable pub withStatuses : Set → ℕ → (ℕ → ℕ) → ℕ → ℕ
-withStatuses s how status c = cond (s c) how (status c)
-
 -- the members below n
 unfoldable pub firsts : ℕ → Set → Set
 firsts n s k = ltb k n && s k

@@ -12,9 +12,10 @@ ghost use lib.Dec.{ltb, eqb};
 ghost use lib.ListN.{length, getD, set};
 ghost use Rattle.rules.specs.Base.{put, outside};
 ghost use Rattle.rules.specs.Window.{isLive};
+ghost use Rattle.rules.specs.Effects.{withStatuses};
 ghost use Rattle.layout.specs.Codec.{headSize, valuesSize, changesSize, headSection, valueSection, changeSection, bit, unpack};
 ghost use Rattle.sets.specs.Members.{members};
-ghost use Rattle.places.specs.Statuses.{withStatuses, firsts, inRange};
+ghost use Rattle.places.specs.Statuses.{firsts, inRange};
 
 // Figure k of the header.
 pub fn figure(head: &[u8], k: usize) -> usize

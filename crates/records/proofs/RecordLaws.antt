@@ -13,10 +13,11 @@ use Rattle.rules.specs.Calls.{Write, Permit, Depend, done}
 use Rattle.rules.specs.Effects.{effect, writeEntry}
 use Rattle.layout.specs.Codec.{valuesAt, valuesSize, permitsAt, permitsSize, tiesAt, tiesSize, logAt, logSize, figures, valueSection, permitSection, tieSection, logSection, lay, decode, encode}
 use Rattle.layout.specs.Memory.{soundBytes}
+use Rattle.layout.specs.Records.{Tabled}
 use Rattle.layout.proofs.MemoryLaws.{bytes-sound}
 use Rattle.layout.proofs.PutLaws.{laidAt}
 use Rattle.layout.proofs.LentLaws.{headLaid, FigureStored, values-lent, permits-lent, ties-lent, log-lent, figure-stored}
-use Rattle.rows.specs.Rows.{unlessOver, Holds}
+use Rattle.rows.specs.Rows.{unlessOver}
 use Rattle.replies.specs.declared.Reply.{Reply}
 use Rattle.replies.specs.Gives.{Gives, written}
 use Rattle.replies.proofs.GiveLaws.{given-done}
@@ -59,7 +60,7 @@ module _ (bs : List ℕ) (s : soundBytes bs ≡ true) where
 
 module _ (bs : List ℕ) (s : soundBytes bs ≡ true) (r : Reply) where
   -- a record entered in a table that has room for it, and the table's figure stored
-  table-given : {A : Type 0} {section : List A → List ℕ} (most : ℕ) (new old : List A) (n : ℕ) (o1 : List ℕ) → exceeds (length new) most ≡ false → Holds section (unlessOver most new old) n o1
+  table-given : {A : Type 0} {section : List A → List ℕ} (most : ℕ) (new old : List A) (n : ℕ) (o1 : List ℕ) → exceeds (length new) most ≡ false → Tabled section (unlessOver most new old) n o1
       → (k : ℕ) → k < 5 → (W′ : Window) {b1 : List ℕ} → (o1 ≡ section new → b1 ≡ lay (figures (decode bs)) W′) → (n ≡ length new → set (figures (decode bs)) k n ≡ figures W′)
       → (o2 : List ℕ) → FigureStored b1 k n o2 → (r .answer ≡ 0) × (r .number ≡ 0) → Gives (written (done 0 W′)) r (headLaid b1 o2)
   unfolding unlessOver
@@ -67,7 +68,7 @@ module _ (bs : List ℕ) (s : soundBytes bs ≡ true) (r : Reply) where
       let t = rw room at h in given-done 0 W′ r _ a (figure-stored (decode bs) W′ (f (t .bytes)) k n five i (g (t .count)))
 
   pub permit-given : (g t e o m n : ℕ) → exceeds (length (addPermit (makePermit g t e o) (decode bs .permits))) (limits .permits) ≡ false → m ≡ length (decode bs .permits) → (o1 o2 : List ℕ)
-      → ((ps : List PermitRecord) → length ps ≡ m → take permitsSize (drop permitsAt bs) ≡ permitSection ps → rising permitKey ps ≡ true → Holds permitSection (unlessOver (limits .permits) (addPermit (makePermit g t e o) ps) ps) n o1)
+      → ((ps : List PermitRecord) → length ps ≡ m → take permitsSize (drop permitsAt bs) ≡ permitSection ps → rising permitKey ps ≡ true → Tabled permitSection (unlessOver (limits .permits) (addPermit (makePermit g t e o) ps) ps) n o1)
       → FigureStored (laidAt bs permitsAt permitsSize o1) 3 n o2
       → (r .answer ≡ 0) × (r .number ≡ 0) → Gives (written (effect (decode bs) (Permit g t e o))) r (headLaid (laidAt bs permitsAt permitsSize o1) o2)
   unfolding effect
@@ -78,7 +79,7 @@ module _ (bs : List ℕ) (s : soundBytes bs ≡ true) (r : Reply) where
       3 (omega arith) (withPermits W new) (λ q. permits-lent (figures W) W (laid-known bs s) new (λ _. q)) (permits-counted W n new) o2 h a
 
   pub depend-given : (k l f m n : ℕ) → exceeds (length (addTie (makeTie k l f) (decode bs .ties))) (limits .ties) ≡ false → m ≡ length (decode bs .ties) → (o1 o2 : List ℕ)
-      → ((ts : List TieRecord) → length ts ≡ m → take tiesSize (drop tiesAt bs) ≡ tieSection ts → rising tieKey ts ≡ true → Holds tieSection (unlessOver (limits .ties) (addTie (makeTie k l f) ts) ts) n o1)
+      → ((ts : List TieRecord) → length ts ≡ m → take tiesSize (drop tiesAt bs) ≡ tieSection ts → rising tieKey ts ≡ true → Tabled tieSection (unlessOver (limits .ties) (addTie (makeTie k l f) ts) ts) n o1)
       → FigureStored (laidAt bs tiesAt tiesSize o1) 4 n o2
       → (r .answer ≡ 0) × (r .number ≡ 0) → Gives (written (effect (decode bs) (Depend k l f))) r (headLaid (laidAt bs tiesAt tiesSize o1) o2)
   unfolding effect

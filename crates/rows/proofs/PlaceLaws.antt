@@ -12,7 +12,7 @@ use borrow.Author.Tests.{lt-ltb, ltb-true, eq-eqb, eqb-true}
 use Rattle.rules.specs.Base.{table, any}
 use Rattle.rules.proofs.BaseLaws.{and-both, and-left, and-right, or-cases}
 use Rattle.layout.proofs.SectionLaws.{Bytes, length-table}
-use Rattle.rows.specs.Rows.{Row, rank, rowAt, rows, standsAt, Found, uniteRows, addRow}
+use Rattle.rows.specs.Rows.{Row, rank, rowAt, rows, standsAt, KeyPlace, uniteRows, addRow}
 use Rattle.rows.proofs.OrderLaws.{Small, small-at, put-behind, put-before, put-same}
 use Rattle.rows.proofs.RowLaws.{rows-split}
 
@@ -47,7 +47,7 @@ pub record Placed (l : List ℕ) (n : ℕ) (x : Row) (at : ℕ) : Type 0 where
   pub bytes : Bytes l
   pub small : Small x
   pub within : at ≤ n
-  pub found : Found l n (rank x) at
+  pub found : KeyPlace l n (rank x) at
 
 module _ (l : List ℕ) (n : ℕ) (x : Row) (at : ℕ) (p : Placed l n x at) where
   -- the rows before the place are lower

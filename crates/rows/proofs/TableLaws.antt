@@ -10,8 +10,9 @@ use Rattle.rules.specs.Sets.{Set}
 use Rattle.rules.proofs.BaseLaws.{within-of}
 use Rattle.rules.proofs.ListLaws.{length-keep}
 use Rattle.layout.proofs.RecordLaws.{flat}
+use Rattle.layout.specs.Records.{Tabled}
 use Rattle.cells.specs.Part.{patch}
-use Rattle.rows.specs.Rows.{Row, rowKey, rowBytes, rowsBytes, rows, uniteRows, addRow, unlessOver, spared, Stored, Closed, Holds}
+use Rattle.rows.specs.Rows.{Row, rowKey, rowBytes, rowsBytes, rows, uniteRows, addRow, unlessOver, spared, Stored, Closed}
 use Rattle.rows.proofs.RowLaws.{length-bytes, rows-bytes, patch-zeros}
 use Rattle.rows.proofs.CloseLaws.{closed-few}
 
@@ -147,14 +148,14 @@ module _ {A : Type 0} (f : A → Row) (key : A → Key) (section : List A → Li
       ∙ sym (t .flat l′ h)
 
   -- records stored over those of the table, no fewer than they were
-  pub table-stored : (l′ : List A) (r : ℕ) (after : List ℕ) → n ≤ length l′ → length l′ ≤ most → Stored (map f l′) bytes r after → Holds section l′ r after
+  pub table-stored : (l′ : List A) (r : ℕ) (after : List ℕ) → n ≤ length l′ → length l′ ≤ most → Stored (map f l′) bytes r after → Tabled section l′ r after
   table-stored l′ r after lo hi s = record {
     count = s .count ∙ length-map l′ f;
     bytes = s .bytes ∙ ap (patch bytes 0) (sym (append-nil (rowsBytes (map f l′)))) ∙ stored-zeros l′ 0 hi (omega arith) (omega arith);
   }
 
   -- those that pass, closed up
-  pub table-closed : (q : Row → Bool) (p : A → Bool) → ((x : A) → q (f x) ≡ p x) → (r : ℕ) (after : List ℕ) → Closed q n bytes r after → Holds section (keep p l) r after
+  pub table-closed : (q : Row → Bool) (p : A → Bool) → ((x : A) → q (f x) ≡ p x) → (r : ℕ) (after : List ℕ) → Closed q n bytes r after → Tabled section (keep p l) r after
   table-closed q p h r after c =
       let kept : keep q (rows n bytes) ≡ map f (keep p l) = ap (keep q) table-rows ∙ keep-map f q p h l in
       let count : r ≡ length (keep p l) = c .count ∙ ap length kept ∙ length-map (keep p l) f in
@@ -179,7 +180,7 @@ module _ {A : Type 0} (f : A → Row) (key : A → Key) (section : List A → Li
     table-fits b e = e ∙ ap (λ (k : ℕ). not (exceeds k most)) (ap length added ∙ length-map (insert key unite x l) f)
 
     -- the section holds it, or what it held where it is full
-    pub table-added : (r : ℕ) (after : List ℕ) → Stored (unlessOver most (addRow (f x) (rows n bytes)) (rows n bytes)) bytes r after → Holds section (unlessOver most (insert key unite x l) l) r after
+    pub table-added : (r : ℕ) (after : List ℕ) → Stored (unlessOver most (addRow (f x) (rows n bytes)) (rows n bytes)) bytes r after → Tabled section (unlessOver most (insert key unite x l) l) r after
     table-added r after s =
         let e : unlessOver most (addRow (f x) (rows n bytes)) (rows n bytes) ≡ map f (unlessOver most (insert key unite x l) l) = ap₂ (unlessOver most) added table-rows ∙ unless-map f most (insert key unite x l) l in
         table-stored (unlessOver most (insert key unite x l) l) r after (omega (arith, unless-least most (insert key unite x l) l (length-least key unite x l))) (unless-most most (insert key unite x l) l (omega arith)) (rw e at s)
@@ -187,6 +188,6 @@ module _ {A : Type 0} (f : A → Row) (key : A → Key) (section : List A → Li
 -- what a set of changes leaves when it ends, where a record is left just where its row is spared
 pub table-left : {A : Type 0} (f : A → Row) (key : A → Key) (section : List A → List ℕ) (most : ℕ) → TableOf f key section most → (p : Set → A → Bool) → ((s : Set) (x : A) → spared s (f x) ≡ p s x)
     → (s : Set) (n : ℕ) (bytes : List ℕ) → n ≤ most → (r : ℕ) (after : List ℕ) → Closed (spared s) n bytes r after
-    → (r ≤ n) × ((l : List A) → length l ≡ n → bytes ≡ section l → Holds section (keep (p s) l) r after)
+    → (r ≤ n) × ((l : List A) → length l ≡ n → bytes ≡ section l → Tabled section (keep (p s) l) r after)
 table-left f key section most t p h s n bytes few r after c =
     (closed-few (spared s) n bytes r after c, λ l len is. table-closed f key section most t l n bytes len is few (spared s) (p s) (h s) r after c)

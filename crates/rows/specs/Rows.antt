@@ -51,7 +51,7 @@ unfoldable pub rows : ℕ → List ℕ → List Row
 rows n l = table n 0 (rowAt l)
 
 -- the place of a key of rank k among the first n rows
-pub record Found (l : List ℕ) (n k at : ℕ) : Type 0 where
+pub record KeyPlace (l : List ℕ) (n k at : ℕ) : Type 0 where
   -- the rows before it have lower keys
   pub lower : (j : ℕ) → j < at → rank (rowAt l j) < k
   -- the rows from there on have not
@@ -90,10 +90,3 @@ pub record Closed (q : Row → Bool) (n : ℕ) (before : List ℕ) (r : ℕ) (af
   pub count : r ≡ length (keep q (rows n before))
   -- theirs are the first bytes, the places that got free are 0, and the bytes past the n rows are as they were
   pub bytes : after ≡ patch before 0 (rowsBytes (keep q (rows n before)) ++ replicate (4 * n - 4 * r) 0)
-
--- a table of r records, as a section's bytes
-pub record Holds {A : Type 0} (section : List A → List ℕ) (l : List A) (r : ℕ) (after : List ℕ) : Type 0 where
-  -- how many there are
-  pub count : r ≡ length l
-  -- every byte of the section
-  pub bytes : after ≡ section l

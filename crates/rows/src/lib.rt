@@ -10,7 +10,7 @@ ghost use Rattle.rules.specs.Base.{rising, exceeds};
 ghost use Rattle.rules.specs.Locks.{contains};
 ghost use Rattle.cells.specs.Part.{part, patch};
 ghost use Rattle.sets.specs.Members.{members, wordsHave};
-ghost use Rattle.rows.specs.Rows.{row, rowKey, rankOf, rank, rowBytes, rowAt, rows, standsAt, Found, addRow, unlessOver, spared, Stored, Closed};
+ghost use Rattle.rows.specs.Rows.{row, rowKey, rankOf, rank, rowBytes, rowAt, rows, standsAt, KeyPlace, addRow, unlessOver, spared, Stored, Closed};
 
 // A key of three bytes as one number.
 fn key(a: u8, b: u8, c: u8) -> u32
@@ -32,7 +32,7 @@ pub fn key_at(s: &[u8], i: usize) -> u32
 pub fn find(s: &[u8], n: usize, a: u8, b: u8, c: u8) -> usize
     requires { ⌜ 4 * n ≤ length (now s) ⌝ }
     ensures { λ r. ⌜ r ≤ n ⌝ }
-    ensures { λ r. ⌜ (rising rowKey (rows n (now (s .entry))) ≡ true → Found (now (s .entry)) n (rankOf a b c) r) ⌝ }
+    ensures { λ r. ⌜ (rising rowKey (rows n (now (s .entry))) ≡ true → KeyPlace (now (s .entry)) n (rankOf a b c) r) ⌝ }
 {
     let k = key(a, b, c);
     let mut low = 0;

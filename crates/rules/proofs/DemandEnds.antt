@@ -10,7 +10,7 @@ use Rattle.rules.specs.Base.{Key, put, anyBelow, any, insert, byOrder, o
 use Rattle.rules.specs.Sets.{Set, reach}
 use Rattle.rules.specs.Window.{Limits, PermitRecord, TieRecord, Window, tieKey, withValue, withHeld, withPermits, withTies, isEnded, live, noChange}
 use Rattle.rules.specs.Ties.{isGroup, isFall, isArrow, tied, grouped, falling, makeTie, addTie, groupOf, endSet}
-use Rattle.rules.specs.Effects.{commitBlockers, entriesNamed, endAll, addChange, handOver}
+use Rattle.rules.specs.Effects.{commitBlockers, entriesNamed, withStatuses, tieStays, tiesLeft, endAll, addChange, handOver}
 use Rattle.rules.specs.Events.{Action, isTying, isOpening}
 use Rattle.rules.proofs.BaseLaws.{or-left, or-right, and-left, and-right, eqb-eq, eqb-same, eqb-other, Same, same, other, same?, Below, under, over, below, ltb-true, any-intro}
 use Rattle.rules.proofs.DemandMoves.{shownStatus, Calm, Move, opened, started, calm, locked, granted, handed, tied as tieing, committed, aborted, live-status}
@@ -80,19 +80,19 @@ module _ (L : Limits) (W : Window) (z : Sound L W) where
   -- a set of live changes ends
   module _ (how : ℕ) (s : Set) (inside : (c : ℕ) → s c ≡ true → live W c ≡ true) where
     end-ends : (c : ℕ) → s c ≡ true → (live W c ≡ true) × (shownStatus (endAll how s W) c ≡ how)
-    unfolding shownStatus endAll noChange
+    unfolding shownStatus endAll withStatuses noChange
     end-ends c e = (inside c e, rw (live-change L W z c (inside c e), e))
 
     end-stays : (c : ℕ) → s c ≡ false → shownStatus (endAll how s W) c ≡ shownStatus W c
-    unfolding shownStatus endAll noChange
+    unfolding shownStatus endAll withStatuses noChange
     end-stays c e = rw e
 
     end-on : (c : ℕ) → s c ≡ false → live W c ≡ true → live (endAll how s W) c ≡ true
-    unfolding live endAll
+    unfolding live endAll withStatuses
     end-on c e h = rw e h
 
     end-ties : (k : ℕ → Bool) (l f : ℕ) → s l ≡ false → s f ≡ false → tied (W .ties) k l f ≡ true → tied (endAll how s W .ties) k l f ≡ true
-    unfolding tied endAll
+    unfolding tied endAll tiesLeft tieStays
     end-ties k l f hl hf = any-keep-up _ _ (λ t h. stay t (and-left (k (t .kind) && eqb (t .leader) l) _ h) (and-right (k (t .kind) && eqb (t .leader) l) _ h)) (W .ties)
       where
         stay : (t : TieRecord) → k (t .kind) && eqb (t .leader) l ≡ true → eqb (t .follower) f ≡ true → not (s (t .leader) || s (t .follower)) ≡ true
@@ -133,7 +133,7 @@ module _ (L : Limits) (W : Window) (z : Sound L W) where
       four q = omega arith
 
   pub abort-ending : (c : ℕ) (v : ℕ → ℕ) → live W c ≡ true → Ending W (endAll 5 (endSet W c) (withValue W v)) (endSet W c) 5
-  unfolding endSet endAll withValue shownStatus live noChange falling isFall
+  unfolding endSet endAll withStatuses withValue shownStatus live noChange falling isFall
   abort-ending c v lc = record {
     way = inr refl;
     ends = end-ends 5 g inside;

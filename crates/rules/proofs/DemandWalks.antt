@@ -13,7 +13,7 @@ use Rattle.rules.specs.Window.{Limits, TieRecord, Window, isEnded, noCha
 use Rattle.rules.specs.Ties.{isGroup, isArrow, tied, grouped, leading, acyclic, groupOf}
 use Rattle.rules.specs.Sound.{tieSound}
 use Rattle.rules.specs.Calls.{Call, Commit, done, unchanged}
-use Rattle.rules.specs.Effects.{effect, commitChange, commitBlockers, commitGroup, endAll}
+use Rattle.rules.specs.Effects.{effect, commitChange, commitBlockers, commitGroup, withStatuses, tiesLeft, endAll}
 use Rattle.rules.specs.Refusals.{step, settle, checks, firstFailed, _if_}
 use Rattle.rules.specs.Lists.{final, walks}
 use Rattle.rules.proofs.BaseLaws.{not-true, never, none-below, or-none, or-left, or-right, or-cases, and-both, and-left, and-right, Same, same, other, same?, ltb-true, any-intro, any-elim, Within, count-within, count-same}
@@ -82,7 +82,7 @@ module _ (L : Limits) (W : Window) (z : Sound L W) where
     P = commit-ending L W z c lc clear
 
     out : (d : ℕ) → live X d ≡ true → (groupOf W c d ≡ false) × (live W d ≡ true)
-    unfolding X live endAll outside
+    unfolding X live endAll withStatuses outside
     out d h = go (groupOf W c d) refl h
       where
         dead : (a : Bool) → a && false ≡ true → ⊥
@@ -113,7 +113,7 @@ module _ (L : Limits) (W : Window) (z : Sound L W) where
         (λ q. or-right (tied (X .ties) isGroup a b) _ (P .ties isGroup b a nb na q)) (or-cases (tied (W .ties) isGroup a b) _ g)
 
     still-step : (a x y : ℕ) → x < suc (W .given) → y < suc (W .given) → groupOf X a x ≡ true → grouped (X .ties) x y ≡ true → groupOf X a y ≡ true
-    unfolding groupOf X endAll
+    unfolding groupOf X endAll tiesLeft
     still-step a x y hx hy = reach-closed (suc (W .given)) (grouped (X .ties)) a x y hx hy
 
     -- the other groups stay
@@ -156,7 +156,7 @@ module _ (L : Limits) (W : Window) (z : Sound L W) where
     out-4 d g l = true≢false (sym g ∙ out d l .0)
 
     pub heads-less : groupCount (endAll 4 (groupOf W c) W) < groupCount W
-    unfolding groupCount X endAll firstInGroup
+    unfolding groupCount X endAll tiesLeft firstInGroup
     heads-less = go (eq-or-lt-of-le (count-within (suc (W .given)) (firstInGroup X) (firstInGroup W) heads-fewer)) (head-of c lc)
       where
         go : (countBelow (suc (W .given)) (firstInGroup X) ≡ countBelow (suc (W .given)) (firstInGroup W)) ⊎ (countBelow (suc (W .given)) (firstInGroup X) < countBelow (suc (W .given)) (firstInGroup W))
@@ -248,7 +248,7 @@ module _ (L : Limits) (W : Window) (z : Sound L W) where
 
   done-fits : (c : ℕ) → ((d : ℕ) → live W d ≡ true → W .status d ≡ 3) → live W c ≡ true → anyBelow (suc (W .given)) (commitBlockers W (groupOf W c)) ≡ false
       → Sound L (endAll 4 (groupOf W c) W) → Fit L W (endAll 4 (groupOf W c) W)
-  unfolding X
+  unfolding X withStatuses
   done-fits c r l e y = record {
     sound = y;
     given = given-same;

@@ -12,7 +12,7 @@ use Rattle.rules.specs.Sets.{Set}
 use Rattle.rules.specs.Window.{Limits, LogRecord, PermitRecord, Window, permitKey, live}
 use Rattle.rules.specs.Locks.{clashesPermitted, unitePermits, addPermit}
 use Rattle.rules.specs.Sound.{heldSound, recordSound, permitSound}
-use Rattle.rules.specs.Effects.{moveHeld, moveLog, movePermits, handOver}
+use Rattle.rules.specs.Effects.{moveHeld, movedRecord, moveLog, movePermits, handOver}
 use Rattle.rules.proofs.BaseLaws.{Same, same, other, same?, or-right, or-cases, and-both, and-left, and-right, not-true, eqb-eq, eqb-same, eqb-other, ne-of, leb-true, le-of, over-less}
 use Rattle.rules.proofs.ListLaws.{all-map, all-keep, length-parts}
 use Rattle.rules.proofs.SortLaws.{rising-keep, all-inserts, inserts-rising, length-inserts}
@@ -98,7 +98,7 @@ module _ (L : Limits) (W : Window) (from to : ℕ) (on : Set) (k : Sound L W) (l
   hand-order = inserts-rising permitKey unitePermits unite-key (map handed (keep goes W.permits)) (keep stays W.permits) (rising-keep permitKey stays W.permits (k .permit-order))
 
   pub hand-sound : clashesPermitted (handOver W from to on) ≡ true → Sound L (handOver W from to on)
-  unfolding handOver moveLog live moved movePermits addPermit given goes stays handed
+  unfolding handOver moveLog movedRecord live moved movePermits addPermit given goes stays handed
   hand-sound fit = record {
     some = k .some;
     entries = k .entries;

@@ -4,12 +4,12 @@ use mathlib.Core.Logic.{⊎-elim}
 use mathlib.Core.Bool.{Bool, true, false, not, cond, _&&_, _||_, false≢true}
 use Prim.Native.Nat.{ℕ, suc}
 use lib.Dec.{leb, ltb, eqb}
-use Rattle.rules.specs.Base.{all, keep, outside}
+use Rattle.rules.specs.Base.{all, outside}
 use Rattle.rules.specs.Sets.{Set}
 use Rattle.rules.specs.Window.{Limits, LogRecord, PermitRecord, TieRecord, Window, permitKey, tieKey, live, noChange}
 use Rattle.rules.specs.Locks.{pairPermitted, permitted, contains, clash}
 use Rattle.rules.specs.Sound.{statusSound, heldSound, recordSound, permitSound, tieSound}
-use Rattle.rules.specs.Effects.{endAll}
+use Rattle.rules.specs.Effects.{withStatuses, released, isUnowned, unowned, permitStays, permitsLeft, tieStays, tiesLeft, endAll}
 use Rattle.rules.proofs.BaseLaws.{or-cases, or-map, or-true, and-left, and-right, and-false, not-true, no-true, or-false-left, or-false-right, eqb-eq, ltb-true}
 use Rattle.rules.proofs.ListLaws.{all-weaken, all-keep, any-keep-up, fewer}
 use Rattle.rules.proofs.SortLaws.{rising-keep}
@@ -26,7 +26,7 @@ module _ (L : Limits) (W : Window) (how : ℕ) (s : Set) (ended : outside 1 3 ho
   left c = not (s c) && live W c
 
   live-end : live (endAll how s W) ≡ left
-  unfolding live endAll left
+  unfolding live endAll withStatuses left
   live-end = fun-ext (λ c. go c (s c))
     where
       go : (c : ℕ) (b : Bool) → ltb c (suc W.given) && not (outside 1 3 (cond b how (W .status c))) ≡ not b && (ltb c (suc W.given) && not (outside 1 3 (W .status c)))
@@ -41,36 +41,24 @@ module _ (L : Limits) (W : Window) (how : ℕ) (s : Set) (ended : outside 1 3 ho
       go true f = rw (live-change L W k c (lives c f), ranged)
       go false f = k .statuses c
 
-  heldLeft : ℕ → ℕ → ℕ
-  heldLeft e c = cond (s c) 0 (W .held e c)
-
-  end-helds : (e c : ℕ) → heldSound W.entries left heldLeft e c ≡ true
-  unfolding heldSound left heldLeft
+  end-helds : (e c : ℕ) → heldSound W.entries left (released s W.held) e c ≡ true
+  unfolding heldSound left released
   end-helds e c = go (s c)
     where
       go : (b : Bool) → leb (cond b 0 (W .held e c)) 2 && (eqb (cond b 0 (W .held e c)) 0 || (ltb e W.entries && (not b && live W c))) ≡ true
       go true = refl
       go false = k .helds e c
 
-  keptRecord : LogRecord → Bool
-  keptRecord r = not (s r.owner)
-
-  end-record : (r : LogRecord) → recordSound W.entries (live W) W.held r ≡ true → keptRecord r ≡ true → recordSound W.entries left heldLeft r ≡ true
-  unfolding recordSound left heldLeft keptRecord
+  end-record : (r : LogRecord) → recordSound W.entries (live W) W.held r ≡ true → isUnowned s r ≡ true → recordSound W.entries left (released s W.held) r ≡ true
+  unfolding recordSound left released isUnowned
   end-record r h q = rw (not-true (s r.owner) q) h
 
-  keptPermit : PermitRecord → Bool
-  keptPermit p = not (s p.giver || s p.taker)
-
-  end-permit : (p : PermitRecord) → permitSound W.entries (live W) p ≡ true → keptPermit p ≡ true → permitSound W.entries left p ≡ true
-  unfolding permitSound left keptPermit
+  end-permit : (p : PermitRecord) → permitSound W.entries (live W) p ≡ true → permitStays s p ≡ true → permitSound W.entries left p ≡ true
+  unfolding permitSound left permitStays
   end-permit p h q = let n = not-true (s p.giver || s p.taker) q in rw (or-false-left (s p.giver) (s p.taker) n, or-false-right (s p.giver) (s p.taker) n) h
 
-  keptTie : TieRecord → Bool
-  keptTie t = not (s t.leader || s t.follower)
-
-  end-tie : (t : TieRecord) → tieSound (live W) t ≡ true → keptTie t ≡ true → tieSound left t ≡ true
-  unfolding tieSound left keptTie
+  end-tie : (t : TieRecord) → tieSound (live W) t ≡ true → tieStays s t ≡ true → tieSound left t ≡ true
+  unfolding tieSound left tieStays
   end-tie t h q = let n = not-true (s t.leader || s t.follower) q in rw (or-false-left (s t.leader) (s t.follower) n, or-false-right (s t.leader) (s t.follower) n) h
 
   end-circle : all (λ t. ltb t.leader (suc W.given)) W.ties ≡ true
@@ -78,20 +66,20 @@ module _ (L : Limits) (W : Window) (how : ℕ) (s : Set) (ended : outside 1 3 ho
       (λ t h. ltb-true t.leader (suc W.given) (live-below W t.leader (and-left (live W t.leader) (live W t.follower) h))) W.ties (ends-live L W k)
 
   -- a permit from one that lives on, to one that lives on or to anybody, stays
-  end-permitted : (a b e m : ℕ) → s a ≡ false → s b ≡ false → permitted W.permits a b e m ≡ true → permitted (keep keptPermit W.permits) a b e m ≡ true
-  unfolding permitted keptPermit
-  end-permitted a b e m ha hb = any-keep-up _ keptPermit (λ p h. go p (and-left (eqb p.giver a && (eqb p.taker b || eqb p.taker 0)) _ (and-left _ (contains p.ops m) h))) W.permits
+  end-permitted : (a b e m : ℕ) → s a ≡ false → s b ≡ false → permitted W.permits a b e m ≡ true → permitted (permitsLeft s W.permits) a b e m ≡ true
+  unfolding permitted permitsLeft permitStays
+  end-permitted a b e m ha hb = any-keep-up _ (permitStays s) (λ p h. go p (and-left (eqb p.giver a && (eqb p.taker b || eqb p.taker 0)) _ (and-left _ (contains p.ops m) h))) W.permits
     where
-      go : (p : PermitRecord) → eqb p.giver a && (eqb p.taker b || eqb p.taker 0) ≡ true → not (s p.giver || s p.taker) ≡ true
+      go : (p : PermitRecord) → eqb p.giver a && (eqb p.taker b || eqb p.taker 0) ≡ true → permitStays s p ≡ true
       go p x = rw (ap s (eqb-eq p.giver a (and-left (eqb p.giver a) (eqb p.taker b || eqb p.taker 0) x)) ∙ ha)
           (⊎-elim (λ z. ap not (ap s (eqb-eq p.taker b z) ∙ hb)) (λ z. ap not (ap s (eqb-eq p.taker 0 z) ∙ none)) (or-cases (eqb p.taker b) (eqb p.taker 0) (and-right (eqb p.giver a) (eqb p.taker b || eqb p.taker 0) x)))
 
   end-pair : (e a b : ℕ) → pairPermitted (endAll how s W) e a b ≡ true
-  unfolding pairPermitted endAll keptPermit
+  unfolding pairPermitted endAll released permitsLeft
   end-pair e a b = go (s a) (s b) refl refl
     where
       go : (x y : Bool) → s a ≡ x → s b ≡ y
-          → eqb a b || not (clash (cond x 0 (W .held e a)) (cond y 0 (W .held e b))) || permitted (keep keptPermit W.permits) a b e (cond y 0 (W .held e b)) || permitted (keep keptPermit W.permits) b a e (cond x 0 (W .held e a)) ≡ true
+          → eqb a b || not (clash (cond x 0 (W .held e a)) (cond y 0 (W .held e b))) || permitted (permitsLeft s W.permits) a b e (cond y 0 (W .held e b)) || permitted (permitsLeft s W.permits) b a e (cond x 0 (W .held e a)) ≡ true
       go true y p q = rw (clash-left, or-true)
       go false true p q = rw (clash-right, or-true)
       go false false p q = or-map (eqb a b || not (clash (W .held e a) (W .held e b)) || permitted W.permits a b e (W .held e b)) (permitted W.permits b a e (W .held e a)) _ _
@@ -99,7 +87,7 @@ module _ (L : Limits) (W : Window) (how : ℕ) (s : Set) (ended : outside 1 3 ho
           (end-permitted b a e (W .held e a) q p) (k .locks e a b)
 
   pub end-sound : Sound L (endAll how s W)
-  unfolding endAll heldLeft keptRecord keptPermit keptTie
+  unfolding endAll withStatuses unowned permitsLeft tiesLeft
   end-sound = record {
     some = k .some;
     entries = k .entries;
@@ -111,11 +99,11 @@ module _ (L : Limits) (W : Window) (how : ℕ) (s : Set) (ended : outside 1 3 ho
     statuses = end-statuses;
     parents = k .parents;
     helds = rw live-end end-helds;
-    records = rw live-end (all-keep (recordSound W.entries (live W) W.held) keptRecord (recordSound W.entries left heldLeft) end-record W.log (k .records));
-    permits = rw live-end (all-keep (permitSound W.entries (live W)) keptPermit (permitSound W.entries left) end-permit W.permits (k .permits));
-    ties = rw live-end (all-keep (tieSound (live W)) keptTie (tieSound left) end-tie W.ties (k .ties));
-    permit-order = rising-keep permitKey keptPermit W.permits (k .permit-order);
-    tie-order = rising-keep tieKey keptTie W.ties (k .tie-order);
-    no-circle = acyclic-keep (suc W.given) keptTie W.ties end-circle (k .no-circle);
+    records = rw live-end (all-keep (recordSound W.entries (live W) W.held) (isUnowned s) (recordSound W.entries left (released s W.held)) end-record W.log (k .records));
+    permits = rw live-end (all-keep (permitSound W.entries (live W)) (permitStays s) (permitSound W.entries left) end-permit W.permits (k .permits));
+    ties = rw live-end (all-keep (tieSound (live W)) (tieStays s) (tieSound left) end-tie W.ties (k .ties));
+    permit-order = rising-keep permitKey (permitStays s) W.permits (k .permit-order);
+    tie-order = rising-keep tieKey (tieStays s) W.ties (k .tie-order);
+    no-circle = acyclic-keep (suc W.given) (tieStays s) W.ties end-circle (k .no-circle);
     locks = end-pair;
   }

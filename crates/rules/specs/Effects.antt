@@ -5,7 +5,7 @@ use Prim.Native.Nat.{ℕ, suc, max}
 use lib.Dec.{leb, eqb}
 use Rattle.rules.specs.Base.{put, put2, anyBelow, countBelow, lowestBelow, any, keep}
 use Rattle.rules.specs.Sets.{Set}
-use Rattle.rules.specs.Window.{LogRecord, PermitRecord, Window, fresh, withValue, withStatus, withHeld, withLog, withPermits, withTies}
+use Rattle.rules.specs.Window.{LogRecord, PermitRecord, TieRecord, Window, fresh, withValue, withStatus, withHeld, withLog, withPermits, withTies}
 use Rattle.rules.specs.Locks.{clash, permitted, makePermit, addPermit}
 use Rattle.rules.specs.Ties.{isArrow, makeTie, addTie, groupOf, endSet}
 use Rattle.rules.specs.Calls.{Call, Open, Initiate, Begin, Complete, Lock, Read, Write, Permit, Delegate, Depend, Commit, Abort, Status, Parent, Value, Outcome, done, unchanged}
@@ -63,9 +63,12 @@ entriesNamed entry e = eqb entry every || eqb e entry
 unfoldable pub moveHeld : ℕ → ℕ → Set → (ℕ → ℕ → ℕ) → ℕ → ℕ → ℕ
 moveHeld from to on held e c = cond (on e) (cond (eqb c to) (max (held e from) (held e to)) (cond (eqb c from) 0 (held e c))) (held e c)
 
--- "moves log ownership"
+-- "moves log ownership": one record, and the log
+unfoldable pub movedRecord : ℕ → ℕ → Set → LogRecord → LogRecord
+movedRecord from to on r = cond (eqb r.owner from && on r.entry) (record { owner = to; entry = r.entry; before = r.before }) r
+
 unfoldable pub moveLog : ℕ → ℕ → Set → List LogRecord → List LogRecord
-moveLog from to on = map (λ r. cond (eqb r.owner from && on r.entry) (record { owner = to; entry = r.entry; before = r.before }) r)
+moveLog from to on = map (movedRecord from to on)
 
 -- "moves … the permits that *from* has given. … A permit that would be from *to* to itself is dropped. Permits received do not move"
 unfoldable pub movePermits : ℕ → ℕ → Set → List PermitRecord → List PermitRecord
@@ -89,18 +92,45 @@ handOver W from to on = record {
 }
 
 -- COMMIT AND ABORT
--- "An ended change loses its locks, log records, ties, and permits given and received. Remaining records close up in order"
+-- the statuses when the changes of a set end
+unfoldable pub withStatuses : Set → ℕ → (ℕ → ℕ) → ℕ → ℕ
+withStatuses s how status c = cond (s c) how (status c)
+
+-- "An ended change loses its locks, log records, ties, and permits given and received. Remaining records close up in order":
+-- what is left of each when the changes of a set end
+unfoldable pub released : Set → (ℕ → ℕ → ℕ) → ℕ → ℕ → ℕ
+released s held e c = cond (s c) 0 (held e c)
+
+unfoldable pub isUnowned : Set → LogRecord → Bool
+isUnowned s r = not (s r.owner)
+
+unfoldable pub unowned : Set → List LogRecord → List LogRecord
+unowned s = keep (isUnowned s)
+
+unfoldable pub permitStays : Set → PermitRecord → Bool
+permitStays s p = not (s p.giver || s p.taker)
+
+unfoldable pub permitsLeft : Set → List PermitRecord → List PermitRecord
+permitsLeft s = keep (permitStays s)
+
+unfoldable pub tieStays : Set → TieRecord → Bool
+tieStays s t = not (s t.leader || s t.follower)
+
+unfoldable pub tiesLeft : Set → List TieRecord → List TieRecord
+tiesLeft s = keep (tieStays s)
+
+-- the changes of a set end, as committed (4) or aborted (5)
 unfoldable pub endAll : ℕ → Set → Window → Window
 endAll how s W = record {
   entries = W.entries;
   value = W.value;
   given = W.given;
-  status = λ c. cond (s c) how (W .status c);
+  status = withStatuses s how W.status;
   parent = W.parent;
-  held = λ e c. cond (s c) 0 (W .held e c);
-  log = keep (λ r. not (s r.owner)) W.log;
-  permits = keep (λ p. not (s p.giver || s p.taker)) W.permits;
-  ties = keep (λ t. not (s t.leader || s t.follower)) W.ties;
+  held = released s W.held;
+  log = unowned s W.log;
+  permits = permitsLeft s W.permits;
+  ties = tiesLeft s W.ties;
 }
 
 -- "how many changes this call ended"

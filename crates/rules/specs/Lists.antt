@@ -6,12 +6,12 @@ use mathlib.Core.List.{List, [], _∷_, _++_}
 use Prim.Native.Nat.{ℕ, zero, suc, _<_, max}
 use lib.Dec.{eqb}
 use lib.ListN.{length}
-use Rattle.rules.specs.Base.{put2, anyBelow, countBelow, all, any, keep, table}
+use Rattle.rules.specs.Base.{put2, anyBelow, countBelow, all, any, table}
 use Rattle.rules.specs.Sets.{reach}
 use Rattle.rules.specs.Window.{PermitRecord, isLive, isEnded}
 use Rattle.rules.specs.Locks.{clash, permitted, makePermit, addPermit}
 use Rattle.rules.specs.Calls.{Call, Open, Commit, Status, Reply, fits}
-use Rattle.rules.specs.Effects.{entriesNamed, moveHeld, movePermits}
+use Rattle.rules.specs.Effects.{entriesNamed, moveHeld, movePermits, released, permitsLeft}
 use Rattle.rules.specs.Events.{Event, Action, opening, initiating, other, locking, permitting, delegating, tying, action, isOpening, isTying, highestAfter}
 
 -- "An open answered 0 inside a list starts everything below anew": the calls made since, the last one first
@@ -80,7 +80,7 @@ enter (tying k l f) b = b
 
 -- "Then every ended change loses its locks and the permits it gave or received"
 unfoldable pub strike : (ℕ → ℕ) → Book → Book
-strike st b = record { held = λ e c. cond (isEnded (st c)) 0 (b .held e c); permits = keep (λ p. not (isEnded (st p.giver) || isEnded (st p.taker))) b.permits }
+strike st b = record { held = released (λ c. isEnded (st c)) b.held; permits = permitsLeft (λ c. isEnded (st c)) b.permits }
 
 -- "none at the start. It is fed each call's arguments, answer and second number, then the statuses"
 unfoldable pub book : List Event → Book

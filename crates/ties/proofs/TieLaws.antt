@@ -1,6 +1,6 @@
 -- Ties as rows, and what the calls on rows come to in ties. Assumes nothing.
 use mathlib.Core.Path.{_≡_, refl, ap, _∙_}
-use mathlib.Core.Bool.{Bool, true, false, not, cond, _&&_, _||_}
+use mathlib.Core.Bool.{Bool, true, false, not, cond, _&&_}
 use mathlib.Core.List.{List, _++_}
 use Prim.Native.Nat.{ℕ, _-_, _*_, _≤_, _<_, min, max}
 use native.Mathlib.Omega.{arith}
@@ -12,12 +12,13 @@ use Rattle.rules.specs.Sets.{Set}
 use Rattle.rules.specs.Window.{limits, TieRecord, tieKey}
 use Rattle.rules.specs.Ties.{isGroup, makeTie, addTie}
 use Rattle.rules.specs.Locks.{contains}
+use Rattle.rules.specs.Effects.{tieStays, tiesLeft}
 use Rattle.rules.proofs.BaseLaws.{and-left, and-right}
 use Rattle.layout.specs.Codec.{tieBytes, tieSection}
+use Rattle.layout.specs.Records.{Tabled}
 use Rattle.layout.proofs.RecordLaws.{ties-flat}
-use Rattle.rows.specs.Rows.{Row, row, rowKey, rowBytes, rows, uniteRows, addRow, unlessOver, spared, Stored, Closed, Holds}
+use Rattle.rows.specs.Rows.{Row, row, rowKey, rowBytes, rows, uniteRows, addRow, unlessOver, spared, Stored, Closed}
 use Rattle.rows.proofs.TableLaws.{TableOf, flat-rows, table-rising, table-fits, table-added, table-left}
-use Rattle.ties.specs.Tables.{tiesLeft}
 
 -- a tie's row
 unfoldable pub tieRow : TieRecord → Row
@@ -38,9 +39,9 @@ tie-united t u = refl
 
 -- the rows that are spared are those that the rules leave
 pub ties-left : (s : Set) (n : ℕ) (bytes : List ℕ) → n ≤ 512 → (r : ℕ) (after : List ℕ) → Closed (spared s) n bytes r after
-    → (r ≤ n) × ((ts : List TieRecord) → length ts ≡ n → bytes ≡ tieSection ts → Holds tieSection (tiesLeft s ts) r after)
-unfolding tiesLeft spared tieRow
-ties-left = table-left tieRow tieKey tieSection 512 tie-table (λ s t. not (s t.leader || s t.follower)) (λ s t. refl)
+    → (r ≤ n) × ((ts : List TieRecord) → length ts ≡ n → bytes ≡ tieSection ts → Tabled tieSection (tiesLeft s ts) r after)
+unfolding tiesLeft tieStays spared tieRow
+ties-left = table-left tieRow tieKey tieSection 512 tie-table tieStays (λ s t. refl)
 
 -- THE ENDS AS STORED
 abbrev stored : Bool → ℕ → ℕ → ℕ → TieRecord
@@ -91,6 +92,6 @@ module _ (ts : List TieRecord) (n : ℕ) (bytes : List ℕ) (len : length ts ≡
         table-fits tieRow tieKey tieSection 512 tie-table ts n bytes len is few (λ p q. q) tie-united t b (rw e at h)
 
     -- a tie is added where its row is
-    pub ties-added : (r : ℕ) (after : List ℕ) → Stored (unlessOver 512 (addRow x (rows n bytes)) (rows n bytes)) bytes r after → Holds tieSection (unlessOver (limits .ties) (addTie t ts) ts) r after
+    pub ties-added : (r : ℕ) (after : List ℕ) → Stored (unlessOver 512 (addRow x (rows n bytes)) (rows n bytes)) bytes r after → Tabled tieSection (unlessOver (limits .ties) (addTie t ts) ts) r after
     unfolding addTie limits
     ties-added r after s = table-added tieRow tieKey tieSection 512 tie-table ts n bytes len is few (λ p q. q) tie-united t r after (rw e at s)

@@ -9,10 +9,11 @@ ghost use lib.ListN.{length};
 ghost use Rattle.rules.specs.Base.{rising, exceeds};
 ghost use Rattle.rules.specs.Window.{limits, TieRecord, tieKey};
 ghost use Rattle.rules.specs.Ties.{makeTie, addTie};
+ghost use Rattle.rules.specs.Effects.{tiesLeft};
 ghost use Rattle.layout.specs.Codec.{tiesSize, tieSection};
+ghost use Rattle.layout.specs.Records.{Tabled};
 ghost use Rattle.sets.specs.Members.{members};
-ghost use Rattle.rows.specs.Rows.{unlessOver, Holds};
-ghost use Rattle.ties.specs.Tables.{tiesLeft};
+ghost use Rattle.rows.specs.Rows.{unlessOver};
 
 // The ends of a tie as they are stored.
 struct Ends {
@@ -48,7 +49,7 @@ pub fn add(ties: &mut [u8], count: usize, kind: u8, leader: u8, follower: u8) ->
     requires { ⌜ length (now ties) ≡ tiesSize ⌝ }
     requires { ⌜ count ≤ 512 ⌝ }
     ensures { λ r. ⌜ r ≤ 512 ⌝ }
-    ensures { λ r. ⌜ ((ts : List TieRecord) → length ts ≡ count → now (ties .entry) ≡ tieSection ts → rising tieKey ts ≡ true → Holds tieSection (unlessOver (limits .ties) (addTie (makeTie kind leader follower) ts) ts) r (now (ties .exit))) ⌝ }
+    ensures { λ r. ⌜ ((ts : List TieRecord) → length ts ≡ count → now (ties .entry) ≡ tieSection ts → rising tieKey ts ≡ true → Tabled tieSection (unlessOver (limits .ties) (addTie (makeTie kind leader follower) ts) ts) r (now (ties .exit))) ⌝ }
 {
     let e = stored_ends(kind, leader, follower);
     rows::add(ties, count, Ties::MOST, kind, e.leader, e.follower, 0)
@@ -59,7 +60,7 @@ pub fn drop_ended(ties: &mut [u8], count: usize, ended: ChangeSet) -> usize
     requires { ⌜ length (now ties) ≡ tiesSize ⌝ }
     requires { ⌜ count ≤ 512 ⌝ }
     ensures { λ r. ⌜ r ≤ count ⌝ }
-    ensures { λ r. ⌜ ((ts : List TieRecord) → length ts ≡ count → now (ties .entry) ≡ tieSection ts → Holds tieSection (tiesLeft (members ended) ts) r (now (ties .exit))) ⌝ }
+    ensures { λ r. ⌜ ((ts : List TieRecord) → length ts ≡ count → now (ties .entry) ≡ tieSection ts → Tabled tieSection (tiesLeft (members ended) ts) r (now (ties .exit))) ⌝ }
 {
     rows::drop_involving(ties, count, ended)
 }

@@ -4,9 +4,10 @@ use Prim.Native.Nat.{ℕ, _-_, _≤_}
 use native.Mathlib.Omega.{arith}
 use borrow.Author.Needs.{needs}
 use lib.ListN.{length}
+use Rattle.rules.specs.Effects.{released}
 use Rattle.layout.proofs.LengthLaws.{length-locks}
 use Rattle.sets.specs.Members.{members}
-use Rattle.locks.specs.Held.{rowWithout, released, changedOn, everyEntry}
+use Rattle.locks.specs.Held.{rowWithout, changedOn, everyEntry}
 use Rattle.locks.proofs.ChangeLaws.{without-empty}
 use Rattle.locks.proofs.TouchLaws.{stored-loaded}
 use Rattle.locks.proofs.WalkLaws.{Walked, walked-none, walked-next, walked-all}

@@ -6,9 +6,9 @@ use native.Mathlib.Omega.{arith}
 use lib.ListN.{length}
 use borrow.Author.Needs.{needs}
 use Rattle.rules.specs.Window.{LogRecord}
+use Rattle.rules.specs.Effects.{movedRecord}
 use Rattle.layout.specs.Codec.{logSection}
 use Rattle.sets.specs.Entries.{onEntries}
-use Rattle.log.specs.Records.{movedRecord}
 use Rattle.log.proofs.MoveLaws.{firstMoved, first-none, first-turn, first-all}
 use Rattle.log.proofs.hand_over.Statement.{statement}
 use Rattle.log.proofs.hand_over.Tie as tie

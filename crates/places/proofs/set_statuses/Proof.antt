@@ -4,10 +4,10 @@ use Prim.Native.Nat.{ℕ, _-_}
 use native.Mathlib.Omega.{arith}
 use lib.ListN.{length}
 use borrow.Author.Needs.{needs}
+use Rattle.rules.specs.Effects.{withStatuses}
 use Rattle.layout.specs.Codec.{changeSection}
 use Rattle.sets.specs.Members.{members}
 use Rattle.sets.proofs.WalkLaws.{lowest-of, rest-without}
-use Rattle.places.specs.Statuses.{withStatuses}
 use Rattle.places.proofs.StatusLaws.{passed, Walk, statuses-none, walk-rises, walk-next, statuses-turn, statuses-all}
 use Rattle.places.proofs.set_statuses.Statement.{statement}
 use Rattle.places.proofs.set_statuses.Tie as tie

@@ -1,2 +1,0 @@
--- What the calls do to the log's records.
-pub mod Records

@@ -1,2 +1,0 @@
--- The table of ties.
-pub mod Tables
