@@ -2,9 +2,9 @@
 use crate::serves;
 use layout::Permits;
 use sets::ChangeSet;
-use sets::among;
-use sets::remove;
-use sets::remove_all;
+use words::among;
+use words::remove;
+use words::remove_all;
 ghost use mathlib.Core.Path.{_≡_};
 ghost use mathlib.Core.Logic.{_≢_};
 ghost use mathlib.Core.Bool.{not, _&&_};
@@ -12,7 +12,8 @@ ghost use Prim.Native.Nat.{ℕ, _+_, _*_, _≤_};
 ghost use lib.Dec.{eqb};
 ghost use lib.ListN.{length};
 ghost use Rattle.layout.specs.Records.{permitAt};
-ghost use Rattle.sets.specs.Members.{members, wordsHave, FourWords};
+ghost use Rattle.words.specs.Members.{wordsHave, FourWords};
+ghost use Rattle.sets.specs.Members.{members};
 ghost use Rattle.clashes.specs.Permits.{anyOf};
 ghost use Rattle.clashes.specs.Beside.{beside, othersFit, entryFits};
 

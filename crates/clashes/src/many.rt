@@ -3,7 +3,7 @@ use crate::BLOCK;
 use crate::serves;
 use layout::Permits;
 use sets::ChangeSet;
-use sets::among;
+use words::among;
 ghost use mathlib.Core.Path.{_≡_};
 ghost use mathlib.Core.Bool.{_&&_, _||_};
 ghost use Prim.Native.Nat.{ℕ, _+_, _*_, _≤_};

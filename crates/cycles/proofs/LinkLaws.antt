@@ -12,7 +12,8 @@ use lib.Seq.{getD-set-same, getD-set-other}
 use Rattle.rules.specs.Base.{anyBelow, countBelow}
 use Rattle.rules.specs.Sets.{only}
 use Rattle.rules.proofs.BaseLaws.{or-true, count-le, Below, under, over, below, eqb-same, eqb-other, Same, same, other, same?}
-use Rattle.sets.specs.Members.{members, wordsHave}
+use Rattle.words.specs.Members.{wordsHave}
+use Rattle.sets.specs.Members.{members}
 use Rattle.sets.proofs.Words.{ofWords}
 use Rattle.sets.proofs.MemberLaws.{words-none}
 use Rattle.cycles.specs.Graph.{Graph, everyone, comes, leads, lastFrom}

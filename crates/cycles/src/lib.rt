@@ -1,8 +1,8 @@
 // Whether the arrows between groups of changes close a cycle (a topological sort of the groups).
 use layout::Ties;
 use sets::ChangeSet;
-use sets::insert;
-use sets::remove;
+use words::insert;
+use words::remove;
 ghost use mathlib.Core.Path.{_≡_};
 ghost use mathlib.Core.Bool.{true, not, _&&_};
 ghost use mathlib.Core.List.{List, map};
@@ -14,7 +14,7 @@ ghost use Rattle.rules.specs.Window.{TieRecord};
 ghost use Rattle.rules.specs.Ties.{isArrow, acyclic};
 ghost use Rattle.layout.specs.Codec.{tieSection};
 ghost use Rattle.layout.specs.Records.{endsBelow, tieOf, tieAt};
-ghost use Rattle.sets.specs.Members.{wordsHave};
+ghost use Rattle.words.specs.Members.{wordsHave};
 ghost use Rattle.cycles.specs.Graph.{ownLabels, instead, joined, labelled, arrowAt, graphOf, noCycle, sources};
 ghost use Rattle.cycles.specs.Links.{Room, Ends, Blank, NoEnds, listsOf, withArrow, withTie, Linked, Removable, Removed};
 

@@ -5,7 +5,7 @@ use cells::write_u32;
 use layout::Log;
 use places::store_value;
 use sets::ChangeSet;
-use sets::among;
+use words::among;
 ghost use mathlib.Core.Path.{_≡_};
 ghost use mathlib.Core.Bool.{cond};
 ghost use mathlib.Core.List.{List, [], _∷_, _++_};
@@ -16,7 +16,8 @@ ghost use Rattle.rules.specs.Effects.{movedRecord, moveLog, unowned, undo as un
 ghost use Rattle.layout.specs.Codec.{noRecord, valuesSize, logSize, valueSection, logSection};
 ghost use Rattle.layout.specs.Records.{Tabled};
 ghost use Rattle.cells.specs.Part.{part, patch};
-ghost use Rattle.sets.specs.Members.{members, wordsHave};
+ghost use Rattle.words.specs.Members.{wordsHave};
+ghost use Rattle.sets.specs.Members.{members};
 ghost use Rattle.sets.specs.Entries.{onEntries};
 
 // The owner of record i.

@@ -1,7 +1,7 @@
 // Tables of rows of four bytes in a lent section, in rising order of their first three bytes.
 use cells::clear;
 use sets::ChangeSet;
-use sets::among;
+use words::among;
 ghost use mathlib.Core.Path.{_≡_};
 ghost use mathlib.Core.Bool.{true, cond, not};
 ghost use Prim.Native.Nat.{ℕ, _+_, _-_, _*_, _≤_, _<_};
@@ -9,7 +9,8 @@ ghost use lib.ListN.{length, getD, set};
 ghost use Rattle.rules.specs.Base.{rising, exceeds};
 ghost use Rattle.rules.specs.Locks.{contains};
 ghost use Rattle.cells.specs.Part.{part, patch};
-ghost use Rattle.sets.specs.Members.{members, wordsHave};
+ghost use Rattle.words.specs.Members.{wordsHave};
+ghost use Rattle.sets.specs.Members.{members};
 ghost use Rattle.rows.specs.Rows.{row, rowKey, rankOf, rank, rowBytes, rowAt, rows, standsAt, KeyPlace, addRow, unlessOver, spared, Stored, Closed};
 
 // A key of three bytes as one number.

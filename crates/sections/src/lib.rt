@@ -11,7 +11,7 @@ use layout::Permits;
 use layout::Ties;
 use rows::key_at;
 use sets::ChangeSet;
-use sets::among;
+use words::among;
 ghost use mathlib.Core.Path.{_≡_};
 ghost use mathlib.Core.Bool.{true, _&&_};
 ghost use mathlib.Core.Logic.{_↔_};
@@ -25,7 +25,8 @@ ghost use Rattle.rules.specs.Sound.{permitSound, tieSound};
 ghost use Rattle.layout.specs.Codec.{headSize, valuesSize, changesSize, lineSize, locksSize, permitsSize, tiesSize, logSize, lineSection};
 ghost use Rattle.layout.specs.Records.{tieOf, tieAt, permitAt};
 ghost use Rattle.cells.specs.Bits.{bytesHave};
-ghost use Rattle.sets.specs.Members.{wordsHave, members};
+ghost use Rattle.words.specs.Members.{wordsHave};
+ghost use Rattle.sets.specs.Members.{members};
 ghost use Rattle.sections.specs.Cells.{changeFits, nextFits, writes, rowFits, permitFits, tieFits, recordFits};
 ghost use Rattle.sections.specs.Sections.{HeadSound, ValuesSound, ChangesSound, LocksSound, LogSound, PermitsSound, TiesSound};
 

@@ -24,7 +24,8 @@ use Rattle.cells.proofs.TableLaws.{table-same}
 use Rattle.cells.proofs.NumLaws.{length-le, le-bytes}
 use Rattle.cells.proofs.Digits.{unpack-ext}
 use Rattle.cells.proofs.WordLaws.{unpack-byte}
-use Rattle.sets.specs.Members.{members, wordsHave, loaded, setByte, setBytes, stored}
+use Rattle.words.specs.Members.{wordsHave}
+use Rattle.sets.specs.Members.{members, loaded, setByte, setBytes, stored}
 use Rattle.sets.specs.declared.ChangeSet.{ChangeSet}
 use Rattle.sets.proofs.Words.{ofWords}
 use Rattle.sets.proofs.MemberLaws.{four-words}

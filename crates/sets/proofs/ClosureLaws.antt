@@ -1,39 +1,30 @@
 -- The least set that none of the ties adds to is the closure of the rules. Assumes nothing.
-use mathlib.Core.Path.{_≡_, refl, sym}
-use mathlib.Core.Bool.{Bool, true, false}
+use mathlib.Core.Path.{_≡_, refl, sym, _∙_}
+use mathlib.Core.Bool.{Bool, true, false, false≢true}
 use mathlib.Core.List.{List}
 use mathlib.Core.Logic.{_⊎_, inl, inr, ⊎-elim}
-use Prim.Native.Nat.{ℕ, _*_, _≤_, _<_}
+use Prim.Native.Nat.{ℕ, _-_, _*_, _≤_, _<_}
 use native.Mathlib.Omega.{arith}
-use lib.Dec.{leb, eqb}
+use lib.Dec.{eqb}
 use lib.ListN.{length, getD}
+use Rattle.rules.specs.Base.{countBelow, allBelow}
 use Rattle.rules.specs.Sets.{Set, closure}
 use Rattle.rules.specs.Window.{TieRecord}
 use Rattle.rules.specs.Ties.{isWait, isFall, isGroup, isArrow, tied, grouped, falling, leading}
-use Rattle.rules.proofs.BaseLaws.{or-left, or-right, or-cases, and-left, and-right, both-ways, eqb-eq, le-of, leb-true, Same, same, other, same?}
+use Rattle.rules.proofs.BaseLaws.{or-left, or-right, or-cases, both-ways, eqb-eq, count-same, count-le, Below, under, over, below, Same, same, other, same?}
 use Rattle.rules.proofs.SetLaws.{closure-holds, closure-closed, closure-to}
 use Rattle.layout.specs.Codec.{noTie, tieSection}
 use Rattle.layout.specs.Records.{tieAt}
 use Rattle.layout.proofs.ReadLaws.{Stands, tied-place, tied-at, section-read, section-ends}
+use Rattle.passes.specs.Passes.{follows, placeFrom, tieFrom, passed}
+use Rattle.passes.proofs.PassLaws.{follows-of, follows-low, follows-high, Inside, passed-keeps, pulled-follower, pulled-leader, pulled-within, Stable, Growing, place-below, growing-on, growing-end}
 use Rattle.sets.specs.declared.Along.{Along}
 use Rattle.sets.specs.declared.Along.the-variants.{Groups, Falls, Arrows}
-use Rattle.sets.specs.Closure.{relation, lowKind, follows, placeFrom, tieFrom, passed}
-use Rattle.sets.proofs.PassLaws.{Inside, passed-keeps, pulled-follower, pulled-leader, pulled-within, Stable, Growing, place-below, growing-on, growing-end}
+use Rattle.sets.specs.Members.{agree}
+use Rattle.sets.specs.Closure.{relation, lowKind}
+use Rattle.sets.proofs.MemberLaws.{agree-all}
 
 -- KINDS
-pub follows-of : (low k : ℕ) → low ≤ k → k ≤ 3 → follows low k ≡ true
-unfolding follows
-follows-of low k h l = rw (leb-true low k h, leb-true k 3 l)
-
--- what such a kind is
-pub follows-low : (low k : ℕ) → follows low k ≡ true → low ≤ k
-unfolding follows
-follows-low low k e = le-of low k (and-left (leb low k) (leb k 3) e)
-
-pub follows-high : (low k : ℕ) → follows low k ≡ true → k ≤ 3
-unfolding follows
-follows-high low k e = le-of k 3 (and-right (leb low k) (leb k 3) e)
-
 -- a group tie is gone along from leader to follower whatever the others
 pub low-most : (along : Along) → lowKind along ≤ 3
 low-most Groups = omega arith
@@ -166,6 +157,14 @@ module _ (low : ℕ) (bs : List ℕ) (n : ℕ) (back : Bool) (s r : Set) (p : r 
   -- the members stay
   pub pass-keeps : Inside s r
   pass-keeps k e = rw p (passed-keeps low (tieFrom back bs n) n s k e)
+
+  -- and where they do not agree there are more of them, which leaves fewer to add
+  pub pass-less : (b : Bool) → b ≡ allBelow 256 (agree r s) → b ≡ false → 256 - countBelow 256 r < 256 - countBelow 256 s
+  pass-less b eb q = go (below (countBelow 256 s) (countBelow 256 r))
+    where
+      go : {x : Bool} → Below (countBelow 256 s) (countBelow 256 r) x → 256 - countBelow 256 r < 256 - countBelow 256 s
+      go (under l) = omega (arith, count-le 256 r)
+      go (over l) = absurd (false≢true (sym q ∙ eb ∙ agree-all 256 r s (λ k h. both-ways (r k) (s k) (count-same 256 s r (λ k h. pass-keeps k) l k h) (pass-keeps k))))
 
   -- what grew from a seed still grows from it
   pub pass-grows : (seed : Set) → Growing low (tieAt bs) n seed s → Growing low (tieAt bs) n seed r

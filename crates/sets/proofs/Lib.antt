@@ -15,11 +15,9 @@ pub mod TestLaws
 pub mod Bytes
 -- tests gathered byte by byte
 pub mod GatherLaws
--- passes over ties
-pub mod PassLaws
 -- passes come to the closure of the rules
 pub mod ClosureLaws
--- ties noted in rows, and what spreads along them
+-- what spreads along rows in which ties are noted
 pub mod SpreadLaws
 -- the entries that a delegate names
 pub mod EntryLaws

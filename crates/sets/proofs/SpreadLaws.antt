@@ -1,35 +1,32 @@
--- Ties noted in rows of words, and what spreads along the rows, come to the closure. Assumes nothing.
-use mathlib.Core.Path.{_≡_, refl, sym, ap, ap₂, _∙_}
-use mathlib.Core.Bool.{Bool, true, false, not, _&&_, _||_, false≢true, and-true, and-false, or-false, or-assoc}
+-- What spreads along rows in which ties are noted comes to the closure. Assumes nothing.
+use mathlib.Core.Path.{_≡_, refl, sym, ap₂, _∙_}
+use mathlib.Core.Bool.{Bool, true, false, not, _&&_, _||_, false≢true, and-false}
 use mathlib.Core.List.{List, [], _∷_}
 use mathlib.Core.Logic.{_⊎_, inl, inr, ⊎-elim}
-use Prim.Native.Nat.{ℕ, _+_, _-_, _*_, _/_, _%_, _^_, _≤_, _<_}
-use native.Mathlib.Decide.{ℕ-discrete, decLt}
-use native.Mathlib.Numerals.{add-one}
+use Prim.Native.Nat.{ℕ, _+_, _-_, _*_, _/_, _%_, _≤_, _<_}
+use native.Mathlib.Decide.{decLt}
 use native.Mathlib.Omega.{arith}
-use borrow.Author.Tests.{eq-eqb, ne-eqb}
-use lib.Bits.{bitOr}
 use lib.Dec.{eqb, ltb}
-use lib.ListN.{length, getD, set, replicate, length-replicate, getD-replicate, List·getD-eq-default}
-use lib.Seq.{getD-set-same, getD-set-other}
-use Rattle.rules.specs.Base.{anyBelow, countBelow, lowestBelow}
+use lib.ListN.{length, getD, replicate, length-replicate, getD-replicate, List·getD-eq-default}
+use Rattle.rules.specs.Base.{countBelow, lowestBelow}
 use Rattle.rules.specs.Sets.{Set, closure}
 use Rattle.rules.specs.Window.{TieRecord}
 use Rattle.rules.specs.Ties.{isGroup}
 use Rattle.rules.proofs.BaseLaws.{or-left, or-right, or-cases, and-both, and-left, and-right, eqb-eq, eqb-same, eqb-other, no-true, not-true, count-le, Within, Same, same, other, same?, any-intro, any-elim, ltb-true, ltb-false}
 use Rattle.layout.specs.Codec.{unpack, tieSection}
 use Rattle.layout.specs.Records.{tieAt}
-use Rattle.cells.proofs.Digits.{unpack-zero, unpack-or}
+use Rattle.cells.proofs.Digits.{unpack-zero}
+use Rattle.passes.specs.Passes.{follows}
+use Rattle.passes.specs.TieRows.{goneAlong, goneAt, goneIn, rowHas}
+use Rattle.passes.proofs.PassLaws.{Inside, Stable, Growing, pulled-follower, pulled-leader, pulled-within}
 use Rattle.sets.specs.declared.Along.{Along}
-use Rattle.sets.specs.Closure.{relation, lowKind, follows}
-use Rattle.sets.specs.Spreading.{leadsTo, leadsAt, leadsIn, rowHas, Spread}
+use Rattle.sets.specs.Closure.{relation, lowKind, Spread}
 use Rattle.sets.specs.Members.{members}
 use Rattle.sets.proofs.BoundLaws.{count-more}
 use Rattle.sets.proofs.WalkLaws.{Lowest, lowest-of, rest-without}
 use Rattle.sets.proofs.MemberLaws.{four-words}
-use Rattle.sets.proofs.Words.{ofWords, bit-here}
+use Rattle.sets.proofs.Words.{ofWords}
 use Rattle.sets.proofs.ClosureLaws.{section-closure}
-use Rattle.sets.proofs.PassLaws.{Inside, Stable, Growing, pulled-follower, pulled-leader, pulled-within}
 
 -- a test is true or false
 either : (b : Bool) → (b ≡ true) ⊎ (b ≡ false)
@@ -49,38 +46,6 @@ rows-none x y = rw (zero-at (x * 4 + y / 64), unpack-zero (y % 64)) (and-false (
         go (yes h) = getD-replicate 1024 i 0 0 h
         go (no n) = List·getD-eq-default (replicate 1024 0) 0 {n = i} (rw (length-replicate {A = ℕ} 1024 0) (omega arith))
 
--- one number more in a row
-pub noted : (rows : List ℕ) (a b : ℕ) → length rows ≡ 1024 → a < 256 → b < 256 → (x y : ℕ)
-    → rowHas (set rows (a * 4 + b / 64) (bitOr (getD rows (a * 4 + b / 64) 0) ((1 * 2 ^ (b % 64)) % 2 ^ 64))) x y ≡ rowHas rows x y || eqb x a && eqb y b
-unfolding rowHas
-noted rows a b len ha hb x y = go (decLt y 256)
-  where
-    i : ℕ
-    i = a * 4 + b / 64
-
-    w : ℕ
-    w = getD rows (a * 4 + b / 64) 0
-
-    apart : (x * 4 + y / 64 ≡ a * 4 + b / 64 → ⊥) → eqb x a && eqb y b ≡ false
-    apart n = no-true _ (λ e. n (ap₂ (λ (p q : ℕ). p * 4 + q / 64) (eqb-eq x a (and-left (eqb x a) (eqb y b) e)) (eqb-eq y b (and-right (eqb x a) (eqb y b) e))))
-
-    at : y < 256 → Dec (x * 4 + y / 64 ≡ a * 4 + b / 64)
-        → unpack (getD (set rows (a * 4 + b / 64) (bitOr (getD rows (a * 4 + b / 64) 0) ((1 * 2 ^ (b % 64)) % 2 ^ 64))) (x * 4 + y / 64) 0) (y % 64)
-        ≡ unpack (getD rows (x * 4 + y / 64) 0) (y % 64) || eqb x a && eqb y b
-    at h (yes e) =
-        let p : x ≡ a = omega arith in
-        let q : 64 * (b / 64) + y % 64 ≡ y = omega arith in
-        rw (e, getD-set-same rows (a * 4 + b / 64) _ 0 (omega arith), eq-eqb x a p)
-        (unpack-or (getD rows (a * 4 + b / 64) 0) ((1 * 2 ^ (b % 64)) % 2 ^ 64) (y % 64)
-        ∙ ap (λ (t : Bool). unpack (getD rows (a * 4 + b / 64) 0) (y % 64) || t) (bit-here b (b / 64) (y % 64) refl (omega arith) ∙ ap (λ (z : ℕ). eqb z b) q))
-    at h (no n) = rw (getD-set-other rows (a * 4 + b / 64) (x * 4 + y / 64) _ 0 n, apart n) (sym (or-false _))
-
-    go : Dec (y < 256)
-        → ltb y 256 && unpack (getD (set rows (a * 4 + b / 64) (bitOr (getD rows (a * 4 + b / 64) 0) ((1 * 2 ^ (b % 64)) % 2 ^ 64))) (x * 4 + y / 64) 0) (y % 64)
-        ≡ ltb y 256 && unpack (getD rows (x * 4 + y / 64) 0) (y % 64) || eqb x a && eqb y b
-    go (yes h) = rw (ltb-true y 256 h) (at h (ℕ-discrete (x * 4 + y / 64) (a * 4 + b / 64)))
-    go (no n) = rw (ltb-false y 256 (omega arith), ne-eqb y b (λ e. n (omega arith)), and-false (eqb x a))
-
 -- a row as a set
 pub row-set : (rows : List ℕ) (c k : ℕ) → members (ofWords (getD rows (c * 4) 0 ∷ getD rows (c * 4 + 1) 0 ∷ getD rows (c * 4 + 2) 0 ∷ getD rows (c * 4 + 3) 0 ∷ [])) k ≡ rowHas rows c k
 unfolding rowHas
@@ -92,34 +57,6 @@ row-set rows c = four-words (rowHas rows c) _ _ _ _ (λ k h. rw (ltb-false k 256
         let x : at ≡ c * 4 + (64 * i + j) / 64 = omega arith in
         let y : j ≡ (64 * i + j) % 64 = omega arith in
         rw (ltb-true (64 * i + j) 256 (omega arith)) (ap₂ (λ (u v : ℕ). unpack (getD rows u 0) v) x y)
-
--- A TIE, by whether it is gone along and whether it is a group's
-lead-as : (low : ℕ) (t : TieRecord) (f g : Bool) → follows low t.kind ≡ f → isGroup t.kind ≡ g → (x y : ℕ) → leadsTo low t x y ≡ eqb x t.leader && (eqb y t.follower && f) || eqb x t.follower && (eqb y t.leader && g)
-unfolding leadsTo
-lead-as low t f g p q x y = rw (p, q)
-
-module _ (low : ℕ) (t : TieRecord) (x y : ℕ) (h : Bool) where
-  -- both ways
-  pub lead-group : follows low t.kind ≡ true → isGroup t.kind ≡ true → (h || eqb x t.leader && eqb y t.follower) || eqb x t.follower && eqb y t.leader ≡ h || leadsTo low t x y
-  lead-group p q = or-assoc h _ _ ∙ ap (λ (b : Bool). h || b) (sym (lead-as low t true true p q x y ∙ rw (and-true (eqb y t.follower), and-true (eqb y t.leader))))
-
-  -- one way
-  pub lead-one : follows low t.kind ≡ true → isGroup t.kind ≡ false → h || eqb x t.leader && eqb y t.follower ≡ h || leadsTo low t x y
-  lead-one p q = ap (λ (b : Bool). h || b) (sym (lead-as low t true false p q x y ∙ rw (and-true (eqb y t.follower), and-false (eqb y t.leader), and-false (eqb x t.follower), or-false (eqb x t.leader && eqb y t.follower))))
-
-  -- none
-  pub lead-none : follows low t.kind ≡ false → isGroup t.kind ≡ false → h ≡ h || leadsTo low t x y
-  lead-none p q = sym (rw (lead-as low t false false p q x y, and-false (eqb y t.follower), and-false (eqb y t.leader), and-false (eqb x t.leader), and-false (eqb x t.follower)) (or-false h))
-
--- one tie more
-pub leads-more : (low : ℕ) (bs : List ℕ) (j x y : ℕ) (h h₀ t : Bool) → t ≡ h || leadsTo low (tieAt bs j) x y → h ≡ h₀ || leadsIn low bs j x y → t ≡ h₀ || leadsIn low bs (j + 1) x y
-unfolding leadsIn leadsAt anyBelow
-leads-more low bs j x y h h₀ t e q = e ∙ rw (q, add-one j) (or-assoc h₀ _ _)
-
--- none yet
-pub leads-none : (low : ℕ) (bs : List ℕ) (x y : ℕ) (h : Bool) → h ≡ h || leadsIn low bs 0 x y
-unfolding leadsIn anyBelow
-leads-none low bs x y h = sym (or-false h)
 
 -- SPREADING: s has grown from the seed, `left` are the members whose rows are still to be taken in, c the lowest of them
 pub record Spreading (rows : List ℕ) (seed s left : Set) (c : ℕ) : Type 0 where
@@ -199,16 +136,16 @@ spreading-end rows seed s left c g h above = record { holds = g .holds; closed =
     nobody a p (no n) = absurd (false≢true (sym (above a (omega arith)) ∙ p))
 
 -- THE CLOSURE: rows in which the first n ties are noted
-module _ (low : ℕ) (bs : List ℕ) (n : ℕ) (rows : List ℕ) (is : (x y : ℕ) → rowHas rows x y ≡ leadsIn low bs n x y) (seed r : Set) (z : Spread rows seed r) where
+module _ (low : ℕ) (bs : List ℕ) (n : ℕ) (rows : List ℕ) (is : (x y : ℕ) → rowHas rows x y ≡ goneIn low bs n x y) (seed r : Set) (z : Spread rows seed r) where
   -- what a tie leads to is in the row
-  in-row : (j x y : ℕ) → j < n → leadsTo low (tieAt bs j) x y ≡ true → rowHas rows x y ≡ true
-  unfolding leadsIn leadsAt
-  in-row j x y h e = is x y ∙ any-intro n (leadsAt low bs x y) j h e
+  in-row : (j x y : ℕ) → j < n → goneAlong low (tieAt bs j) x y ≡ true → rowHas rows x y ≡ true
+  unfolding goneIn goneAt
+  in-row j x y h e = is x y ∙ any-intro n (goneAt low bs x y) j h e
 
   -- and nothing else
   of-row : (u : Set) → Stable low (tieAt bs) n u → (x y : ℕ) → u x ≡ true → rowHas rows x y ≡ true → u y ≡ true
-  unfolding leadsIn leadsAt leadsTo
-  of-row u w x y p e = let (j, h, q) = any-elim n (leadsAt low bs x y) (sym (is x y) ∙ e) in ⊎-elim
+  unfolding goneIn goneAt goneAlong
+  of-row u w x y p e = let (j, h, q) = any-elim n (goneAt low bs x y) (sym (is x y) ∙ e) in ⊎-elim
       (λ a. let f = and-right (eqb x (tieAt bs j .leader)) _ a in
       rw (eqb-eq y (tieAt bs j .follower) (and-left _ (follows low (tieAt bs j .kind)) f)) (w j h _ (pulled-follower low (tieAt bs j) u (and-right (eqb y (tieAt bs j .follower)) _ f) (rw (eqb-eq x (tieAt bs j .leader) (and-left _ _ a)) at p))))
       (λ a. let f = and-right (eqb x (tieAt bs j .follower)) _ a in
@@ -219,7 +156,7 @@ module _ (low : ℕ) (bs : List ℕ) (n : ℕ) (rows : List ℕ) (is : (x y : �
   spread-grows = record { holds = z .holds; least = λ u w. z .least u (of-row u w) }
 
   pub spread-stable : Stable low (tieAt bs) n r
-  unfolding leadsTo
+  unfolding goneAlong
   spread-stable j h = pulled-within low (tieAt bs j) r r (λ k e. e)
       (λ f e. z .closed l o e (in-row j l o h (or-left (eqb l l && (eqb o o && follows low (tieAt bs j .kind))) _ (and-both (eqb l l) _ (eqb-same l) (and-both (eqb o o) _ (eqb-same o) f)))))
       (λ g e. z .closed o l e (in-row j o l h (or-right (eqb o l && (eqb l o && follows low (tieAt bs j .kind))) (eqb o o && (eqb l l && isGroup (tieAt bs j .kind))) (and-both (eqb o o) _ (eqb-same o) (and-both (eqb l l) _ (eqb-same l) g)))))
@@ -232,8 +169,8 @@ module _ (low : ℕ) (bs : List ℕ) (n : ℕ) (rows : List ℕ) (is : (x y : �
 
 -- what spreads along rows of zeros in which the ties of a section were noted is the closure
 pub spread-section : (along : Along) (low : ℕ) (bs : List ℕ) (ts : List TieRecord) (n : ℕ) (rows : List ℕ) (seed r : Set) → low ≡ lowKind along → ((i : ℕ) → getD bs i 0 < 256) → 4 * n ≤ length bs → length ts ≡ n → bs ≡ tieSection ts
-    → ((x y : ℕ) → rowHas rows x y ≡ rowHas (replicate 1024 0) x y || leadsIn low bs n x y) → Spread rows seed r → (k : ℕ) → r k ≡ closure 256 (relation along ts) seed k
+    → ((x y : ℕ) → rowHas rows x y ≡ rowHas (replicate 1024 0) x y || goneIn low bs n x y) → Spread rows seed r → (k : ℕ) → r k ≡ closure 256 (relation along ts) seed k
 spread-section along low bs ts n rows seed r q bytes room len e is z = section-closure along bs ts n seed r bytes room len e (rw q at (spread-grows low bs n rows noted-as seed r z)) (rw q at (spread-stable low bs n rows noted-as seed r z))
   where
-    noted-as : (x y : ℕ) → rowHas rows x y ≡ leadsIn low bs n x y
+    noted-as : (x y : ℕ) → rowHas rows x y ≡ goneIn low bs n x y
     noted-as x y = is x y ∙ rw (rows-none x y)

@@ -2,4 +2,3 @@
 pub mod Members
 pub mod Closure
 pub mod Entries
-pub mod Spreading

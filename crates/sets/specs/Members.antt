@@ -1,25 +1,16 @@
--- The members of a set of four words, and a set as 32 bytes. Assumes nothing.
-use mathlib.Core.Path.{_≡_}
+-- The members of a set of changes, and a set as 32 bytes. Assumes nothing.
 use mathlib.Core.Bool.{Bool, Bool·beq, cond, _&&_}
 use mathlib.Core.List.{List}
-use Prim.Native.Nat.{ℕ, _+_, _*_, _/_, _%_, _^_, _<_}
+use Prim.Native.Nat.{ℕ, _+_, _*_}
 use lib.Dec.{leb, ltb}
-use lib.ListN.{length, getD}
+use lib.ListN.{length}
 use Rattle.rules.specs.Base.{table}
 use Rattle.rules.specs.Sets.{Set}
-use Rattle.layout.specs.Codec.{pack, unpack}
+use Rattle.layout.specs.Codec.{pack}
 use Rattle.cells.specs.Part.{patch}
 use Rattle.cells.specs.Bits.{bytesHave}
+use Rattle.words.specs.Members.{wordsHave}
 use Rattle.sets.specs.declared.ChangeSet.{ChangeSet}
-
--- k is a member of the set of these words: bit k % 64 of word k / 64 is set
-unfoldable pub wordsHave : List ℕ → Set
-wordsHave ws k = unpack (getD ws (k / 64) 0) (k % 64)
-
--- four words, each of 64 bits
-pub record FourWords (ws : List ℕ) : Type 0 where
-  pub four : length ws ≡ 4
-  pub fit : (i : ℕ) → getD ws i 0 < 2 ^ 64
 
 -- the members of a set: those of its words
 unfoldable pub members : ChangeSet → Set

@@ -1,26 +1,23 @@
 // Sets of changes, in four 64-bit words by value.
-mod passes;
-mod tie_rows;
-
 use cells::read_u64;
 use cells::write_u64;
+use passes::note_ties;
 use passes::pass;
-use tie_rows::note_ties;
-use tie_rows::row_at;
+use words::bit_in;
+use words::without_lowest;
 ghost use mathlib.Core.Path.{_≡_};
 ghost use mathlib.Core.Bool.{false, not, _||_, _&&_};
 ghost use mathlib.Core.List.{List};
-ghost use Prim.Native.Nat.{ℕ, _+_, _*_, _/_, _%_, _<_, _≤_};
-ghost use lib.Count.{trailingZeros};
+ghost use Prim.Native.Nat.{ℕ, _*_, _≤_};
 ghost use lib.Dec.{eqb};
 ghost use lib.ListN.{length};
 ghost use Rattle.rules.specs.Base.{anyBelow, allBelow, lowestBelow, countBelow};
 ghost use Rattle.rules.specs.Sets.{closure};
 ghost use Rattle.rules.specs.Window.{TieRecord};
-ghost use Rattle.layout.specs.Codec.{unpack, tieSection};
-ghost use Rattle.sets.specs.Members.{members, wordsHave, FourWords, agree, loaded, stored};
-ghost use Rattle.sets.specs.Spreading.{Spread};
-ghost use Rattle.sets.specs.Closure.{relation, lowKind};
+ghost use Rattle.layout.specs.Codec.{tieSection};
+ghost use Rattle.passes.specs.TieRows.{rowHas};
+ghost use Rattle.sets.specs.Members.{members, agree, loaded, stored};
+ghost use Rattle.sets.specs.Closure.{relation, lowKind, Spread};
 
 // The ties of which there are fewer are few.
 const FEW: usize = 32;
@@ -265,65 +262,6 @@ impl ChangeSet {
     }
 }
 
-// Whether c is a member of the set of these words: `has`, where a set is lent and not copied.
-pub fn among(words: &[u64; 4], c: u8) -> bool
-    ensures { λ r. ⌜ r ≡ wordsHave (now (words .entry)) c ⌝ }
-{
-    let i = (c / 64) as usize;
-    (words[i] >> (c % 64)) % 2 == 1
-}
-
-// c becomes a member of the set of these words.
-pub fn insert(words: &mut [u64; 4], c: u8)
-    requires { ⌜ length (now words) ≡ 4 ⌝ }
-    ensures { λ _. ⌜ length (now (words .exit)) ≡ 4 ⌝ }
-    ensures { λ _. ⌜ ((k : ℕ) → wordsHave (now (words .exit)) k ≡ eqb k c || wordsHave (now (words .entry)) k) ⌝ }
-{
-    let i = (c / 64) as usize;
-    words[i] = words[i] | (1 << (c % 64));
-}
-
-// c is a member of the set of these words no more.
-pub fn remove(words: &mut [u64; 4], c: u8)
-    requires { ⌜ length (now words) ≡ 4 ⌝ }
-    ensures { λ _. ⌜ length (now (words .exit)) ≡ 4 ⌝ }
-    ensures { λ _. ⌜ ((k : ℕ) → wordsHave (now (words .exit)) k ≡ not (eqb k c) && wordsHave (now (words .entry)) k) ⌝ }
-{
-    let i = (c / 64) as usize;
-    words[i] = words[i] & !(1 << (c % 64));
-}
-
-// The members of the set of other words are members of the set of these no more: `minus`, where sets are lent and not copied.
-pub fn remove_all(words: &mut [u64; 4], others: &[u64; 4])
-    requires { ⌜ length (now words) ≡ 4 ⌝ }
-    requires { ⌜ FourWords (now others) ⌝ }
-    ensures { λ _. ⌜ length (now (words .exit)) ≡ 4 ⌝ }
-    ensures { λ _. ⌜ ((k : ℕ) → wordsHave (now (words .exit)) k ≡ wordsHave (now (words .entry)) k && not (wordsHave (now (others .entry)) k)) ⌝ }
-{
-    words[0] = words[0] & !others[0];
-    words[1] = words[1] & !others[1];
-    words[2] = words[2] & !others[2];
-    words[3] = words[3] & !others[3];
-}
-
-// A word without its lowest bit.
-fn without_lowest(w: u64) -> u64
-    requires { ⌜ 0 < w ⌝ }
-    ensures { λ r. ⌜ ((j : ℕ) → j < 64 → unpack r j ≡ not (eqb j (trailingZeros 64 w)) && unpack w j) ⌝ }
-{
-    w & !(1 << u64::trailing_zeros(w))
-}
-
-// Word `word` of the set of c alone.
-fn bit_in(c: u8, word: u8) -> u64
-    ensures { λ r. ⌜ ((j : ℕ) → j < 64 → unpack r j ≡ eqb (64 * word + j) c) ⌝ }
-{
-    if c / 64 == word {
-        return 1 << (c % 64);
-    }
-    0
-}
-
 // The lowest kind of tie that is gone along from leader to follower.
 fn low_kind(along: Along) -> u8
     ensures { λ r. ⌜ r ≡ lowKind along ⌝ }
@@ -332,5 +270,16 @@ fn low_kind(along: Along) -> u8
         Along::Groups => 3,
         Along::Falls => 2,
         Along::Arrows => 1,
+    }
+}
+
+// The row of a number.
+fn row_at(rows: &[u64], c: u8) -> ChangeSet
+    requires { ⌜ length (now rows) ≡ 1024 ⌝ }
+    ensures { λ r. ⌜ ((k : ℕ) → members r k ≡ rowHas (now (rows .entry)) c k) ⌝ }
+{
+    let i = c as usize * 4;
+    ChangeSet {
+        words: [rows[i], rows[i + 1], rows[i + 2], rows[i + 3]],
     }
 }

@@ -5,7 +5,8 @@ use native.Mathlib.Omega.{arith}
 use borrow.Author.Needs.{needs}
 use lib.ListN.{length, getD}
 use Rattle.rules.specs.Base.{countBelow}
-use Rattle.sets.specs.Members.{members, wordsHave}
+use Rattle.words.specs.Members.{wordsHave}
+use Rattle.sets.specs.Members.{members}
 use Rattle.cycles.specs.Graph.{graphOf}
 use Rattle.cycles.specs.Links.{Lists, Room, Ends, listsOf}
 use Rattle.cycles.proofs.CycleLaws.{small-graph}

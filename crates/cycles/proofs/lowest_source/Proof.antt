@@ -1,7 +1,8 @@
 -- `cycles::lowest_source` meets its contract. Assumes nothing.
 use mathlib.Core.Path.{_∙_}
 use borrow.Author.Needs.{needs}
-use Rattle.sets.specs.Members.{members, wordsHave}
+use Rattle.words.specs.Members.{wordsHave}
+use Rattle.sets.specs.Members.{members}
 use Rattle.sets.proofs.BoundLaws.{lowest-ext}
 use Rattle.cycles.specs.Graph.{sources}
 use Rattle.cycles.proofs.lowest_source.Statement.{statement}

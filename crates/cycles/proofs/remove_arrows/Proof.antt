@@ -5,7 +5,7 @@ use native.Mathlib.Omega.{arith}
 use borrow.Author.Needs.{needs}
 use lib.ListN.{length, getD}
 use Rattle.layout.specs.Records.{tieAt}
-use Rattle.sets.specs.Members.{wordsHave}
+use Rattle.words.specs.Members.{wordsHave}
 use Rattle.cycles.specs.Graph.{arrowAt, graphOf}
 use Rattle.cycles.proofs.RemovalLaws.{Removing, removing-none, removing-all, removing-pos, removing-next}
 use Rattle.cycles.proofs.remove_arrows.Statement.{statement}

@@ -7,7 +7,8 @@ use lib.ListN.{length, getD}
 use borrow.Author.Needs.{needs}
 use Rattle.rules.specs.Window.{LogRecord}
 use Rattle.layout.specs.Codec.{logSection}
-use Rattle.sets.specs.Members.{members, wordsHave}
+use Rattle.words.specs.Members.{wordsHave}
+use Rattle.sets.specs.Members.{members}
 use Rattle.log.proofs.DropLaws.{Dropping, dropping-none, kept-most, dropping-turn, dropping-all}
 use Rattle.log.proofs.drop_owned.Statement.{statement}
 use Rattle.log.proofs.drop_owned.Tie as tie

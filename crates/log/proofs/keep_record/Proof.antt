@@ -3,7 +3,7 @@ use mathlib.Core.Path.{_≡_, sym, _∙_}
 use mathlib.Core.Bool.{true, false}
 use Prim.Native.Nat.{_*_}
 use lib.ListN.{getD}
-use Rattle.sets.specs.Members.{wordsHave}
+use Rattle.words.specs.Members.{wordsHave}
 use borrow.Author.Needs.{needs}
 use Rattle.log.proofs.keep_record.Statement.{statement}
 use Rattle.log.proofs.keep_record.Tie as tie

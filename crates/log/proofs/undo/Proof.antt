@@ -8,7 +8,8 @@ use borrow.Author.Needs.{needs}
 use Rattle.rules.specs.Window.{LogRecord}
 use Rattle.rules.specs.Effects.{undo as undone}
 use Rattle.layout.specs.Codec.{noRecord, valueSection, logSection}
-use Rattle.sets.specs.Members.{members, wordsHave}
+use Rattle.words.specs.Members.{wordsHave}
+use Rattle.sets.specs.Members.{members}
 use Rattle.log.proofs.UndoLaws.{undo-none, undo-turn}
 use Rattle.log.proofs.undo.Statement.{statement}
 use Rattle.log.proofs.undo.Tie as tie

@@ -2,7 +2,7 @@
 use mathlib.Core.Path.{sym, ap, _∙_}
 use lib.ListN.{getD}
 use Rattle.layout.specs.Codec.{noRecord, valueSection}
-use Rattle.sets.specs.Members.{wordsHave}
+use Rattle.words.specs.Members.{wordsHave}
 use Rattle.log.proofs.UndoLaws.{undo-yes, undo-no}
 use borrow.Author.Needs.{needs}
 use Rattle.log.proofs.undo_record.Statement.{statement}

@@ -4,7 +4,8 @@ use Prim.Native.Nat.{_+_, _-_, _≤_}
 use native.Mathlib.Omega.{arith}
 use lib.ListN.{length}
 use borrow.Author.Needs.{needs}
-use Rattle.sets.specs.Members.{members, wordsHave}
+use Rattle.words.specs.Members.{wordsHave}
+use Rattle.sets.specs.Members.{members}
 use Rattle.rows.specs.Rows.{spared}
 use Rattle.rows.proofs.CloseLaws.{Moved, moved-none, moved-next, moved-all, moved-few}
 use Rattle.rows.proofs.drop_involving.Statement.{statement}

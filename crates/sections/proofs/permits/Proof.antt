@@ -1,6 +1,7 @@
 -- `sections::permits` meets its contract. Assumes nothing.
 use mathlib.Core.Path.{_∙_, sym}
-use Rattle.sets.specs.Members.{wordsHave, members}
+use Rattle.words.specs.Members.{wordsHave}
+use Rattle.sets.specs.Members.{members}
 use Rattle.sets.proofs.TurnLaws.{failed, held, refused}
 use Rattle.sections.proofs.TableLaws.{permits-of, of-permits}
 use borrow.Author.Needs.{needs}

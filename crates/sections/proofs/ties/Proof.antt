@@ -1,6 +1,7 @@
 -- `sections::ties` meets its contract. Assumes nothing.
 use mathlib.Core.Path.{_∙_, sym}
-use Rattle.sets.specs.Members.{wordsHave, members}
+use Rattle.words.specs.Members.{wordsHave}
+use Rattle.sets.specs.Members.{members}
 use Rattle.sets.proofs.TurnLaws.{failed, held, refused}
 use Rattle.sections.proofs.TableLaws.{ties-of, of-ties}
 use borrow.Author.Needs.{needs}

@@ -8,7 +8,8 @@ use mir.Val.{Fits}
 use mir.Syntax.{w64}
 use lib.ListN.{length, getD}
 use Rattle.layout.specs.Records.{permitAt}
-use Rattle.sets.specs.Members.{members, wordsHave}
+use Rattle.words.specs.Members.{wordsHave}
+use Rattle.sets.specs.Members.{members}
 use Rattle.sets.proofs.WalkLaws.{lowest-of, rest-without}
 use Rattle.clashes.specs.Beside.{othersFit, entryFits}
 use Rattle.clashes.proofs.WriterLaws.{Walked, walk-start, walk-failed, walk-rises, walk-next, walk-done}

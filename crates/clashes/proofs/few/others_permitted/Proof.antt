@@ -6,7 +6,8 @@ use lib.ListN.{getD}
 use lib.Bits.{bitOr}
 use Rattle.layout.specs.Records.{permitAt}
 use Rattle.cells.proofs.Digits.{unpack-or}
-use Rattle.sets.specs.Members.{members, wordsHave}
+use Rattle.words.specs.Members.{wordsHave}
+use Rattle.sets.specs.Members.{members}
 use Rattle.sets.proofs.Words.{ofWords, join-words}
 use Rattle.clashes.proofs.BesideLaws.{none-beside}
 use Rattle.clashes.proofs.few.others_permitted.Statement.{statement}

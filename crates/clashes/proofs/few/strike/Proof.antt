@@ -4,7 +4,7 @@ use Prim.Native.Nat.{ℕ, _+_, _*_}
 use borrow.Author.Needs.{needs}
 use lib.ListN.{getD}
 use Rattle.layout.specs.Records.{permitAt}
-use Rattle.sets.specs.Members.{wordsHave}
+use Rattle.words.specs.Members.{wordsHave}
 use Rattle.clashes.specs.Beside.{serves}
 use Rattle.clashes.proofs.BesideLaws.{anybody-struck, taker-struck, giver-struck}
 use Rattle.clashes.proofs.few.strike.Statement.{statement}

@@ -7,7 +7,7 @@ use native.Mathlib.Omega.{arith}
 use borrow.Author.Needs.{needs}
 use lib.ListN.{length}
 use Rattle.layout.specs.Records.{permitAt}
-use Rattle.sets.specs.Members.{wordsHave}
+use Rattle.words.specs.Members.{wordsHave}
 use Rattle.clashes.specs.Permits.{anyOf}
 use Rattle.clashes.specs.Beside.{beside}
 use Rattle.clashes.proofs.PlaceLaws.{left-none, left-next}

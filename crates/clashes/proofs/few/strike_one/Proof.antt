@@ -4,7 +4,7 @@ use mathlib.Core.Bool.{not, and-comm}
 use borrow.Author.Needs.{needs}
 use lib.Dec.{eqb}
 use Rattle.rules.proofs.BaseLaws.{eqb-sym}
-use Rattle.sets.specs.Members.{wordsHave}
+use Rattle.words.specs.Members.{wordsHave}
 use Rattle.clashes.proofs.BesideLaws.{strike-passed, nothing-struck}
 use Rattle.clashes.proofs.few.strike_one.Statement.{statement}
 use Rattle.clashes.proofs.few.strike_one.Tie as tie

@@ -1,6 +1,6 @@
 -- `clashes::few::strike_set` meets its contract: without the set's members where the test passed, as they were where it failed. Assumes nothing.
 use borrow.Author.Needs.{needs}
-use Rattle.sets.specs.Members.{wordsHave}
+use Rattle.words.specs.Members.{wordsHave}
 use Rattle.clashes.proofs.BesideLaws.{strike-passed, nothing-struck}
 use Rattle.clashes.proofs.few.strike_set.Statement.{statement}
 use Rattle.clashes.proofs.few.strike_set.Tie as tie

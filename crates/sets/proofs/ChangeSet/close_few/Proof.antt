@@ -6,11 +6,12 @@ use borrow.Author.Needs.{needs}
 use lib.ListN.{length}
 use Rattle.rules.specs.Base.{countBelow}
 use Rattle.layout.specs.Records.{tieAt}
-use Rattle.sets.specs.Members.{members, wordsHave}
+use Rattle.words.specs.Members.{wordsHave}
+use Rattle.passes.proofs.PassLaws.{Growing, growing-start}
+use Rattle.sets.specs.Members.{members}
 use Rattle.sets.proofs.MemberLaws.{members-all, agree-at}
 use Rattle.sets.proofs.Words.{ofWords}
-use Rattle.sets.proofs.PassLaws.{Growing, growing-start, growing-less}
-use Rattle.sets.proofs.ClosureLaws.{pass-keeps, pass-grows, closed-section}
+use Rattle.sets.proofs.ClosureLaws.{pass-less, pass-grows, closed-section}
 use Rattle.sets.proofs.ChangeSet.close_few.Statement.{statement}
 use Rattle.sets.proofs.ChangeSet.close_few.Tie as tie
 
@@ -43,8 +44,7 @@ less c =
     let l = c .before .before .before .before .before .before .before .loop in
     let t = c .before .before .before .before .before .pass in
     let low = c .before .before .before .before .before .before .before .before .before .low-kind .result in
-    growing-less low (tieAt (a .ties .now)) (a .count) 256 (wordsHave (l .words)) (wordsHave (t .last .0))
-    (pass-keeps low (a .ties .now) (a .count) (l .back) (wordsHave (l .words)) (wordsHave (t .last .0)) (t .ensures .1))
+    pass-less low (a .ties .now) (a .count) (l .back) (wordsHave (l .words)) (wordsHave (t .last .0)) (t .ensures .1)
     (c .before .before .before .before .equal .result) (c .before .before .before .before .equal .ensures) (c .before .before .before .if1 .left)
 
 again : (c : tie.After-is-empty Inv-loop μ-loop)

@@ -7,7 +7,8 @@ use mir.Val.{Fits}
 use mir.Syntax.{w64}
 use lib.ListN.{length, getD}
 use lib.Bits.{bitAnd}
-use Rattle.sets.proofs.Words.{join-words, word-minus}
+use Rattle.words.proofs.BitLaws.{word-minus}
+use Rattle.sets.proofs.Words.{join-words}
 use Rattle.sets.proofs.ChangeSet.minus.Statement.{statement}
 use Rattle.sets.proofs.ChangeSet.minus.Tie as tie
 

@@ -1,0 +1,2 @@
+-- What four words say as a set.
+pub mod Members
