@@ -6,8 +6,8 @@ use layout::Locks;
 use layout::Log;
 use layout::Permits;
 use layout::Ties;
+use pair_refusals::EVERY;
 use places::store_figure;
-use refusals::EVERY;
 use replies::Reply;
 use replies::done;
 use replies::refused;
@@ -125,7 +125,7 @@ pub fn delegate(w: &mut [u8], from: u32, to: u32, entry: u32) -> Reply
     requires { ⌜ soundBytes (now w) ≡ true ⌝ }
     ensures { λ r. ⌜ Gives (written (step limits (decode (now (w .entry))) (Delegate from to entry))) r (now (w .exit)) ⌝ }
 {
-    let code = refusals::delegate(w, from, to, entry);
+    let code = pair_refusals::delegate(w, from, to, entry);
     if code != 0 {
         return refused(code);
     }

@@ -1,4 +1,4 @@
--- `refusals::tie_returns` meets its contract: the numbers fit in bytes, and the section of ties is asked. Assumes nothing.
+-- `pair_refusals::tie_returns` meets its contract: the numbers fit in bytes, and the section of ties is asked. Assumes nothing.
 use mathlib.Core.Path.{sym}
 use native.Mathlib.Omega.{arith}
 use borrow.Author.Needs.{needs}
@@ -7,8 +7,8 @@ use Rattle.rules.proofs.SoundParts.{inside-of}
 use Rattle.layout.proofs.MemoryLaws.{bytes-sound}
 use Rattle.graph.proofs.WindowLaws.{sound-ends}
 use Rattle.reads.proofs.ReadLaws.{given-most, ties-known}
-use Rattle.refusals.proofs.tie_returns.Statement.{statement}
-use Rattle.refusals.proofs.tie_returns.Tie as tie
+use Rattle.pair_refusals.proofs.tie_returns.Statement.{statement}
+use Rattle.pair_refusals.proofs.tie_returns.Tie as tie
 
 cast-returns : tie.Need-cast-returns
 cast-returns c = let s = c .before .before .before in omega (arith, inside-of 1 3 _ (s .pre .1 .1 .0))

@@ -1,11 +1,11 @@
--- `refusals::permit_fits` meets its contract: the numbers fit in bytes, and the section of permits is asked. Assumes nothing.
+-- `pair_refusals::permit_fits` meets its contract: the numbers fit in bytes, and the section of permits is asked. Assumes nothing.
 use mathlib.Core.Path.{sym}
 use native.Mathlib.Omega.{arith}
 use borrow.Author.Needs.{needs}
 use Rattle.layout.proofs.MemoryLaws.{bytes-sound}
 use Rattle.reads.proofs.ReadLaws.{given-most, entries-most, permits-known}
-use Rattle.refusals.proofs.permit_fits.Statement.{statement}
-use Rattle.refusals.proofs.permit_fits.Tie as tie
+use Rattle.pair_refusals.proofs.permit_fits.Statement.{statement}
+use Rattle.pair_refusals.proofs.permit_fits.Tie as tie
 
 cast-fits : tie.Need-cast-fits
 cast-fits c = let s = c .before .before .before in omega (arith, given-most _ (bytes-sound (s .args .w .now) (s .pre .1 .0)))

@@ -1,13 +1,14 @@
--- `refusals::depend` meets its contract: each return has the checks before it passed, and its own failed. Assumes nothing.
+-- `pair_refusals::depend` meets its contract: each return has the checks before it passed, and its own failed. Assumes nothing.
 use mathlib.Core.Path.{refl}
 use Rattle.rules.specs.Window.{limits}
 use Rattle.rules.specs.Calls.{Depend}
 use Rattle.rules.specs.Refusals.{_if_, checks}
 use Rattle.layout.specs.Codec.{decode}
 use borrow.Author.Needs.{needs}
-use Rattle.refusals.proofs.RefusalLaws.{all-passed, fails, passes, stopped, depend-numbers, depend-rest, neither, returning, not-returning, no-room, has-room}
-use Rattle.refusals.proofs.depend.Statement.{statement}
-use Rattle.refusals.proofs.depend.Tie as tie
+use Rattle.refusals.proofs.RefusalLaws.{all-passed, fails, passes}
+use Rattle.pair_refusals.proofs.PairLaws.{stopped, depend-numbers, depend-rest, neither, returning, not-returning, no-room, has-room}
+use Rattle.pair_refusals.proofs.depend.Statement.{statement}
+use Rattle.pair_refusals.proofs.depend.Tie as tie
 
 tie-returns-requires : tie.Need-tie-returns-requires
 tie-returns-requires c κs =

@@ -1,10 +1,10 @@
--- `refusals::permit_numbers` meets its contract: each return has the checks before it passed, and its own failed. Assumes nothing.
+-- `pair_refusals::permit_numbers` meets its contract: each return has the checks before it passed, and its own failed. Assumes nothing.
 use mathlib.Core.Path.{refl}
 use Rattle.rules.specs.Refusals.{_if_, checks}
 use borrow.Author.Needs.{needs}
 use Rattle.refusals.proofs.RefusalLaws.{all-passed, fails, passes, first, below, not-below, same, other}
-use Rattle.refusals.proofs.permit_numbers.Statement.{statement}
-use Rattle.refusals.proofs.permit_numbers.Tie as tie
+use Rattle.pair_refusals.proofs.permit_numbers.Statement.{statement}
+use Rattle.pair_refusals.proofs.permit_numbers.Tie as tie
 
 returns : tie.Need-returns
 unfolding checks _if_

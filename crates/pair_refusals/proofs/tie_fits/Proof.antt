@@ -1,12 +1,12 @@
--- `refusals::tie_fits` meets its contract: the numbers fit in bytes, and the section of ties is asked. Assumes nothing.
+-- `pair_refusals::tie_fits` meets its contract: the numbers fit in bytes, and the section of ties is asked. Assumes nothing.
 use mathlib.Core.Path.{sym}
 use native.Mathlib.Omega.{arith}
 use borrow.Author.Needs.{needs}
 use Rattle.rules.proofs.SoundParts.{inside-of}
 use Rattle.layout.proofs.MemoryLaws.{bytes-sound}
 use Rattle.reads.proofs.ReadLaws.{given-most, ties-known}
-use Rattle.refusals.proofs.tie_fits.Statement.{statement}
-use Rattle.refusals.proofs.tie_fits.Tie as tie
+use Rattle.pair_refusals.proofs.tie_fits.Statement.{statement}
+use Rattle.pair_refusals.proofs.tie_fits.Tie as tie
 
 cast-fits : tie.Need-cast-fits
 cast-fits c = let s = c .before .before .before in omega (arith, inside-of 1 3 _ (s .pre .1 .1 .0))

@@ -1,10 +1,11 @@
--- `refusals::delegate` meets its contract: each return has the checks before it passed, and its own failed. Assumes nothing.
+-- `pair_refusals::delegate` meets its contract: each return has the checks before it passed, and its own failed. Assumes nothing.
 use mathlib.Core.Path.{refl}
 use Rattle.rules.specs.Refusals.{_if_, checks}
 use borrow.Author.Needs.{needs}
-use Rattle.refusals.proofs.RefusalLaws.{all-passed, fails, passes, first, same, other, unless-every, neither}
-use Rattle.refusals.proofs.delegate.Statement.{statement}
-use Rattle.refusals.proofs.delegate.Tie as tie
+use Rattle.refusals.proofs.RefusalLaws.{all-passed, fails, passes, first, same, other}
+use Rattle.pair_refusals.proofs.PairLaws.{unless-every, neither}
+use Rattle.pair_refusals.proofs.delegate.Statement.{statement}
+use Rattle.pair_refusals.proofs.delegate.Tie as tie
 
 returns : tie.Need-returns
 unfolding checks _if_

@@ -1,4 +1,4 @@
--- `refusals::permit` meets its contract: each return has the checks before it passed, and its own failed. Assumes nothing.
+-- `pair_refusals::permit` meets its contract: each return has the checks before it passed, and its own failed. Assumes nothing.
 use mathlib.Core.Path.{refl, ap}
 use mathlib.Core.Bool.{not}
 use Rattle.rules.specs.Window.{limits}
@@ -6,9 +6,10 @@ use Rattle.rules.specs.Calls.{Permit}
 use Rattle.rules.specs.Refusals.{_if_, checks}
 use Rattle.layout.specs.Codec.{decode}
 use borrow.Author.Needs.{needs}
-use Rattle.refusals.proofs.RefusalLaws.{all-passed, fails, passes, stopped, permit-numbers, permit-rest, unless-none, no-room, has-room}
-use Rattle.refusals.proofs.permit.Statement.{statement}
-use Rattle.refusals.proofs.permit.Tie as tie
+use Rattle.refusals.proofs.RefusalLaws.{all-passed, fails, passes, unless-none}
+use Rattle.pair_refusals.proofs.PairLaws.{stopped, permit-numbers, permit-rest, no-room, has-room}
+use Rattle.pair_refusals.proofs.permit.Statement.{statement}
+use Rattle.pair_refusals.proofs.permit.Tie as tie
 
 permit-fits-requires : tie.Need-permit-fits-requires
 permit-fits-requires c κs =
