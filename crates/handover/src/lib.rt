@@ -25,7 +25,7 @@ ghost use Rattle.layout.specs.Memory.{soundBytes};
 ghost use Rattle.sets.specs.Entries.{onEntries};
 ghost use Rattle.locks.specs.Held.{Modes, NoneFrom};
 ghost use Rattle.replies.specs.Gives.{Gives, written};
-ghost use Rattle.clashes.specs.Holds.{Holds};
+ghost use Rattle.clashes.specs.LocksAndPermits.{LocksAndPermits};
 ghost use Rattle.handover.specs.Delegated.{tablesSize, tablesOf, AreTables};
 
 // The bytes of the locks and of the permits, which lie side by side.
@@ -70,7 +70,7 @@ fn permitted(w: &[u8], tables: &[u8], count: usize) -> bool
     requires { ⌜ length (now w) ≡ windowSize ⌝ }
     requires { ⌜ soundBytes (now w) ≡ true ⌝ }
     requires { ⌜ (length (now tables) ≡ tablesSize) × (count ≤ 1024) ⌝ }
-    ensures { λ r. ⌜ ((W : Window) → Holds (take locksSize (now (tables .entry))) (take permitsSize (drop locksSize (now (tables .entry)))) (decode (now (w .entry)) .entries) count W → r ≡ clashesPermitted W) ⌝ }
+    ensures { λ r. ⌜ ((W : Window) → LocksAndPermits (take locksSize (now (tables .entry))) (take permitsSize (drop locksSize (now (tables .entry)))) (decode (now (w .entry)) .entries) count W → r ≡ clashesPermitted W) ⌝ }
 {
     let entries = reads::entries(w);
     clashes::all_permitted(
