@@ -9,6 +9,7 @@ use native.Mathlib.Omega.{arith}
 use lib.Dec.{ltb, eqb}
 use lib.ListN.{length, getD}
 use Rattle.rules.specs.Base.{allBelow, anyBelow, any, rising}
+use Rattle.rules.specs.Sets.{Set}
 use Rattle.rules.specs.Window.{PermitRecord, Window, permitKey}
 use Rattle.rules.specs.Locks.{clash, contains, permitted, pairPermitted, clashesPermitted}
 use Rattle.rules.proofs.BaseLaws.{both-ways, and-both, and-left, and-right, any-intro, any-elim, allBelow-intro, allBelow-at, Same, same, other, same?, eqb-eq, eqb-same, eqb-other, ne-of, not-true, ltb-true, lt-of, le-of, gt-of}
@@ -16,14 +17,17 @@ use Rattle.rules.proofs.ListLaws.{any-at, any-place}
 use Rattle.layout.specs.Codec.{noPermit, lockSection, permitSection}
 use Rattle.layout.specs.Records.{permitAt}
 use Rattle.layout.proofs.ReadLaws.{permit-read}
-use Rattle.sets.proofs.BoundLaws.{any-or}
+use Rattle.sets.proofs.BoundLaws.{any-or, all-ext}
 use Rattle.locks.specs.Held.{Modes, inMode, holding}
 use Rattle.locks.proofs.RowLaws.{row-holders}
-use Rattle.clashes.specs.Holds.{Holds}
-use Rattle.clashes.specs.Permits.{permitFrom, anyOf, fromEntry, FirstOf}
-use Rattle.clashes.specs.Beside.{serves, beside, otherHolder, othersFit, entryFits, contested}
-use Rattle.clashes.proofs.PlaceLaws.{any-same, entries-rise}
-use Rattle.clashes.proofs.WriterLaws.{contested-none}
+use Rattle.beside.specs.Permits.{anyOf, FirstOf}
+use Rattle.beside.specs.Beside.{containsHeld, beside, otherHolder, othersFit, entryFits}
+use Rattle.beside.proofs.PlaceLaws.{any-same}
+use Rattle.clashes.specs.LocksAndPermits.{LocksAndPermits}
+use Rattle.clashes.specs.Permits.{permitFrom, fromEntry}
+use Rattle.clashes.specs.Contested.{contested}
+use Rattle.clashes.proofs.PlaceLaws.{entries-rise}
+use Rattle.clashes.proofs.ContestedLaws.{contested-none}
 
 -- THE PERMITS OF AN ENTRY
 -- a permit from g to t or to anybody that contains a mode
@@ -105,6 +109,16 @@ module _ (ps : List PermitRecord) (bs : List ℕ) (section : bs ≡ permitSectio
   unfolding grants permitted
   own-permitted g t m = own-any (grants g t m) ∙ ap (λ f. any f ps) (fun-ext (λ p. and-mid (eqb p.giver g) (eqb p.taker t || eqb p.taker 0) (eqb p.entry e) (contains p.ops m)))
 
+-- permits that say the same
+entry-same : (n : ℕ) (t t′ : ℕ → PermitRecord) (r x : Set) → ((j : ℕ) → j < n → t j ≡ t′ j) → entryFits n t r x ≡ entryFits n t′ r x
+unfolding entryFits othersFit
+entry-same n t t′ r x h = all-ext _ _ 256 (λ a ha. ap (λ w. not (x a) || w) (all-ext _ _ 256 (λ b hb. ap (λ w. not (otherHolder r x a b) || w) (any-same n t t′ _ _ (λ j l. ap (beside r x a b) (h j l))))))
+
+-- what the code finds of an entry: r′ and x′ are its readers and writers in code, t its permits there
+pub entry-found : (n : ℕ) (t t′ : ℕ → PermitRecord) (r x r′ x′ : Set) (found : Bool) → ((j : ℕ) → j < n → t j ≡ t′ j) → ((k : ℕ) → r′ k ≡ r k) → ((k : ℕ) → x′ k ≡ x k)
+    → found ≡ entryFits n t r′ x′ → found ≡ entryFits n t′ r x
+entry-found n t t′ r x r′ x′ found ht hr hx e = e ∙ ap₂ (entryFits n t) (fun-ext hr) (fun-ext hx) ∙ entry-same n t t′ r x ht
+
 -- CLASHING PAIRS
 -- the rules, entry by entry
 unfoldable pub entryPermitted : Window → ℕ → Bool
@@ -133,12 +147,12 @@ unfolding clash
 clash-write k h = rw (ltb-true 0 k h)
 
 -- operations contain a mode that is held
-serves-mode : (o m : ℕ) → 0 < m → m ≤ 2 → serves o (eqb m 1) (eqb m 2) ≡ contains o m
-unfolding serves
-serves-mode o zero h l = absurd (omega arith)
-serves-mode o (suc zero) h l = or-false (contains o 1)
-serves-mode o (suc (suc zero)) h l = refl
-serves-mode o (suc (suc (suc m))) h l = absurd (omega arith)
+contains-mode : (o m : ℕ) → 0 < m → m ≤ 2 → containsHeld o (eqb m 1) (eqb m 2) ≡ contains o m
+unfolding containsHeld
+contains-mode o zero h l = absurd (omega arith)
+contains-mode o (suc zero) h l = or-false (contains o 1)
+contains-mode o (suc (suc zero)) h l = refl
+contains-mode o (suc (suc (suc m))) h l = absurd (omega arith)
 
 clear : (x n u v : Bool) → x ≡ false → n ≡ false → x || n || u || v ≡ true → u || v ≡ true
 clear x n u v p q e = rw (p, q) at e
@@ -196,7 +210,7 @@ module _ (W : Window) (modes : Modes W.held) (given : W.given < 256) (none-above
     beside-between : (a b : ℕ) → b < 256 → 0 < row b → anyOf n t (beside (inMode 1 row) (inMode 2 row) a b) ≡ Between a b
     unfolding anyOf beside grants
     beside-between a b hb h =
-        any-same n t t (beside (inMode 1 row) (inMode 2 row) a b) (λ p. grants a b (row b) p || grants b a 2 p) (λ j l. rw (mode-set 1 b hb, mode-set 2 b hb, serves-mode (t j .ops) (row b) h (row-most b)))
+        any-same n t t (beside (inMode 1 row) (inMode 2 row) a b) (λ p. grants a b (row b) p || grants b a 2 p) (λ j l. rw (mode-set 1 b hb, mode-set 2 b hb, contains-mode (t j .ops) (row b) h (row-most b)))
         ∙ any-or n (λ j. grants a b (row b) (t j)) (λ j. grants b a 2 (t j)) ∙ ap₂ _||_ (own a b (row b)) (own b a 2)
 
     below-given : (c : ℕ) → 0 < row c → c < suc W.given
@@ -226,7 +240,7 @@ module _ (W : Window) (modes : Modes W.held) (given : W.given < 256) (none-above
         (λ f. allBelow-intro 256 _ (λ a ha. unless-not (inMode 2 row a) _ (λ xa. allBelow-intro 256 _ (λ b hb. unless-not (otherHolder (inMode 1 row) (inMode 2 row) a b) _ (found-beside f a b ha hb xa)))))
 
 -- A TURN OF THE WALK OVER THE ENTRIES
-module _ (locks permits : List ℕ) (entries count : ℕ) (W : Window) (h : Holds locks permits entries count W) (e : ℕ) (r : Bool) where
+module _ (locks permits : List ℕ) (entries count : ℕ) (W : Window) (h : LocksAndPermits locks permits entries count W) (e : ℕ) (r : Bool) where
   -- an entry that is passed over
   pub turn-quiet : ((held : ℕ → ℕ → ℕ) → locks ≡ lockSection held → r ≡ contested (inMode 1 (held e)) (inMode 2 (held e))) → r ≡ false → entryPermitted W e ≡ true
   turn-quiet found q = quiet-permitted W (h .modes) (h .given) (h .none-above) e (sym (found (W .held) (h .lock-bytes)) ∙ q)

@@ -1,8 +1,7 @@
--- What is proved of clashing pairs and their permits. Other crates cite a file X here as Rattle.clashes.proofs.X.
+-- What is proved of clashing pairs and their permits.
 -- permits by their places
 pub mod PlaceLaws
--- one entry: permits beside a writer, and its writers one after the other
-pub mod BesideLaws
-pub mod WriterLaws
+-- one entry: whether a writer has another holder beside it
+pub mod ContestedLaws
 -- what the code finds is what the rules say
 pub mod ClashLaws

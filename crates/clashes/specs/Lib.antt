@@ -1,4 +1,4 @@
 -- Clashing pairs and their permits: what the functions' contracts say.
-pub mod Holds
+pub mod LocksAndPermits
 pub mod Permits
-pub mod Beside
+pub mod Contested

@@ -1,13 +1,10 @@
 // Whether each clashing pair of locks has a permit, in the lent sections of locks and of permits.
 // A clashing pair has a writer in it: each writer of an entry is held against the entry's other holders.
-mod few;
-mod many;
-
-use few::few_permitted;
+use few_permits::few_permitted;
 use layout::Locks;
 use layout::Permits;
-use many::givers_to_anybody;
-use many::writers_permitted;
+use many_permits::BLOCK;
+use many_permits::many_permitted;
 ghost use mathlib.Core.Path.{_≡_};
 ghost use Prim.Native.Nat.{ℕ, _+_, _-_, _*_, _≤_};
 ghost use lib.ListN.{length};
@@ -17,12 +14,11 @@ ghost use Rattle.rules.specs.Locks.{clashesPermitted};
 ghost use Rattle.layout.specs.Codec.{locksSize, permitsSize, lockSection};
 ghost use Rattle.sets.specs.Members.{loaded};
 ghost use Rattle.locks.specs.Held.{inMode};
-ghost use Rattle.clashes.specs.Holds.{Holds};
-ghost use Rattle.clashes.specs.Permits.{permitFrom, FirstOf, fromEntry};
-ghost use Rattle.clashes.specs.Beside.{serves, entryFits, contested};
-
-// The permits that are passed over at once. An entry with fewer has each looked at.
-const BLOCK: usize = 16;
+ghost use Rattle.beside.specs.Permits.{FirstOf};
+ghost use Rattle.beside.specs.Beside.{entryFits};
+ghost use Rattle.clashes.specs.LocksAndPermits.{LocksAndPermits};
+ghost use Rattle.clashes.specs.Permits.{permitFrom, fromEntry};
+ghost use Rattle.clashes.specs.Contested.{contested};
 
 // Whether the set in the 32 bytes at a place has a member. No early way out: the or of the bytes.
 fn any_held(locks: &[u8], at: usize) -> bool
@@ -69,14 +65,6 @@ fn first_from(permits: &[u8], count: usize, start: usize, entry: usize) -> usize
     j
 }
 
-// Whether operations contain the mode of one that reads or writes.
-fn serves(operations: u8, reads: bool, writes: bool) -> bool
-    ensures { λ r. ⌜ r ≡ serves operations reads writes ⌝ }
-{
-    let both = operations == 3;
-    (reads & ((operations == 1) | both)) | (writes & ((operations == 2) | both))
-}
-
 // Whether each clashing pair of an entry has a permit among those from a place on, up to another.
 fn entry_permitted(locks: &[u8], entry: u8, permits: &[u8], from: usize, to: usize) -> bool
     requires { ⌜ 4 * to ≤ length (now permits) ⌝ }
@@ -92,9 +80,7 @@ fn entry_permitted(locks: &[u8], entry: u8, permits: &[u8], from: usize, to: usi
     if count < BLOCK {
         return few_permitted(own, count, readers, writers);
     }
-    let reading = givers_to_anybody(own, count, 1);
-    let writing = givers_to_anybody(own, count, 2);
-    writers_permitted(own, count, readers, writers, reading, writing)
+    many_permitted(own, count, readers, writers)
 }
 
 // Whether each clashing pair of locks has a permit from one of the two to the other, or to anybody, that contains the taker's held mode.
@@ -103,7 +89,7 @@ pub fn all_permitted(locks: &[u8], entries: usize, permits: &[u8], count: usize)
     requires { ⌜ length (now permits) ≡ permitsSize ⌝ }
     requires { ⌜ entries ≤ 256 ⌝ }
     requires { ⌜ count ≤ 1024 ⌝ }
-    ensures { λ r. ⌜ ((W : Window) → Holds (now (locks .entry)) (now (permits .entry)) entries count W → r ≡ clashesPermitted W) ⌝ }
+    ensures { λ r. ⌜ ((W : Window) → LocksAndPermits (now (locks .entry)) (now (permits .entry)) entries count W → r ≡ clashesPermitted W) ⌝ }
 {
     let mut entry: usize = 0;
     let mut next: usize = 0;

@@ -24,7 +24,7 @@ use Rattle.replies.specs.declared.Reply.{Reply}
 use Rattle.replies.specs.Gives.{Gives, written}
 use Rattle.replies.proofs.GiveLaws.{turned-back, let-through}
 use Rattle.reads.proofs.ReadLaws.{change-fits, entry-fits}
-use Rattle.refusals.proofs.RefusalLaws.{stopped, went-on, delegate-passed}
+use Rattle.pair_refusals.proofs.PairLaws.{stopped, went-on, delegate-passed}
 
 module _ (W : Window) (f t e : ℕ) (none : firstFailed (take 5 (checks limits W (Delegate f t e))) ≡ 0) where
   -- WHAT IS LEFT is the last check

@@ -23,7 +23,7 @@ use Rattle.cells.proofs.PartLaws.{length-part}
 use Rattle.locks.specs.Held.{Modes}
 use Rattle.permits.proofs.HandLaws.{copied}
 use Rattle.reads.proofs.ReadLaws.{locks-known}
-use Rattle.clashes.specs.Holds.{Holds}
+use Rattle.clashes.specs.LocksAndPermits.{LocksAndPermits}
 use Rattle.handover.specs.Delegated.{tablesSize, tablesOf, AreTables}
 use Rattle.handover.proofs.TableLaws.{locks-cut, permits-cut}
 
@@ -48,7 +48,7 @@ module _ (W : Window) (from to : ℕ) (on : Set) (k : Sound limits W) (lives : l
   unfolding handOver live
   handed-helds = hand-held limits W from to on k lives
 
-  pub handed-tables : (n : ℕ) (ts : List ℕ) → AreTables (handOver W from to on) n ts → Holds (take locksSize ts) (take permitsSize (drop locksSize ts)) W.entries n (handOver W from to on)
+  pub handed-tables : (n : ℕ) (ts : List ℕ) → AreTables (handOver W from to on) n ts → LocksAndPermits (take locksSize ts) (take permitsSize (drop locksSize ts)) W.entries n (handOver W from to on)
   unfolding handOver limits Modes
   handed-tables n ts h = record {
     lock-bytes = ap (take locksSize) (h .table-bytes) ∙ locks-cut (handOver W from to on);
@@ -62,5 +62,5 @@ module _ (W : Window) (from to : ℕ) (on : Set) (k : Sound limits W) (lives : l
   }
 
 -- with the number of entries as it was read
-pub with-entries : {locks permits : List ℕ} {n m count : ℕ} {W : Window} → Holds locks permits n count W → m ≡ n → Holds locks permits m count W
+pub with-entries : {locks permits : List ℕ} {n m count : ℕ} {W : Window} → LocksAndPermits locks permits n count W → m ≡ n → LocksAndPermits locks permits m count W
 with-entries h e = rw e h

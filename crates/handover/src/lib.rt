@@ -6,8 +6,8 @@ use layout::Locks;
 use layout::Log;
 use layout::Permits;
 use layout::Ties;
+use pair_refusals::EVERY;
 use places::store_figure;
-use refusals::EVERY;
 use replies::Reply;
 use replies::done;
 use replies::refused;
@@ -25,7 +25,7 @@ ghost use Rattle.layout.specs.Memory.{soundBytes};
 ghost use Rattle.sets.specs.Entries.{onEntries};
 ghost use Rattle.locks.specs.Held.{Modes, NoneFrom};
 ghost use Rattle.replies.specs.Gives.{Gives, written};
-ghost use Rattle.clashes.specs.Holds.{Holds};
+ghost use Rattle.clashes.specs.LocksAndPermits.{LocksAndPermits};
 ghost use Rattle.handover.specs.Delegated.{tablesSize, tablesOf, AreTables};
 
 // The bytes of the locks and of the permits, which lie side by side.
@@ -70,7 +70,7 @@ fn permitted(w: &[u8], tables: &[u8], count: usize) -> bool
     requires { ⌜ length (now w) ≡ windowSize ⌝ }
     requires { ⌜ soundBytes (now w) ≡ true ⌝ }
     requires { ⌜ (length (now tables) ≡ tablesSize) × (count ≤ 1024) ⌝ }
-    ensures { λ r. ⌜ ((W : Window) → Holds (take locksSize (now (tables .entry))) (take permitsSize (drop locksSize (now (tables .entry)))) (decode (now (w .entry)) .entries) count W → r ≡ clashesPermitted W) ⌝ }
+    ensures { λ r. ⌜ ((W : Window) → LocksAndPermits (take locksSize (now (tables .entry))) (take permitsSize (drop locksSize (now (tables .entry)))) (decode (now (w .entry)) .entries) count W → r ≡ clashesPermitted W) ⌝ }
 {
     let entries = reads::entries(w);
     clashes::all_permitted(
@@ -125,7 +125,7 @@ pub fn delegate(w: &mut [u8], from: u32, to: u32, entry: u32) -> Reply
     requires { ⌜ soundBytes (now w) ≡ true ⌝ }
     ensures { λ r. ⌜ Gives (written (step limits (decode (now (w .entry))) (Delegate from to entry))) r (now (w .exit)) ⌝ }
 {
-    let code = refusals::delegate(w, from, to, entry);
+    let code = pair_refusals::delegate(w, from, to, entry);
     if code != 0 {
         return refused(code);
     }

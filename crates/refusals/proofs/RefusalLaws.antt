@@ -1,20 +1,15 @@
 -- The first refusal of a list of checks, from the tests of the code. Assumes nothing.
 use mathlib.Core.Path.{_≡_, refl, sym, _∙_}
 use mathlib.Core.Logic.{_≢_}
-use mathlib.Core.Bool.{Bool, true, false, not, cond, _&&_, _||_}
+use mathlib.Core.Bool.{Bool, true, false, not, _||_}
 use mathlib.Core.List.{List, [], _∷_}
-use Prim.Native.Nat.{ℕ, zero, suc, _≤_, _<_}
+use Prim.Native.Nat.{ℕ, suc, _≤_, _<_}
 use native.Mathlib.Omega.{arith}
 use lib.Dec.{ltb, eqb}
-use lib.ListN.{take, drop}
-use Rattle.rules.specs.Base.{exceeds, outside, all}
-use Rattle.rules.specs.Window.{limits, Window, noChange, noEntry}
-use Rattle.rules.specs.Ties.{makeTie, addTie, acyclic}
-use Rattle.rules.specs.Calls.{Permit, Delegate, Depend}
-use Rattle.rules.specs.Effects.{every}
+use Rattle.rules.specs.Base.{exceeds}
+use Rattle.rules.specs.Window.{Window, noChange}
 use Rattle.rules.specs.Refusals.{Check, _if_, checks, firstFailed}
-use Rattle.rules.proofs.BaseLaws.{eqb-same, eqb-other, ltb-true, ltb-false, ge-of, gt-of, over-false, within-of, no-true, not-true, not-false, or-false-right}
-use Rattle.rules.proofs.SoundStep.{Passed, passed}
+use Rattle.rules.proofs.BaseLaws.{eqb-same, eqb-other, ltb-true, ltb-false, over-false, within-of, no-true, not-false}
 use Rattle.refusals.specs.Shared.{ChangeRefusal}
 
 -- checks made in order give a number: t is the code's test
@@ -59,86 +54,3 @@ module _ {x y : ℕ} (e : x ≡ y) (n : ℕ) where
 -- a test of a change x that may be 0
 pub unless-none : (x : ℕ) {t b : Bool} → t ≡ b → not (eqb x 0 || t) ≡ not (eqb x 0 || b)
 unless-none x e = rw e
-
--- of an entry x that may be every entry
-pub unless-every : (x : ℕ) {t b : Bool} → t ≡ b → not (eqb x 65535) && t ≡ not (eqb x every) && b
-unfolding every
-unless-every x e = rw e
-
--- a test of two changes
-pub neither : {t b u d : Bool} → t ≡ b → u ≡ d → not (t && u) ≡ not (b && d)
-neither e q = rw (e, q)
-
--- whether there is room, as it is asked
-module _ {t b : Bool} (e : t ≡ not b) where
-  pub no-room : not t ≡ true → b ≡ true
-  no-room h = not-false b (sym e ∙ not-true t h)
-
-  pub has-room : not t ≡ false → b ≡ false
-  has-room h = not-true b (sym e ∙ not-false t h)
-
--- THE FIRST n CHECKS OF A LIST
--- one of them fails
-pub stopped : (n : ℕ) (l : List Check) (r : ℕ) → r ≡ firstFailed (take n l) → r ≢ 0 → r ≡ firstFailed l
-unfolding firstFailed
-stopped zero l r e h = absurd (h e)
-stopped (suc n) [] r e h = e
-stopped (suc n) (k ∷ l) r e h = go (k .fails) e (λ q. stopped n l r q h)
-  where
-    go : (b : Bool) → r ≡ cond b k.code (firstFailed (take n l)) → (r ≡ firstFailed (take n l) → r ≡ firstFailed l) → r ≡ cond b k.code (firstFailed l)
-    go true q f = q
-    go false q f = f q
-
--- none does, and the others decide
-pub went-on : (n : ℕ) (l : List Check) (r : ℕ) → Passed (take n l) → r ≡ firstFailed (drop n l) → r ≡ firstFailed l
-unfolding firstFailed
-went-on zero l r p q = q
-went-on (suc n) [] r p q = q
-went-on (suc n) (k ∷ l) r p q = rw (p .0) (went-on n l r (p .1) q)
-
--- PERMIT, DELEGATE AND DEPEND
--- a change that there is
-numbered : (W : Window) (c : ℕ) → noChange W c ≡ false → c ≤ W .given
-unfolding noChange
-numbered W c h = ge-of (W .given) c (or-false-right (eqb c 0) (ltb W.given c) h)
-
--- no number of a permit is refused
-module _ (W : Window) (g t e o r : ℕ) (q : r ≡ firstFailed (take 5 (checks limits W (Permit g t e o)))) (z : r ≡ 0) where
-  permit-passed : Passed (take 5 (checks limits W (Permit g t e o)))
-  unfolding checks all _if_
-  permit-passed = passed (take 5 (checks limits W (Permit g t e o))) refl (sym q ∙ z)
-
-  pub permit-numbers : (g ≤ W .given) × (t ≤ W .given) × (e < W .entries)
-  unfolding checks _if_ noEntry
-  permit-numbers = let p = permit-passed in (numbered W g (p .0), ge-of (W .given) t (p .1 .0), gt-of (W .entries) e (p .1 .1 .0))
-
-  pub permit-rest : {s : ℕ} → Checked (drop 5 (checks limits W (Permit g t e o))) s → s ≡ firstFailed (checks limits W (Permit g t e o))
-  permit-rest k = went-on 5 (checks limits W (Permit g t e o)) _ permit-passed (first k)
-
--- no check of a delegate before the last fails
-pub delegate-passed : (W : Window) (f t e : ℕ) → firstFailed (take 5 (checks limits W (Delegate f t e))) ≡ 0 → Passed (take 5 (checks limits W (Delegate f t e)))
-unfolding checks all _if_
-delegate-passed W f t e z = passed (take 5 (checks limits W (Delegate f t e))) refl z
-
--- no number of a tie is
-module _ (W : Window) (k l f r : ℕ) (q : r ≡ firstFailed (take 4 (checks limits W (Depend k l f)))) (z : r ≡ 0) where
-  depend-passed : Passed (take 4 (checks limits W (Depend k l f)))
-  unfolding checks all _if_
-  depend-passed = passed (take 4 (checks limits W (Depend k l f))) refl (sym q ∙ z)
-
-  pub depend-numbers : (outside 1 3 k ≡ false) × (l ≤ W .given) × (f ≤ W .given)
-  unfolding checks _if_
-  depend-numbers = let p = depend-passed in (p .1 .1 .0, numbered W l (p .0), numbered W f (p .1 .0))
-
-  pub depend-rest : {s : ℕ} → Checked (drop 4 (checks limits W (Depend k l f))) s → s ≡ firstFailed (checks limits W (Depend k l f))
-  depend-rest m = went-on 4 (checks limits W (Depend k l f)) _ depend-passed (first m)
-
--- whether the tie returns
-module _ (W : Window) (k l f : ℕ) (t : Bool) (e : t ≡ not (acyclic (suc W.given) (addTie (makeTie k l f) W.ties))) where
-  pub returning : t ≡ true → Checked (drop 5 (checks limits W (Depend k l f))) 9
-  unfolding checks _if_
-  returning h = fails e h
-
-  pub not-returning : t ≡ false → {r : ℕ} → Checked (drop 6 (checks limits W (Depend k l f))) r → Checked (drop 5 (checks limits W (Depend k l f))) r
-  unfolding checks _if_
-  not-returning h q = passes e h q

@@ -11,7 +11,7 @@ use Rattle.layout.specs.Codec.{valuesAt, valuesSize, lineAt, lineSize, locksAt,
 use Rattle.layout.specs.Records.{endsBelow}
 use Rattle.cells.specs.Part.{part}
 use Rattle.sections.specs.Sections.{ValuesSound, LocksSound, LogSound, PermitsSound, TiesSound}
-use Rattle.clashes.specs.Holds.{Holds}
+use Rattle.clashes.specs.LocksAndPermits.{LocksAndPermits}
 
 -- the live changes, by the highest given and the statuses
 unfoldable pub lives : ℕ → (ℕ → ℕ) → Set
@@ -31,7 +31,7 @@ pub record BackSound (bs : List ℕ) (entries permitted tied written : ℕ) (liv
 
 -- a window whose locks, permits and ties are in the bytes, in range and in order
 pub record Listed (bs : List ℕ) (entries permitted tied : ℕ) (W : Window) : Type 0 where
-  pub held : Holds (part bs locksAt locksSize) (part bs permitsAt permitsSize) entries permitted W
+  pub held : LocksAndPermits (part bs locksAt locksSize) (part bs permitsAt permitsSize) entries permitted W
   pub tie-bytes : part bs tiesAt tiesSize ≡ tieSection (W .ties)
   pub tie-count : length (W .ties) ≡ tied
   pub ends : endsBelow (suc (W .given)) (W .ties) ≡ true

@@ -96,7 +96,7 @@ pub fn permit(w: &mut [u8], giver: u32, taker: u32, entry: u32, operations: u32)
     requires { ⌜ soundBytes (now w) ≡ true ⌝ }
     ensures { λ r. ⌜ Gives (written (step limits (decode (now (w .entry))) (Permit giver taker entry operations))) r (now (w .exit)) ⌝ }
 {
-    let code = refusals::permit(w, giver, taker, entry, operations);
+    let code = pair_refusals::permit(w, giver, taker, entry, operations);
     if code != 0 {
         return refused(code);
     }
@@ -109,7 +109,7 @@ pub fn depend(w: &mut [u8], kind: u32, leader: u32, follower: u32) -> Reply
     requires { ⌜ soundBytes (now w) ≡ true ⌝ }
     ensures { λ r. ⌜ Gives (written (step limits (decode (now (w .entry))) (Depend kind leader follower))) r (now (w .exit)) ⌝ }
 {
-    let code = refusals::depend(w, kind, leader, follower);
+    let code = pair_refusals::depend(w, kind, leader, follower);
     if code != 0 {
         return refused(code);
     }

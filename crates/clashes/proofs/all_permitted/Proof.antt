@@ -9,14 +9,14 @@ use Rattle.rules.specs.Base.{allBelow}
 use Rattle.rules.specs.Window.{Window}
 use Rattle.layout.specs.Records.{permitAt}
 use Rattle.sets.proofs.TurnLaws.{none-yet, turn-failed, turn-passed, turns-done}
-use Rattle.clashes.specs.Holds.{Holds}
+use Rattle.clashes.specs.LocksAndPermits.{LocksAndPermits}
 use Rattle.clashes.proofs.ClashLaws.{entryPermitted, by-entries, lower-last, turn-quiet, turn-found}
 use Rattle.clashes.proofs.all_permitted.Statement.{statement}
 use Rattle.clashes.proofs.all_permitted.Tie as tie
 
 abbrev Inv-loop : tie.InvT-loop
 Inv-loop locks entries permits count entry₀ next₀ entry next = (entry ≤ entries) × (next ≤ count) × ((j : ℕ) → j < next → permitAt permits j .entry < entry)
-    × ((W : Window) → Holds locks permits entries count W → allBelow entry (entryPermitted W) ≡ true)
+    × ((W : Window) → LocksAndPermits locks permits entries count W → allBelow entry (entryPermitted W) ≡ true)
 
 abbrev μ-loop : tie.MeasureT-loop
 μ-loop locks entries permits count entry₀ next₀ entry next = entries - entry

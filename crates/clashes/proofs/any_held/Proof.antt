@@ -7,7 +7,7 @@ use borrow.Author.Needs.{needs}
 use Rattle.rules.specs.Base.{anyBelow}
 use Rattle.sets.specs.Members.{loaded}
 use Rattle.sets.proofs.GatherLaws.{Gathered, gathered-none, gathered-all}
-use Rattle.clashes.proofs.WriterLaws.{loaded-more}
+use Rattle.clashes.proofs.ContestedLaws.{loaded-more}
 use Rattle.clashes.proofs.any_held.Statement.{statement}
 use Rattle.clashes.proofs.any_held.Tie as tie
 

@@ -6,7 +6,7 @@ use borrow.Author.Needs.{needs}
 use borrow.Author.Tests.{not-true, not-false}
 use Rattle.sets.specs.Members.{members}
 use Rattle.locks.specs.Held.{inMode}
-use Rattle.clashes.proofs.WriterLaws.{any-in-mode, modes-apart, contested-not, contested-reader, contested-writers}
+use Rattle.clashes.proofs.ContestedLaws.{any-in-mode, modes-apart, contested-not, contested-reader, contested-writers}
 use Rattle.clashes.proofs.contested.Statement.{statement}
 use Rattle.clashes.proofs.contested.Tie as tie
 

@@ -6,8 +6,8 @@ use borrow.Author.Tests.{lt-leb}
 use Rattle.rules.specs.Locks.{makePermit}
 use Rattle.rules.proofs.BaseLaws.{leb-true}
 use Rattle.layout.specs.Records.{permitAt}
+use Rattle.beside.proofs.PlaceLaws.{Skipped, skipped-none, skipped-more, first-found, first-nothing}
 use Rattle.clashes.specs.Permits.{fromEntry}
-use Rattle.clashes.proofs.PlaceLaws.{Skipped, skipped-none, skipped-more, first-found, first-nothing}
 use Rattle.clashes.proofs.first_from.Statement.{statement}
 use Rattle.clashes.proofs.first_from.Tie as tie
 

@@ -1,0 +1,38 @@
+-- Permits by their places: one of the first n passes, and the first that passes. Assumes nothing.
+use mathlib.Core.Path.{_≡_}
+use mathlib.Core.Bool.{Bool, true, false}
+use mathlib.Core.List.{List}
+use Prim.Native.Nat.{ℕ, _+_, _≤_, _<_}
+use native.Mathlib.Omega.{arith}
+use Rattle.rules.specs.Window.{PermitRecord}
+use Rattle.rules.proofs.BaseLaws.{Same, same, other, same?}
+use Rattle.layout.specs.Records.{permitAt}
+use Rattle.sets.proofs.BoundLaws.{any-ext}
+use Rattle.beside.specs.Permits.{anyOf, FirstOf}
+
+-- other permits, or another test, that say the same
+pub any-same : (n : ℕ) (t u : ℕ → PermitRecord) (p q : PermitRecord → Bool) → ((j : ℕ) → j < n → p (t j) ≡ q (u j)) → anyOf n t p ≡ anyOf n u q
+unfolding anyOf
+any-same n t u p q h = any-ext (λ j. p (t j)) (λ j. q (u j)) n h
+
+-- THE FIRST THAT PASSES
+module _ (p : PermitRecord → Bool) (bs : List ℕ) (count start : ℕ) where
+  -- passed over on the way
+  abbrev pub Skipped : ℕ → Type 0
+  Skipped j = (k : ℕ) → start ≤ k → k < j → p (permitAt bs k) ≡ false
+
+  pub skipped-none : Skipped start
+  skipped-none k h l = absurd (omega arith)
+
+  pub skipped-more : (j : ℕ) → Skipped j → p (permitAt bs j) ≡ false → Skipped (j + 1)
+  skipped-more j before e k h l = go (same? k j)
+    where
+      go : {b : Bool} → Same k j b → p (permitAt bs k) ≡ false
+      go (same q) = rw q e
+      go (other n) = before k h (omega arith)
+
+  pub first-found : (j : ℕ) → start ≤ j → j < count → Skipped j → p (permitAt bs j) ≡ true → FirstOf p bs count start j
+  first-found j h l before e = record { from = h; to = omega arith; skipped = before; found = λ _. e }
+
+  pub first-nothing : (j : ℕ) → start ≤ j → j ≡ count → Skipped j → FirstOf p bs count start j
+  first-nothing j h l before = record { from = h; to = omega arith; skipped = before; found = λ m. absurd (omega arith) }

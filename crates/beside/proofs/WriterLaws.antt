@@ -1,0 +1,63 @@
+-- The writers of an entry, one after the other, the lowest first. Assumes nothing.
+use mathlib.Core.Path.{_≡_, refl, sym, _∙_, ap}
+use mathlib.Core.Bool.{Bool, true, false, not, _&&_, _||_, Bool·not-not}
+use Prim.Native.Nat.{ℕ, _≤_, _<_}
+use native.Mathlib.Decide.{decLt}
+use native.Mathlib.Omega.{arith}
+use lib.Dec.{eqb}
+use Rattle.rules.specs.Base.{allBelow}
+use Rattle.rules.specs.Sets.{Set}
+use Rattle.rules.proofs.BaseLaws.{Same, same, other, same?, eqb-other, or-true, allBelow-intro, allBelow-at}
+use Rattle.sets.proofs.TurnLaws.{turn-failed, turns-done}
+use Rattle.sets.proofs.WalkLaws.{Lowest, lowest-rises}
+
+-- a test of every writer
+cell-none : (x q : Bool) → x ≡ false → not x || q ≡ true
+cell-none x q e = rw e
+
+cell-passed : (x q : Bool) → q ≡ true → not x || q ≡ true
+cell-passed x q e = rw (e, or-true)
+
+-- a walk over the writers x with the test q: `left` are those not yet looked at, a the lowest of them
+pub record Walked (x : Set) (q : ℕ → Bool) (left : Set) (a : ℕ) : Type 0 where
+  pub lowest : Lowest left a
+  -- from a on none has been looked at
+  pub later : (k : ℕ) → a ≤ k → left k ≡ x k
+  -- those below a have passed
+  pub passed : allBelow a (λ k. not (x k) || q k) ≡ true
+
+module _ (x : Set) (q : ℕ → Bool) where
+  pub walk-start : (a : ℕ) → Lowest x a → Walked x q x a
+  walk-start a l = record { lowest = l; later = λ k h. refl; passed = allBelow-intro a _ (λ k h. cell-none (x k) (q k) (l .before k h)) }
+
+  module _ (left : Set) (a : ℕ) (w : Walked x q left a) (ha : a < 256) where
+    -- the writer at hand fails
+    pub walk-failed : (r : Bool) → r ≡ q a → r ≡ false → false ≡ allBelow 256 (λ k. not (x k) || q k)
+    walk-failed r e f =
+        let fails : not (x a) || q a ≡ false = rw (sym (w .later a (omega arith)) ∙ w .lowest .hit ha) (sym e ∙ f) in
+        turn-failed 256 (λ k. not (x k) || q k) a _ ha refl (ap not fails)
+
+    -- it passes, and the walk goes on without it
+    module _ (left′ : Set) (a′ : ℕ) (without : (k : ℕ) → left′ k ≡ not (eqb k a) && left k) (next : Lowest left′ a′) where
+      kept : (k : ℕ) → a < k → left′ k ≡ x k
+      kept k h = without k ∙ rw (eqb-other k a (λ e. omega arith)) (w .later k (omega arith))
+
+      pub walk-rises : a < a′
+      walk-rises = lowest-rises left a (w .lowest) left′ without ha a′ next
+
+      pub walk-next : (r : Bool) → r ≡ q a → r ≡ true → Walked x q left′ a′
+      walk-next r e f = record { lowest = next; later = λ k h. kept k (omega (arith, walk-rises)); passed = allBelow-intro a′ _ (λ k h. go k h (decLt k a) (same? k a)) }
+        where
+          go : (k : ℕ) → k < a′ → Dec (k < a) → {b : Bool} → Same k a b → not (x k) || q k ≡ true
+          go k h (yes l) s = allBelow-at a _ (w .passed) k l
+          go k h (no l) (same p) = cell-passed (x k) (q k) (rw p (sym e ∙ f))
+          go k h (no l) (other n) = cell-none (x k) (q k) (sym (kept k (omega arith)) ∙ next .before k h)
+
+  -- no writer is left
+  pub walk-done : (left : Set) (a : ℕ) → Walked x q left a → 256 ≤ a → true ≡ allBelow 256 (λ k. not (x k) || q k)
+  walk-done left a w h = turns-done 256 (λ k. not (x k) || q k) a (w .passed) (omega (arith, w .lowest .within))
+
+-- a holder is not left over: it is not asked for, or a permit is found
+pub left-over : (o f : Bool) → not (o && not f) ≡ not o || f
+left-over true f = Bool·not-not f
+left-over false f = refl

@@ -1,0 +1,96 @@
+-- `few_permits::few_permitted` meets its contract: the writers below the one at hand have passed. The measure is what is left of 256. Assumes nothing.
+use mathlib.Core.Path.{_≡_}
+use Prim.Native.Nat.{ℕ, _-_}
+use native.Mathlib.Omega.{arith}
+use borrow.Author.Needs.{needs}
+use borrow.Author.Tests.{not-true, not-false}
+use mir.Val.{Fits}
+use mir.Syntax.{w64}
+use lib.ListN.{length, getD}
+use Rattle.layout.specs.Records.{permitAt}
+use Rattle.words.specs.Members.{wordsHave}
+use Rattle.sets.specs.Members.{members}
+use Rattle.sets.proofs.WalkLaws.{lowest-of, rest-without}
+use Rattle.beside.specs.Beside.{othersFit, entryFits}
+use Rattle.beside.proofs.WriterLaws.{Walked, walk-start, walk-failed, walk-rises, walk-next, walk-done}
+use Rattle.few_permits.proofs.few_permitted.Statement.{statement}
+use Rattle.few_permits.proofs.few_permitted.Tie as tie
+
+abbrev Inv-loop : tie.InvT-loop
+Inv-loop permits count readers writers left₀ writer₀ left writer = Walked (wordsHave writers) (othersFit count (permitAt permits) (wordsHave readers) (wordsHave writers)) (members left) writer
+
+abbrev μ-loop : tie.MeasureT-loop
+μ-loop permits count readers writers left₀ writer₀ left writer = 256 - writer
+
+loop-holds : tie.Need-loop-holds Inv-loop μ-loop
+unfolding members wordsHave
+loop-holds c =
+    let a = c .before .before .before .before .args in
+    let fits = othersFit (a .count) (permitAt (a .permits .now)) (members (a .readers)) (members (a .writers)) in
+    walk-start (members (a .writers)) fits (c .lowest .result) (lowest-of (members (a .writers)) (c .lowest .result) (c .lowest .ensures))
+
+others-permitted-requires : tie.Need-others-permitted-requires Inv-loop μ-loop
+others-permitted-requires c κs =
+    let a = c .before .before .before .before .before .before .before .before .args in
+    let four : length (a .readers .words) ≡ 4 = search needs in
+    let fit : (i : ℕ) → Fits w64 (getD (a .readers .words) i 0) = search needs in
+    let four′ : length (a .writers .words) ≡ 4 = search needs in
+    let fit′ : (i : ℕ) → Fits w64 (getD (a .writers .words) i 0) = search needs in
+    ((record { four = four; fit = λ i. fit i .fits }, record { four = four′; fit = λ i. fit′ i .fits }), search needs)
+
+returns : tie.Need-returns Inv-loop μ-loop
+unfolding entryFits members wordsHave
+returns c =
+    let a = c .before .before .before .before .before .before .before .before .before .before .args in
+    let fits = othersFit (a .count) (permitAt (a .permits .now)) (members (a .readers)) (members (a .writers)) in
+    let l = c .before .before .before .before .before .loop in
+    let e = c .before .others-permitted in
+    walk-failed (members (a .writers)) fits (members (l .left)) (l .writer) (l .inv) (omega arith) (e .result) (e .ensures) (not-true _ (c .if1 .taken))
+
+loop-less : tie.Need-loop-less Inv-loop μ-loop
+unfolding members wordsHave
+loop-less c =
+    let a = c .before .before .before .before .before .before .before .before .before .before .before .before .args in
+    let fits = othersFit (a .count) (permitAt (a .permits .now)) (members (a .readers)) (members (a .writers)) in
+    let l = c .before .before .before .before .before .before .before .loop in
+    omega (
+      arith,
+      walk-rises (members (a .writers)) fits (members (l .left)) (l .writer) (l .inv) (omega arith)
+          (members (c .before .rest .result)) (c .lowest2 .result) (rest-without (members (l .left)) (l .writer) (l .inv .lowest) (members (c .before .rest .result)) (c .before .rest .ensures)) (lowest-of (members (c .before .rest .result)) (c .lowest2 .result) (c .lowest2 .ensures)),
+    )
+
+loop-again : tie.Need-loop-again Inv-loop μ-loop
+unfolding members wordsHave
+loop-again c =
+    let a = c .before .before .before .before .before .before .before .before .before .before .before .before .args in
+    let fits = othersFit (a .count) (permitAt (a .permits .now)) (members (a .readers)) (members (a .writers)) in
+    let l = c .before .before .before .before .before .before .before .loop in
+    let e = c .before .before .before .others-permitted in
+    walk-next (members (a .writers)) fits (members (l .left)) (l .writer) (l .inv) (omega arith)
+    (members (c .before .rest .result)) (c .lowest2 .result) (rest-without (members (l .left)) (l .writer) (l .inv .lowest) (members (c .before .rest .result)) (c .before .rest .ensures)) (lowest-of (members (c .before .rest .result)) (c .lowest2 .result) (c .lowest2 .ensures))
+    (e .result) (e .ensures) (not-false _ (c .before .before .if1 .left))
+
+returns-2 : tie.Need-returns-2 Inv-loop μ-loop
+unfolding entryFits members wordsHave
+returns-2 c =
+    let a = c .before .before .before .before .before .before .args in
+    let fits = othersFit (a .count) (permitAt (a .permits .now)) (members (a .readers)) (members (a .writers)) in
+    let l = c .before .loop in
+    walk-done (members (a .writers)) fits (members (l .left)) (l .writer) (l .inv) (omega arith)
+
+pub few-permitted-spec : {M : Type 1} → statement M
+few-permitted-spec =
+    tie.close
+    (tie.spec
+    Inv-loop
+    μ-loop
+    (λ c κs. search needs)
+    loop-holds
+    (λ c. search needs)
+    others-permitted-requires
+    returns
+    (λ c κs. search needs)
+    (λ c κs. search needs)
+    loop-less
+    loop-again
+    returns-2)

@@ -1,0 +1,65 @@
+-- `few_permits::strike` meets its contract: the writer gives to anybody, it gives to one, or another gives. Assumes nothing.
+use mathlib.Core.Path.{_∙_, ap₂}
+use Prim.Native.Nat.{ℕ, _+_, _*_}
+use borrow.Author.Needs.{needs}
+use lib.ListN.{getD}
+use Rattle.words.specs.Members.{wordsHave}
+use Rattle.layout.specs.Records.{permitAt}
+use Rattle.beside.specs.Beside.{containsHeld}
+use Rattle.few_permits.proofs.StrikeLaws.{anybody-struck, taker-struck, giver-struck}
+use Rattle.few_permits.proofs.strike.Statement.{statement}
+use Rattle.few_permits.proofs.strike.Tie as tie
+
+returns : tie.Need-returns
+unfolding permitAt
+returns c =
+    let a = c .before .before .before .before .before .before .before .before .before .before .args in
+    let byte : ℕ → ℕ = λ i. getD (a .permits .now) (a .place * 4 + i) 0 in
+    let r = c .before .before .strike-set in (
+      c .strike-set2 .ensures .0,
+      λ k n. anybody-struck (wordsHave (a .readers .now)) (wordsHave (a .writers .now)) (a .writer) k (byte 1) (byte 2) (getD (a .permits .now) (a .place * 4) 0) (byte 3) n (wordsHave (a .left .now) k) (wordsHave (c .strike-set2 .last .0) k)
+          (c .before .before .before .before .before .if1 .taken) (c .before .before .before .before .if2 .taken) (wordsHave (r .last .0) k) (r .ensures .1 k) (c .strike-set2 .ensures .1 k),
+    )
+
+returns-2 : tie.Need-returns-2
+unfolding permitAt
+returns-2 c =
+    let a = c .before .before .before .before .before .before .before .before .before .before .before .args in
+    let byte : ℕ → ℕ = λ i. getD (a .permits .now) (a .place * 4 + i) 0 in
+    let served = c .before .before .contains-held in (
+      c .strike-one .ensures .0,
+      λ k n. taker-struck (wordsHave (a .readers .now)) (wordsHave (a .writers .now)) (a .writer) k (byte 1) (byte 2) (getD (a .permits .now) (a .place * 4) 0) (byte 3) n (wordsHave (a .left .now) k) (wordsHave (c .strike-one .last .0) k)
+          (c .before .before .before .before .before .before .if1 .taken) (c .before .before .before .before .before .if2 .left) (served .result) (served .ensures ∙ ap₂ (containsHeld (byte 3)) (c .before .before .before .before .among .ensures) (c .before .before .before .among2 .ensures)) (c .strike-one .ensures .1 k),
+    )
+
+returns-3 : tie.Need-returns-3
+unfolding permitAt
+returns-3 c =
+    let a = c .before .before .before .before .before .before .before .args in
+    let byte : ℕ → ℕ = λ i. getD (a .permits .now) (a .place * 4 + i) 0 in (
+      c .strike-one2 .ensures .0,
+      λ k n. giver-struck (wordsHave (a .readers .now)) (wordsHave (a .writers .now)) (a .writer) k (byte 1) (byte 2) (getD (a .permits .now) (a .place * 4) 0) (byte 3) n (wordsHave (a .left .now) k) (wordsHave (c .strike-one2 .last .0) k)
+          (c .before .before .if1 .left) (c .strike-one2 .ensures .1 k),
+    )
+
+pub strike-spec : {M : Type 1} → statement M
+strike-spec =
+    tie.close
+    (tie.spec
+    (λ c. search needs)
+    (λ c. search needs)
+    (λ c. search needs)
+    (λ c. search needs)
+    (λ c. search needs)
+    (λ c. search needs)
+    (λ c. search needs)
+    (λ c κs. search needs)
+    (λ c κs. search needs)
+    returns
+    (λ c κs. search needs)
+    (λ c κs. search needs)
+    (λ c κs. search needs)
+    (λ c κs. search needs)
+    returns-2
+    (λ c κs. search needs)
+    returns-3)

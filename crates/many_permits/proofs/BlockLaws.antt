@@ -1,0 +1,64 @@
+-- Permits one after the other, and past blocks at once. Assumes nothing.
+use mathlib.Core.Path.{_≡_, refl, sym, _∙_}
+use mathlib.Core.Bool.{Bool, true, false, _||_, false≢true}
+use mathlib.Core.List.{List}
+use Prim.Native.Nat.{ℕ, _+_, _-_, _*_, _≤_, _<_}
+use native.Mathlib.Numerals.{add-one}
+use native.Mathlib.Decide.{decLt}
+use native.Mathlib.Omega.{arith}
+use lib.Dec.{eqb}
+use lib.ListN.{getD}
+use Rattle.rules.specs.Base.{anyBelow}
+use Rattle.rules.specs.Window.{PermitRecord}
+use Rattle.rules.specs.Locks.{makePermit}
+use Rattle.rules.proofs.BaseLaws.{both-ways, any-intro, any-elim, anyBelow-none}
+use Rattle.layout.specs.Records.{permitAt}
+use Rattle.beside.specs.Permits.{anyOf}
+use Rattle.beside.proofs.PlaceLaws.{Skipped}
+use Rattle.many_permits.specs.Blocks.{NoneBefore, involves, byteIs}
+
+-- ONE OF THE FIRST N
+module _ (t : ℕ → PermitRecord) (p : PermitRecord → Bool) where
+  -- none yet
+  pub any-none : false ≡ anyOf 0 t p
+  unfolding anyOf anyBelow
+  any-none = refl
+
+  -- one more
+  pub any-next : (j : ℕ) (s s′ : Bool) → s ≡ anyOf j t p → s′ ≡ s || p (t j) → s′ ≡ anyOf (j + 1) t p
+  unfolding anyOf anyBelow
+  any-next j s s′ h e = rw (add-one, ← h) e
+
+  -- more that do not pass
+  pub any-skipped : (i j : ℕ) → i ≤ j → ((k : ℕ) → i ≤ k → k < j → p (t k) ≡ false) → anyOf i t p ≡ anyOf j t p
+  unfolding anyOf
+  any-skipped i j h none = both-ways _ _ (λ e. let a = any-elim i _ e in any-intro j _ (a .0) (omega (arith, a .1)) (a .2)) (λ e. let a = any-elim j _ e in go (a .0) (a .1) (a .2) (decLt (a .0) i))
+    where
+      go : (k : ℕ) → k < j → p (t k) ≡ true → Dec (k < i) → anyBelow i (λ k. p (t k)) ≡ true
+      go k l q (yes m) = any-intro i _ k m q
+      go k l q (no m) = absurd (false≢true (sym (none k (omega arith) l) ∙ q))
+
+-- PASSED OVER
+module _ (p : PermitRecord → Bool) (bs : List ℕ) (count start : ℕ) where
+  pub skipped-run : (j n : ℕ) → Skipped p bs count start j → ((k : ℕ) → j ≤ k → k < j + n → p (permitAt bs k) ≡ false) → Skipped p bs count start (j + n)
+  skipped-run j n before none k h l = go (decLt k j)
+    where
+      go : Dec (k < j) → p (permitAt bs k) ≡ false
+      go (yes m) = before k h m
+      go (no m) = none k (omega arith) l
+
+  pub none-before : (j : ℕ) → start ≤ j → j ≤ count → Skipped p bs count start j → NoneBefore p bs count start j
+  none-before j h l before = record { from = h; to = l; skipped = before }
+
+-- A BLOCK OF PERMITS
+-- one byte more
+pub byte-next : (bs : List ℕ) (at b i : ℕ) (found : Bool) → found ≡ anyBelow i (byteIs bs at b) → found || eqb (getD bs (at + i) 0) b ≡ anyBelow (i + 1) (byteIs bs at b)
+unfolding anyBelow byteIs
+byte-next bs at b i found e = rw (add-one, ← e) refl
+
+-- a change whose number is none of its bytes gives and takes none of its permits
+pub block-none : (bs : List ℕ) (c j : ℕ) (found : Bool) → found ≡ anyBelow 64 (byteIs bs (j * 4) c) → found ≡ false → (k : ℕ) → j ≤ k → k < j + 16 → involves c (permitAt bs k) ≡ false
+unfolding byteIs involves permitAt makePermit
+block-none bs c j found e f k h l =
+    let byte : (i : ℕ) → i < 4 → eqb (getD bs (k * 4 + i) 0) c ≡ false = λ i m. let q : j * 4 + ((k - j) * 4 + i) ≡ k * 4 + i = omega arith in rw q at (anyBelow-none 64 (byteIs bs (j * 4) c) (sym e ∙ f) ((k - j) * 4 + i) (omega arith)) in
+    rw (byte 1 (omega arith), byte 2 (omega arith))

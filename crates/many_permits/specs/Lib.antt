@@ -1,0 +1,3 @@
+-- An entry with many permits: what the functions' contracts say.
+pub mod Blocks
+pub mod Named

@@ -1,0 +1,33 @@
+-- One entry's locks with the permits to anybody set apart from those that name a writer. Its readers are r, its writers x; u and v are the
+-- givers of permits to anybody that contain read and that contain write; t are the permits, and n how many. Assumes nothing.
+use mathlib.Core.Bool.{Bool, not, _&&_, _||_}
+use Prim.Native.Nat.{ℕ}
+use lib.Dec.{eqb}
+use Rattle.rules.specs.Base.{allBelow}
+use Rattle.rules.specs.Sets.{Set}
+use Rattle.rules.specs.Window.{PermitRecord}
+use Rattle.rules.specs.Locks.{contains}
+use Rattle.beside.specs.Permits.{anyOf}
+use Rattle.beside.specs.Beside.{containsHeld, otherHolder}
+
+-- ONE PERMIT
+-- it is from g to anybody and contains a mode
+unfoldable pub permitsAnybody : ℕ → ℕ → PermitRecord → Bool
+permitsAnybody mode g p = eqb p.giver g && (eqb p.taker 0 && contains p.ops mode)
+
+-- it is from the writer a to b, for the mode that b holds, or from b to a, for write
+unfoldable pub names : Set → Set → ℕ → ℕ → PermitRecord → Bool
+names r x a b p = eqb p.giver a && (eqb p.taker b && containsHeld p.ops (r b) (x b)) || eqb p.giver b && (eqb p.taker a && contains p.ops 2)
+
+-- THE HOLDERS
+-- another holder than the writer a, whom no permit to anybody lets stand beside it
+unfoldable pub unserved : Set → Set → Set → Set → ℕ → Set
+unserved r x u v a b = otherHolder r x a b && not (v b || r b && u a || x b && v a)
+
+-- each of those has a permit that names the two
+unfoldable pub writerFits : ℕ → (ℕ → PermitRecord) → Set → Set → Set → Set → ℕ → Bool
+writerFits n t r x u v a = allBelow 256 (λ b. not (unserved r x u v a b && not (anyOf n t (names r x a b))))
+
+-- so of every writer
+unfoldable pub writersFit : ℕ → (ℕ → PermitRecord) → Set → Set → Set → Set → Bool
+writersFit n t r x u v = allBelow 256 (λ a. not (x a) || writerFits n t r x u v a)
