@@ -7,7 +7,7 @@ use native.Mathlib.Omega.{arith}
 use Rattle.rules.specs.Window.{PermitRecord}
 use Rattle.rules.proofs.BaseLaws.{Same, same, other, same?}
 use Rattle.layout.specs.Records.{permitAt}
-use Rattle.sets.proofs.BoundLaws.{any-ext}
+use Rattle.rules.proofs.BoundLaws.{any-ext}
 use Rattle.beside.specs.Permits.{anyOf, FirstOf}
 
 -- other permits, or another test, that say the same

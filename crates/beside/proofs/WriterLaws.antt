@@ -1,14 +1,14 @@
 -- The writers of an entry, one after the other, the lowest first. Assumes nothing.
 use mathlib.Core.Path.{_≡_, refl, sym, _∙_, ap}
-use mathlib.Core.Bool.{Bool, true, false, not, _&&_, _||_, Bool·not-not}
+use mathlib.Core.Bool.{Bool, true, false, not, _&&_, _||_, Bool·not-not, or-true}
 use Prim.Native.Nat.{ℕ, _≤_, _<_}
 use native.Mathlib.Decide.{decLt}
 use native.Mathlib.Omega.{arith}
 use lib.Dec.{eqb}
 use Rattle.rules.specs.Base.{allBelow}
 use Rattle.rules.specs.Sets.{Set}
-use Rattle.rules.proofs.BaseLaws.{Same, same, other, same?, eqb-other, or-true, allBelow-intro, allBelow-at}
-use Rattle.sets.proofs.TurnLaws.{turn-failed, turns-done}
+use Rattle.rules.proofs.BaseLaws.{Same, same, other, same?, eqb-other, allBelow-intro, allBelow-at}
+use Rattle.rules.proofs.TurnLaws.{turn-failed, turns-done}
 use Rattle.sets.proofs.WalkLaws.{Lowest, lowest-rises}
 
 -- a test of every writer

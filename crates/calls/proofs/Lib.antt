@@ -1,4 +1,4 @@
--- What is proved of the calls on lent memory. Other crates cite a file X here as Rattle.calls.proofs.X.
+-- What is proved of the calls on lent memory.
 pub mod FreshLaws
 pub mod OpenLaws
 pub mod LentLaws

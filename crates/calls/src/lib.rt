@@ -6,7 +6,7 @@ use layout::Window;
 use places::store_figure;
 use replies::Reply;
 use replies::done;
-use replies::refused;
+use replies::unchanged;
 use soundness::sound_memory;
 ghost use mathlib.Core.Path.{_≡_};
 ghost use lib.ListN.{length};
@@ -31,10 +31,10 @@ pub fn open(memory: &mut [u8], entries: u32) -> Reply
     ensures { λ r. ⌜ Gives (perform (now (memory .entry)) (Open entries)) r (now (memory .exit)) ⌝ }
 {
     if memory.len() < Window::SIZE {
-        return refused(1);
+        return unchanged(1);
     }
     if reads::outside(1, Entries::MOST as u32, entries) {
-        return refused(2);
+        return unchanged(2);
     }
     make_fresh(&mut memory[0..Window::SIZE], entries as u16);
     done(0)
@@ -45,7 +45,7 @@ pub fn initiate(memory: &mut [u8], parent: u32) -> Reply
     ensures { λ r. ⌜ Gives (perform (now (memory .entry)) (Initiate parent)) r (now (memory .exit)) ⌝ }
 {
     if !sound_memory(memory) {
-        return refused(1);
+        return unchanged(1);
     }
     steps::initiate(&mut memory[0..Window::SIZE], parent)
 }
@@ -55,7 +55,7 @@ pub fn begin(memory: &mut [u8], change: u32) -> Reply
     ensures { λ r. ⌜ Gives (perform (now (memory .entry)) (Begin change)) r (now (memory .exit)) ⌝ }
 {
     if !sound_memory(memory) {
-        return refused(1);
+        return unchanged(1);
     }
     steps::begin(&mut memory[0..Window::SIZE], change)
 }
@@ -65,7 +65,7 @@ pub fn complete(memory: &mut [u8], change: u32) -> Reply
     ensures { λ r. ⌜ Gives (perform (now (memory .entry)) (Complete change)) r (now (memory .exit)) ⌝ }
 {
     if !sound_memory(memory) {
-        return refused(1);
+        return unchanged(1);
     }
     steps::complete(&mut memory[0..Window::SIZE], change)
 }
@@ -75,7 +75,7 @@ pub fn lock(memory: &mut [u8], change: u32, entry: u32, mode: u32) -> Reply
     ensures { λ r. ⌜ Gives (perform (now (memory .entry)) (Lock change entry mode)) r (now (memory .exit)) ⌝ }
 {
     if !sound_memory(memory) {
-        return refused(1);
+        return unchanged(1);
     }
     steps::lock(&mut memory[0..Window::SIZE], change, entry, mode)
 }
@@ -85,7 +85,7 @@ pub fn read(memory: &mut [u8], change: u32, entry: u32) -> Reply
     ensures { λ r. ⌜ Gives (perform (now (memory .entry)) (Read change entry)) r (now (memory .exit)) ⌝ }
 {
     if !sound_memory(memory) {
-        return refused(1);
+        return unchanged(1);
     }
     steps::read(&memory[0..Window::SIZE], change, entry)
 }
@@ -95,7 +95,7 @@ pub fn write(memory: &mut [u8], change: u32, entry: u32, value: u32) -> Reply
     ensures { λ r. ⌜ Gives (perform (now (memory .entry)) (Write change entry value)) r (now (memory .exit)) ⌝ }
 {
     if !sound_memory(memory) {
-        return refused(1);
+        return unchanged(1);
     }
     steps::write(&mut memory[0..Window::SIZE], change, entry, value)
 }
@@ -105,7 +105,7 @@ pub fn permit(memory: &mut [u8], giver: u32, taker: u32, entry: u32, operations:
     ensures { λ r. ⌜ Gives (perform (now (memory .entry)) (Permit giver taker entry operations)) r (now (memory .exit)) ⌝ }
 {
     if !sound_memory(memory) {
-        return refused(1);
+        return unchanged(1);
     }
     steps::permit(
         &mut memory[0..Window::SIZE],
@@ -121,7 +121,7 @@ pub fn delegate(memory: &mut [u8], from: u32, to: u32, entry: u32) -> Reply
     ensures { λ r. ⌜ Gives (perform (now (memory .entry)) (Delegate from to entry)) r (now (memory .exit)) ⌝ }
 {
     if !sound_memory(memory) {
-        return refused(1);
+        return unchanged(1);
     }
     handover::delegate(&mut memory[0..Window::SIZE], from, to, entry)
 }
@@ -131,7 +131,7 @@ pub fn depend(memory: &mut [u8], kind: u32, leader: u32, follower: u32) -> Reply
     ensures { λ r. ⌜ Gives (perform (now (memory .entry)) (Depend kind leader follower)) r (now (memory .exit)) ⌝ }
 {
     if !sound_memory(memory) {
-        return refused(1);
+        return unchanged(1);
     }
     steps::depend(&mut memory[0..Window::SIZE], kind, leader, follower)
 }
@@ -141,7 +141,7 @@ pub fn commit(memory: &mut [u8], change: u32) -> Reply
     ensures { λ r. ⌜ Gives (perform (now (memory .entry)) (Commit change)) r (now (memory .exit)) ⌝ }
 {
     if !sound_memory(memory) {
-        return refused(1);
+        return unchanged(1);
     }
     steps::commit(&mut memory[0..Window::SIZE], change)
 }
@@ -151,7 +151,7 @@ pub fn abort(memory: &mut [u8], change: u32) -> Reply
     ensures { λ r. ⌜ Gives (perform (now (memory .entry)) (Abort change)) r (now (memory .exit)) ⌝ }
 {
     if !sound_memory(memory) {
-        return refused(1);
+        return unchanged(1);
     }
     steps::abort(&mut memory[0..Window::SIZE], change)
 }
@@ -161,7 +161,7 @@ pub fn status(memory: &mut [u8], change: u32) -> Reply
     ensures { λ r. ⌜ Gives (perform (now (memory .entry)) (Status change)) r (now (memory .exit)) ⌝ }
 {
     if !sound_memory(memory) {
-        return refused(1);
+        return unchanged(1);
     }
     steps::status(&memory[0..Window::SIZE], change)
 }
@@ -171,7 +171,7 @@ pub fn parent(memory: &mut [u8], change: u32) -> Reply
     ensures { λ r. ⌜ Gives (perform (now (memory .entry)) (Parent change)) r (now (memory .exit)) ⌝ }
 {
     if !sound_memory(memory) {
-        return refused(1);
+        return unchanged(1);
     }
     steps::parent(&memory[0..Window::SIZE], change)
 }
@@ -181,7 +181,7 @@ pub fn value(memory: &mut [u8], entry: u32) -> Reply
     ensures { λ r. ⌜ Gives (perform (now (memory .entry)) (Value entry)) r (now (memory .exit)) ⌝ }
 {
     if !sound_memory(memory) {
-        return refused(1);
+        return unchanged(1);
     }
     steps::value(&memory[0..Window::SIZE], entry)
 }

@@ -20,7 +20,7 @@ unfolding patch
 length-patch l at xs h = simp (length-append, length-take, length-drop) (omega arith)
 
 -- READING AFTER A WRITE: there
-pub part-patch : (l : List ℕ) (at : ℕ) (xs : List ℕ) (n : ℕ) → length xs ≡ n → at ≤ length l → part (patch l at xs) at n ≡ xs
+part-patch : (l : List ℕ) (at : ℕ) (xs : List ℕ) (n : ℕ) → length xs ≡ n → at ≤ length l → part (patch l at xs) at n ≡ xs
 unfolding part patch
 part-patch l at xs n e h =
     ap (take n) (drop-at (take at l) (xs ++ drop (length xs) (drop at l)) at (length-take-le at l h)) ∙ take-at xs _ n e

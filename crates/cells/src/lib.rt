@@ -140,7 +140,7 @@ fn run_zero(s: &[u8], at: usize, n: usize) -> bool
     acc == 0
 }
 
-// The same of fewer bytes than a block: by two halves of a block that may overlap, or as they are where there are fewer still.
+// The same of at most a block: by two halves of a block that may overlap, or as they are where there are fewer still.
 fn few_zero(s: &[u8], from: usize, to: usize) -> bool
     requires { ⌜ from ≤ to ⌝ }
     requires { ⌜ to ≤ length (now s) ⌝ }

@@ -17,7 +17,7 @@ use Rattle.rules.proofs.ListLaws.{any-at, any-place}
 use Rattle.layout.specs.Codec.{noPermit, lockSection, permitSection}
 use Rattle.layout.specs.Records.{permitAt}
 use Rattle.layout.proofs.ReadLaws.{permit-read}
-use Rattle.sets.proofs.BoundLaws.{any-or, all-ext}
+use Rattle.rules.proofs.BoundLaws.{any-or, all-ext}
 use Rattle.locks.specs.Held.{Modes, inMode, holding}
 use Rattle.locks.proofs.RowLaws.{row-holders}
 use Rattle.beside.specs.Permits.{anyOf, FirstOf}

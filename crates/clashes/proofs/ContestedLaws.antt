@@ -14,7 +14,7 @@ use Rattle.layout.specs.Codec.{lockSection}
 use Rattle.cells.proofs.Digits.{unpack-or}
 use Rattle.sets.specs.Members.{loaded}
 use Rattle.sets.proofs.Bytes.{loaded-full}
-use Rattle.sets.proofs.BoundLaws.{any-ext, lowest-hit}
+use Rattle.rules.proofs.BoundLaws.{any-ext, lowest-hit}
 use Rattle.sets.proofs.GatherLaws.{Gathered, gathered-more}
 use Rattle.locks.specs.Held.{inMode}
 use Rattle.locks.proofs.SectionLaws.{row-loaded}

@@ -1,5 +1,5 @@
 -- What is proved of clashing pairs and their permits.
--- permits by their places
+-- a part of a section of permits, and the order of entries
 pub mod PlaceLaws
 -- one entry: whether a writer has another holder beside it
 pub mod ContestedLaws

@@ -1,14 +1,14 @@
 -- How many arrows come to a label from a set, and the last that goes from one. Assumes nothing.
 use mathlib.Core.Path.{_≡_, refl, sym, _∙_}
-use mathlib.Core.Bool.{Bool, true, false, cond, not, _&&_, false≢true}
+use mathlib.Core.Bool.{Bool, true, false, cond, not, _&&_, false≢true, and-false}
 use mathlib.Core.Logic.{_≢_}
 use Prim.Native.Nat.{ℕ, zero, suc, _+_, _≤_, _<_}
 use native.Mathlib.Omega.{arith}
 use lib.Dec.{eqb}
 use Rattle.rules.specs.Base.{countBelow}
 use Rattle.rules.specs.Sets.{Set, only}
-use Rattle.rules.proofs.BaseLaws.{and-map, no-true, count-within, and-false, eqb-same, eqb-eq, eqb-other, Same, same, other, same?}
-use Rattle.sets.proofs.BoundLaws.{count-more}
+use Rattle.rules.proofs.BaseLaws.{and-map, no-true, count-within, eqb-same, eqb-eq, eqb-other, Same, same, other, same?}
+use Rattle.rules.proofs.BoundLaws.{count-more}
 use Rattle.cycles.specs.Graph.{Graph, comes, lastFrom}
 
 -- of no arrows none comes

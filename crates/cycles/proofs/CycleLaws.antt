@@ -13,7 +13,7 @@ use Rattle.rules.proofs.BaseLaws.{and-left, and-right, any-intro, any-elim, any
 use Rattle.rules.proofs.SetLaws.{reach-seed}
 use Rattle.rules.proofs.PathLaws.{Way, stay, on, way-join, Bounded, reach-ways}
 use Rattle.rules.proofs.SourceLaws.{reach-through}
-use Rattle.sets.proofs.BoundLaws.{count-more}
+use Rattle.rules.proofs.BoundLaws.{count-more}
 use Rattle.cycles.specs.Graph.{Graph, graphOf, edge, noCycle}
 
 -- labels below 256

@@ -9,7 +9,7 @@ use lib.ListN.{getD}
 use Rattle.rules.specs.Base.{anyBelow, countBelow, lowestBelow}
 use Rattle.rules.specs.Sets.{Set, only}
 use Rattle.rules.proofs.BaseLaws.{and-left, and-right, any-intro, not-true, not-false, eqb-same, eqb-eq}
-use Rattle.sets.proofs.BoundLaws.{count-ext, count-more, lowest-found, lowest-below}
+use Rattle.rules.proofs.BoundLaws.{count-ext, count-more, lowest-found, lowest-below}
 use Rattle.cycles.specs.Graph.{Graph, edge, noCycle, everyone, comes, leads, sources}
 use Rattle.cycles.specs.Links.{Lists, Linked, Shows, Removable, Removed}
 use Rattle.cycles.proofs.CycleLaws.{Small, Clear, edge-at, edge-place, clear-none, clear-next, decided}

@@ -70,7 +70,7 @@ module _ (kind leader follower : ℕ) (l : List ℕ) where
   joined-new r h e = rw (group-is kind h) e
 
 -- as many labels
-pub length-joined : (t : TieRecord) (l : List ℕ) → length (joined t l) ≡ length l
+length-joined : (t : TieRecord) (l : List ℕ) → length (joined t l) ≡ length l
 unfolding joined
 length-joined t l = go (isGroup t.kind)
   where
@@ -80,7 +80,7 @@ length-joined t l = go (isGroup t.kind)
 
 -- ALL TIES
 -- 256 labels
-pub length-own : length ownLabels ≡ 256
+length-own : length ownLabels ≡ 256
 unfolding ownLabels
 length-own = length-table 256 0 (λ k. k)
 

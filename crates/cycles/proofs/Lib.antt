@@ -1,4 +1,4 @@
--- What is proved of arrows between groups. Other crates cite a file X here as Rattle.cycles.proofs.X.
+-- What is proved of arrows between groups.
 -- a list filled from the front, a search that goes on
 pub mod LoopLaws
 -- two changes have one label just where they are of one group

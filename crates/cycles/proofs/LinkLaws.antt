@@ -1,6 +1,6 @@
 -- Arrows linked one by one in lists, and counted. Assumes nothing.
 use mathlib.Core.Path.{_≡_, refl, sym, ap, fun-ext, _∙_}
-use mathlib.Core.Bool.{Bool, true, false, cond, not, _&&_, _||_, or-false, false≢true}
+use mathlib.Core.Bool.{Bool, true, false, cond, not, _&&_, _||_, or-false, false≢true, or-true}
 use mathlib.Core.List.{List}
 use Prim.Native.Nat.{ℕ, suc, _+_, _≤_, _<_}
 use native.Mathlib.Nat.{not-suc-le-zero}
@@ -11,7 +11,7 @@ use lib.ListN.{length, getD, set, replicate, length-replicate, getD-replicate, L
 use lib.Seq.{getD-set-same, getD-set-other}
 use Rattle.rules.specs.Base.{anyBelow, countBelow}
 use Rattle.rules.specs.Sets.{only}
-use Rattle.rules.proofs.BaseLaws.{or-true, count-le, Below, under, over, below, eqb-same, eqb-other, Same, same, other, same?}
+use Rattle.rules.proofs.BaseLaws.{count-le, Below, under, over, below, eqb-same, eqb-other, Same, same, other, same?}
 use Rattle.words.specs.Members.{wordsHave}
 use Rattle.sets.specs.Members.{members}
 use Rattle.sets.proofs.Words.{ofWords}

@@ -1,6 +1,6 @@
 -- The arrows from a label removed one by one, the last first. Assumes nothing.
 use mathlib.Core.Path.{_≡_, refl, sym, ap, _∙_}
-use mathlib.Core.Bool.{Bool, true, not, _&&_, and-true}
+use mathlib.Core.Bool.{Bool, true, not, _&&_, and-true, and-false}
 use mathlib.Core.List.{List}
 use Prim.Native.Nat.{ℕ, suc, _+_, _-_, _≤_, _<_}
 use native.Mathlib.Nat.{add-zero}
@@ -9,7 +9,7 @@ use lib.Dec.{eqb}
 use lib.ListN.{length, getD, set, length-set}
 use lib.Seq.{getD-set-same, getD-set-other}
 use Rattle.rules.specs.Sets.{Set, only}
-use Rattle.rules.proofs.BaseLaws.{and-false, eqb-same, eqb-other, Same, same, other, same?}
+use Rattle.rules.proofs.BaseLaws.{eqb-same, eqb-other, Same, same, other, same?}
 use Rattle.cycles.specs.Graph.{Graph, comes, lastFrom}
 use Rattle.cycles.specs.Links.{Shows, Removable, Removed}
 use Rattle.cycles.proofs.CountLaws.{comes-zero, comes-one, comes-other, comes-last, last-most, last-again, last-hit}
@@ -24,7 +24,7 @@ pub more-left : (n k : ℕ) (s : Set) → (n ≡ 0 → ⊥) → (i : ℕ) → s 
 more-left n k s h i = rw (eqb-other n 0 h, and-false (eqb i k))
 
 -- the set goes on showing the counts
-pub shows-next : (incoming after : List ℕ) (blocked rest : Set) (k : ℕ) → k < length incoming → 0 < getD incoming k 0 → after ≡ set incoming k (getD incoming k 0 - 1)
+shows-next : (incoming after : List ℕ) (blocked rest : Set) (k : ℕ) → k < length incoming → 0 < getD incoming k 0 → after ≡ set incoming k (getD incoming k 0 - 1)
     → ((i : ℕ) → rest i ≡ not (eqb i k && eqb (getD incoming k 0 - 1) 0) && blocked i) → Shows incoming blocked → Shows after rest
 shows-next incoming after blocked rest k l pos e h s = record { counted = λ i q. rw (e, h i) (at i q (same? i k)) }
   where

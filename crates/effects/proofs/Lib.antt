@@ -1,4 +1,4 @@
--- What is proved of the effects on a window's bytes. Other crates cite a file X here as Rattle.effects.proofs.X.
+-- What is proved of the effects on a window's bytes.
 -- what is known of the arguments of a call that is not refused
 pub mod ArgumentLaws
 -- each call's effect

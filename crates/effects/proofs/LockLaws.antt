@@ -1,6 +1,6 @@
 -- Who keeps a lock from being granted, as sets of changes. Assumes nothing.
 use mathlib.Core.Path.{_≡_, refl, sym, _∙_, ap}
-use mathlib.Core.Bool.{Bool, true, false, not, _&&_, false≢true}
+use mathlib.Core.Bool.{Bool, true, false, not, _&&_, false≢true, and-false}
 use mathlib.Core.List.{List}
 use Prim.Native.Nat.{ℕ, suc, _≤_, _<_}
 use native.Mathlib.Omega.{arith}
@@ -11,7 +11,7 @@ use Rattle.rules.specs.Sets.{Set}
 use Rattle.rules.specs.Window.{limits, PermitRecord, Window, permitKey}
 use Rattle.rules.specs.Locks.{clash, permitted}
 use Rattle.rules.specs.Effects.{lockBlockers, grantable}
-use Rattle.rules.proofs.BaseLaws.{and-false, both-ways, Below, under, over, below, any-intro, any-elim, within-of, ltb-true}
+use Rattle.rules.proofs.BaseLaws.{both-ways, Below, under, over, below, any-intro, any-elim, within-of, ltb-true}
 use Rattle.rules.proofs.SoundParts.{Sound, held-no-change, clash-left}
 use Rattle.layout.specs.Codec.{locksAt, locksSize, permitsAt, permitsSize, lockSection, permitSection, decode}
 use Rattle.layout.specs.Memory.{soundBytes}

@@ -11,7 +11,7 @@ use places::store_parent;
 use places::store_status;
 use replies::Reply;
 use replies::done;
-use replies::refused;
+use replies::unchanged;
 ghost use mathlib.Core.Path.{_≡_};
 ghost use mathlib.Core.Bool.{true, false};
 ghost use lib.ListN.{length};
@@ -96,7 +96,7 @@ pub fn lock(w: &mut [u8], change: u32, entry: u32, mode: u32) -> Reply
         return done(0);
     }
     if !grantable(w, change, entry, mode) {
-        return refused(20);
+        return unchanged(20);
     }
     locks::grant(
         &mut w[Locks::AT..Permits::AT],

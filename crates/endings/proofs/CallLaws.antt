@@ -12,7 +12,7 @@ use Rattle.rules.specs.Sets.{Set, Rel, reach}
 use Rattle.rules.specs.Window.{limits, TieRecord, Window, live, noChange, withValue}
 use Rattle.rules.specs.Ties.{isArrow, grouped, falling, groupOf, endSet}
 use Rattle.rules.specs.Calls.{Commit, Abort, Outcome, done, unchanged}
-use Rattle.rules.specs.Effects.{endAll, undo, size, commitBlockers, commitGroup, commitChange, abortAll, abortChange, effect}
+use Rattle.rules.specs.Effects.{endAll, undo, size, commitBlockers, commitGroup, commitChange, abortAll, abortChange, effect, leadsTo, leadersOf}
 use Rattle.rules.specs.Refusals.{_if_, checks, firstFailed}
 use Rattle.rules.proofs.BaseLaws.{and-left, and-right, or-cases, both-ways, and-both, not-true, not-false, no-true, eqb-eq, eqb-same, eqb-other, lt-of, Below, under, over, below}
 use Rattle.rules.proofs.ListLaws.{find}
@@ -23,8 +23,7 @@ use Rattle.layout.specs.Memory.{soundBytes}
 use Rattle.layout.specs.Records.{endsBelow}
 use Rattle.layout.proofs.SoundCodec.{sound-again}
 use Rattle.layout.proofs.MemoryLaws.{bytes-sound}
-use Rattle.sets.proofs.BoundLaws.{any-bound, lowest-bound, count-bound}
-use Rattle.graph.specs.Leaders.{leadsTo, leadersOf}
+use Rattle.rules.proofs.BoundLaws.{any-bound, lowest-bound, count-bound}
 use Rattle.graph.proofs.WindowLaws.{sound-ends, blockers-leaders}
 use Rattle.replies.specs.declared.Reply.{Reply}
 use Rattle.replies.specs.Gives.{Gives, written}

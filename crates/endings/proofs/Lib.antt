@@ -1,3 +1,3 @@
--- What is proved of commit and abort. Other crates cite a file X here as Rattle.endings.proofs.X.
+-- What is proved of commit and abort.
 -- what a commit and an abort give
 pub mod CallLaws

@@ -44,7 +44,7 @@ pub fn commit(w: &mut [u8], change: u32) -> Reply
         return replies::done(0);
     }
     if status == 5 {
-        return replies::refused(21);
+        return replies::unchanged(21);
     }
     let ties = reads::ties(w);
     let group = graph::group(&w[Ties::AT..Log::AT], ties, change as u8);
@@ -71,7 +71,7 @@ pub fn abort(w: &mut [u8], change: u32) -> Reply
         return replies::done(0);
     }
     if status == 4 {
-        return replies::refused(21);
+        return replies::unchanged(21);
     }
     let ties = reads::ties(w);
     let ended = graph::end_set(&w[Ties::AT..Log::AT], ties, change as u8);

@@ -10,7 +10,7 @@ use Rattle.rules.specs.Sets.{Set}
 use Rattle.rules.specs.Window.{PermitRecord}
 use Rattle.rules.specs.Locks.{contains, makePermit}
 use Rattle.rules.proofs.BaseLaws.{Same, same, other, same?, eqb-same, eqb-other}
-use Rattle.sets.proofs.BoundLaws.{none-as}
+use Rattle.rules.proofs.BoundLaws.{none-as}
 use Rattle.beside.specs.Permits.{anyOf}
 use Rattle.beside.specs.Beside.{containsHeld, beside, otherHolder, othersFit}
 use Rattle.beside.proofs.WriterLaws.{left-over}

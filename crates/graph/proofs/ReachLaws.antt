@@ -1,6 +1,6 @@
 -- What is reached along the ties of a section, for any bound on their ends; and the leaders of ties to a set. Assumes nothing.
 use mathlib.Core.Path.{_≡_, refl, sym, ap, fun-ext, _∙_}
-use mathlib.Core.Bool.{Bool, true, false, _&&_, _||_, or-false, and-true}
+use mathlib.Core.Bool.{Bool, true, false, _&&_, _||_, or-false, and-true, or-comm}
 use mathlib.Core.List.{List}
 use mathlib.Core.Logic.{_≢_}
 use Prim.Native.Nat.{ℕ, _+_, _*_, _≤_, _<_}
@@ -12,7 +12,8 @@ use Rattle.rules.specs.Base.{anyBelow}
 use Rattle.rules.specs.Sets.{Set, only, closure, reach}
 use Rattle.rules.specs.Window.{TieRecord}
 use Rattle.rules.specs.Ties.{isWait, isFall, isArrow}
-use Rattle.rules.proofs.BaseLaws.{and-both, both-ways, lt-of, ltb-true, any-intro, any-elim, or-comm, eqb-other, eqb-sym, Same, same, other, same?}
+use Rattle.rules.specs.Effects.{leadsTo, leadersOf}
+use Rattle.rules.proofs.BaseLaws.{and-both, both-ways, lt-of, ltb-true, any-intro, any-elim, eqb-other, eqb-sym, Same, same, other, same?}
 use Rattle.rules.proofs.ListLaws.{all-places, any-at, any-place}
 use Rattle.rules.proofs.TieLaws.{grouped-ends, falling-ends, leading-ends}
 use Rattle.rules.proofs.PathLaws.{Bounded, closure-bound}
@@ -22,7 +23,6 @@ use Rattle.layout.proofs.ReadLaws.{section-read, section-ends}
 use Rattle.sets.specs.declared.Along.{Along}
 use Rattle.sets.specs.declared.Along.the-variants.{Groups, Falls, Arrows}
 use Rattle.sets.specs.Closure.{relation}
-use Rattle.graph.specs.Leaders.{leadsTo, leadersOf}
 
 -- the ends of ties in bytes are below 256
 section-below : (bs : List ℕ) (ts : List TieRecord) (m : ℕ) → ((i : ℕ) → getD bs i 0 < 256) → 4 * m ≤ length bs → length ts ≡ m → bs ≡ tieSection ts → endsBelow 256 ts ≡ true
@@ -31,7 +31,7 @@ section-below bs ts m bytes room len e = all-places (λ t. ltb t.leader 256 && l
     (λ j h. let q = section-ends bs ts m room e bytes j (omega arith) in and-both (ltb (getD ts j noTie .leader) 256) _ (ltb-true _ 256 (q .0)) (ltb-true _ 256 (q .1)))
 
 -- a bound on the ends bounds the relation
-pub relation-bounded : (along : Along) (n : ℕ) (ts : List TieRecord) → endsBelow n ts ≡ true → Bounded n (relation along ts)
+relation-bounded : (along : Along) (n : ℕ) (ts : List TieRecord) → endsBelow n ts ≡ true → Bounded n (relation along ts)
 unfolding relation endsBelow
 relation-bounded Groups n ts h a b e = let m = grouped-ends (λ x. ltb x n) ts h a b e in (lt-of a n (m .0), lt-of b n (m .1))
 relation-bounded Falls n ts h a b e = let m = falling-ends (λ x. ltb x n) ts h a b e in (lt-of a n (m .0), lt-of b n (m .1))

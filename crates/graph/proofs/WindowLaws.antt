@@ -5,10 +5,9 @@ use Prim.Native.Nat.{ℕ, suc}
 use lib.Dec.{eqb}
 use Rattle.rules.specs.Sets.{Set}
 use Rattle.rules.specs.Window.{Limits, Window}
-use Rattle.rules.specs.Effects.{commitBlockers}
+use Rattle.rules.specs.Effects.{commitBlockers, leadsTo, leadersOf}
 use Rattle.rules.proofs.SoundParts.{Sound, ends-below}
 use Rattle.layout.specs.Records.{endsBelow}
-use Rattle.graph.specs.Leaders.{leadsTo, leadersOf}
 
 -- the ends of a sound window's ties are numbers that were given
 pub sound-ends : (L : Limits) (W : Window) → Sound L W → endsBelow (suc W.given) W.ties ≡ true
@@ -17,5 +16,5 @@ sound-ends L W k = ends-below W (k .ties)
 
 -- what holds up a commit: "the members … that are not completed, and all leaders of wait or fall ties to any member"
 pub blockers-leaders : (W : Window) (g : Set) (k : ℕ) → commitBlockers W g k ≡ g k && not (eqb (W .status k) 3) || leadersOf W.ties g k
-unfolding commitBlockers leadersOf leadsTo
+unfolding commitBlockers
 blockers-leaders W g k = refl

@@ -11,11 +11,11 @@ ghost use Rattle.rules.specs.Base.{outside};
 ghost use Rattle.rules.specs.Sets.{reach};
 ghost use Rattle.rules.specs.Window.{TieRecord};
 ghost use Rattle.rules.specs.Ties.{grouped, falling, leading, makeTie, addTie, acyclic};
+ghost use Rattle.rules.specs.Effects.{leadsTo, leadersOf};
 ghost use Rattle.layout.specs.Codec.{tieSection};
 ghost use Rattle.layout.specs.Records.{endsBelow, tieOf};
 ghost use Rattle.sets.specs.Members.{members};
 ghost use Rattle.sets.specs.Closure.{relation};
-ghost use Rattle.graph.specs.Leaders.{leadsTo, leadersOf};
 
 // All that the ties lead to from a change.
 fn reached(ties: &[u8], count: usize, c: u8, along: Along) -> ChangeSet
@@ -42,7 +42,7 @@ pub fn end_set(ties: &[u8], count: usize, c: u8) -> ChangeSet
 }
 
 // Whether group ties and arrows lead from one change to another.
-pub fn leads(ties: &[u8], count: usize, from: u8, to: u8) -> bool
+fn leads(ties: &[u8], count: usize, from: u8, to: u8) -> bool
     requires { ⌜ 4 * count ≤ length (now ties) ⌝ }
     ensures { λ r. ⌜ ((ts : List TieRecord) → length ts ≡ count → now (ties .entry) ≡ tieSection ts → (n : ℕ) → endsBelow n ts ≡ true → r ≡ reach n (leading ts) from to) ⌝ }
 {

@@ -24,8 +24,8 @@ use Rattle.locks.specs.Held.{Modes}
 use Rattle.permits.proofs.HandLaws.{copied}
 use Rattle.reads.proofs.ReadLaws.{locks-known}
 use Rattle.clashes.specs.LocksAndPermits.{LocksAndPermits}
-use Rattle.handover.specs.Delegated.{tablesSize, tablesOf, AreTables}
-use Rattle.handover.proofs.TableLaws.{locks-cut, permits-cut}
+use Rattle.handed.specs.Tables.{tablesSize, tablesOf, AreTables}
+use Rattle.handed.proofs.TableLaws.{locks-cut, permits-cut}
 
 -- COPIED OUT: there is room for them
 pub copy-fits : {n m : ℕ} → tablesSize ≡ n → tablesSize ≡ m → 0 + n ≤ m
@@ -60,7 +60,3 @@ module _ (W : Window) (from to : ℕ) (on : Set) (k : Sound limits W) (lives : l
     none-above = held-no-change (handOver W from to on) handed-helds;
     in-order = hand-order limits W from to on k lives;
   }
-
--- with the number of entries as it was read
-pub with-entries : {locks permits : List ℕ} {n m count : ℕ} {W : Window} → LocksAndPermits locks permits n count W → m ≡ n → LocksAndPermits locks permits m count W
-with-entries h e = rw e h

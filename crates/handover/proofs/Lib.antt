@@ -1,5 +1,3 @@
--- What is proved of a delegate. Other crates cite a file X here as Rattle.handover.proofs.X.
-pub mod TableLaws
-pub mod OverLaws
+-- What is proved of a delegate.
 pub mod JudgeLaws
 pub mod DelegateLaws

@@ -21,7 +21,7 @@ use Rattle.layout.specs.Memory.{long, soundMemory, windowOf, layInto, ha
 use Rattle.layout.proofs.MemoryLaws.{Holds, perform-answer, perform-number, perform-holds, open-answered, open-numbered, opened-holds}
 
 -- from a sound window
-pub answers-sound : (l : List Call) (mem : List ℕ) → all fits l ≡ true → soundMemory mem ≡ true → answers perform mem l ≡ answers (step limits) (windowOf mem) l
+answers-sound : (l : List Call) (mem : List ℕ) → all fits l ≡ true → soundMemory mem ≡ true → answers perform mem l ≡ answers (step limits) (windowOf mem) l
 unfolding all answers
 answers-sound [] mem a h = refl
 answers-sound (c ∷ l) mem a h =
@@ -29,7 +29,7 @@ answers-sound (c ∷ l) mem a h =
     λ i. (perform-answer mem c h i, perform-number mem c h i)
     ∷ (answers-sound l (perform mem c .after) (and-right (fits c) (all fits l) a) (k .sound) ∙ ap (λ X. answers (step limits) X l) (k .window)) i
 
-pub final-sound : (l : List Call) (mem : List ℕ) → all fits l ≡ true → soundMemory mem ≡ true → Holds (final perform mem l) (final (step limits) (windowOf mem) l)
+final-sound : (l : List Call) (mem : List ℕ) → all fits l ≡ true → soundMemory mem ≡ true → Holds (final perform mem l) (final (step limits) (windowOf mem) l)
 unfolding all final
 final-sound [] mem a h = record { sound = h; window = refl }
 final-sound (c ∷ l) mem a h =
@@ -37,7 +37,7 @@ final-sound (c ∷ l) mem a h =
     rw (k .window) at (final-sound l (perform mem c .after) (and-right (fits c) (all fits l) a) (k .sound))
 
 -- from whatever memory an open answered 0
-pub answers-opened : (mem : List ℕ) (n : ℕ) (l : List Call) → all fits l ≡ true → perform mem (Open n) .answer ≡ 0
+answers-opened : (mem : List ℕ) (n : ℕ) (l : List Call) → all fits l ≡ true → perform mem (Open n) .answer ≡ 0
     → answers perform (perform mem (Open n) .after) l ≡ answers (step limits) (fresh n) l
 answers-opened mem n l a h = let k = opened-holds mem n h in answers-sound l (perform mem (Open n) .after) a (k .sound) ∙ ap (λ X. answers (step limits) X l) (k .window)
 

@@ -61,7 +61,7 @@ chain : (v q1 q2 q3 r0 r1 r2 r3 : ℕ) → q1 * 256 + r0 ≡ v → q2 * 256 + r1
     → r0 + r1 * 256 + r2 * 65536 + r3 * 16777216 ≡ v
 chain v q1 q2 q3 r0 r1 r2 r3 a b c d = omega arith
 
-pub join4-byte : (v : ℕ) → v < 4294967296 → join4 (λ k. byte k v) ≡ v
+join4-byte : (v : ℕ) → v < 4294967296 → join4 (λ k. byte k v) ≡ v
 unfolding join4 byte
 join4-byte v h =
     let a : v / 65536 ≡ v / 256 / 256 = sym (div-div-eq-div-mul v 256 256) in
@@ -69,7 +69,7 @@ join4-byte v h =
     chain v (v / 256) (v / 65536) (v / 16777216) (v / 1 % 256) (v / 256 % 256) (v / 65536 % 256) (v / 16777216 % 256)
     (omega arith) (omega arith) (omega arith) (omega arith)
 
-pub join4-same : (f g : ℕ → ℕ) → ((k : ℕ) → k < 4 → f k ≡ g k) → join4 f ≡ join4 g
+join4-same : (f g : ℕ → ℕ) → ((k : ℕ) → k < 4 → f k ≡ g k) → join4 f ≡ join4 g
 unfolding join4
 join4-same f g h = rw (h 0 (omega arith), h 1 (omega arith), h 2 (omega arith), h 3 (omega arith))
 
@@ -86,7 +86,7 @@ mul4-mod : (c : ℕ) → c * 4 % 4 ≡ 0
 mul4-mod c = omega arith
 
 -- eight tests packed in a byte
-pub bit-most : (b : Bool) → bit b < 2
+bit-most : (b : Bool) → bit b < 2
 bit-most true = omega arith
 bit-most false = omega arith
 

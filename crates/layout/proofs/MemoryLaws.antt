@@ -1,7 +1,7 @@
 -- The calls on lent memory: what each does to sound memory, to other memory, and to what lies past the window. Assumes nothing.
 use mathlib.Core.Path.{_≡_, refl, sym, _∙_, ap}
 use mathlib.Core.Logic.{_≢_, _↔_}
-use mathlib.Core.Bool.{Bool, true, false, not, cond, false≢true}
+use mathlib.Core.Bool.{Bool, true, false, not, cond, false≢true, and-false}
 use mathlib.Core.List.{List, [], _∷_, _++_}
 use Prim.Native.Nat.{ℕ}
 use native.Mathlib.Omega.{arith}
@@ -13,7 +13,7 @@ use Rattle.rules.specs.Sound.{sound}
 use Rattle.rules.specs.Calls.{Call, Open, fits, Reply, Outcome}
 use Rattle.rules.specs.Refusals.{step}
 use Rattle.rules.specs.Events.{actionOf, isOpening, isOpen}
-use Rattle.rules.proofs.BaseLaws.{and-false, and-left, and-right, and-both, eqb-eq, eqb-same, Same, same, other, same?, le-of, leb-true}
+use Rattle.rules.proofs.BaseLaws.{and-left, and-right, and-both, eqb-eq, eqb-same, Same, same, other, same?, le-of, leb-true}
 use Rattle.rules.proofs.RuleLaws.{quiet, open-answer, open-number}
 use Rattle.rules.proofs.SoundParts.{Sound, sound-parts, parts-sound}
 use Rattle.rules.proofs.SoundStep.{step-sound, opened-sound, opened-fresh}

@@ -34,7 +34,7 @@ unfolding tieAt tieBytes
 tie-again bs x j f = λ i. record { kind = (first-byte bs (j * 4) ∙ f 0 (omega arith)) i; leader = f 1 (omega arith) i; follower = f 2 (omega arith) i }
 
 -- the ties read from a section are those that it holds
-pub tie-read : (ts : List TieRecord) (j : ℕ) → j < 512 → tieAt (tieSection ts) j ≡ getD ts j noTie
+tie-read : (ts : List TieRecord) (j : ℕ) → j < 512 → tieAt (tieSection ts) j ≡ getD ts j noTie
 unfolding tieSection tieByte placeByte
 tie-read ts j h = tie-again (tieSection ts) (getD ts j noTie) j (λ k l. place-at 4 (omega arith) tieBytes noTie 512 ts j k h l)
 

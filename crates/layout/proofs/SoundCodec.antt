@@ -1,19 +1,20 @@
 -- A sound window is the one that its bytes give back. Assumes nothing.
 use mathlib.Core.Path.{_≡_, refl}
 use mathlib.Core.List.{List}
+use mathlib.Core.Bool.{and-false}
 use Prim.Native.Nat.{ℕ}
 use lib.Dec.{ltb}
 use lib.ListN.{getD, length}
 use Rattle.rules.specs.Window.{limits, Window, live}
 use Rattle.rules.specs.Sound.{recordSound}
-use Rattle.rules.proofs.BaseLaws.{and-false, ltb-false, lt-of, within-of}
+use Rattle.rules.proofs.BaseLaws.{ltb-false, lt-of, within-of}
 use Rattle.rules.proofs.ListLaws.{all-weaken, all-getD}
 use Rattle.rules.proofs.SoundParts.{Sound, Blank, sound-blank, value-most, record-parts, held-most}
 use Rattle.layout.specs.Codec.{decode, encode, noRecord, readValue, readStatus, readParent, readHeld}
 use Rattle.layout.proofs.CodecLaws.{Canonical, decode-encode}
 
 -- a sound window is what its bytes say
-pub sound-canonical : (W : Window) → Sound limits W → Canonical W
+sound-canonical : (W : Window) → Sound limits W → Canonical W
 unfolding limits
 sound-canonical W k = let b = sound-blank limits W k in record {
   entries-most = within-of W.entries 256 (k .entries);

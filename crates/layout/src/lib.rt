@@ -1,5 +1,5 @@
 // The largest figures and the places of a window's sections, as constants of the window's types.
-// `most`, `begins` and `sizes` tie them to the definitions, so that neither can drift.
+// `most`, `begins`, `sizes` and `size` tie them to the definitions, so that neither can drift.
 ghost use mathlib.Core.Path.{_≡_};
 ghost use Rattle.layout.specs.Codec.{headAt, headSize, valuesAt, valuesSize, changesAt, changesSize, lineAt, lineSize, locksAt, locksSize, permitsAt, permitsSize, tiesAt, tiesSize, logAt, logSize, windowSize};
 ghost use Rattle.layout.specs.Figures.{AreLargest};

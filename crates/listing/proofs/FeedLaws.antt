@@ -91,7 +91,7 @@ first-fed (x ∷ xs) l out =
     ]
 
 -- THE WHOLE INPUT, fed byte by byte
-pub fed-listing : (input : List ℕ) → ended (fed start input) .out ≡ listing input
+fed-listing : (input : List ℕ) → ended (fed start input) .out ≡ listing input
 unfolding start listing front
 fed-listing input = first-fed input [] header
 
@@ -138,7 +138,7 @@ fed-whole : (s : State) (xs : List ℕ) → fed s xs ≡ after s.out (fed (writt
 fed-whole s xs = ap (λ (t : State). fed t xs) (sym (after-written s)) ∙ fed-after s.out (written s) xs
 
 -- what is printed at the end is the same whatever was printed before
-pub ended-out : (s : State) → ended s .out ≡ s.out ++ ended (written s) .out
+ended-out : (s : State) → ended s .out ≡ s.out ++ ended (written s) .out
 unfolding after
 ended-out s = ap (λ (t : State). ended t .out) (sym (after-written s)) ∙ ap (λ (t : State). t .out) (ended-after s.out (written s))
 

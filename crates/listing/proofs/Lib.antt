@@ -1,4 +1,4 @@
--- What is proved of the listing. Other crates cite a file X here as Rattle.listing.proofs.X.
+-- What is proved of the listing.
 -- of a line above 64 bytes the first 65 tell all
 pub mod KeptLaws
 -- the listing byte by byte, and in pieces

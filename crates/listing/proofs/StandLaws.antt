@@ -86,7 +86,7 @@ module _ (s : Stand) (line mem out : List ℕ) where
   end-begun t n h e = rw (length-take-le s.held line h, ne-eqb s.held 0 n) e
 
 -- A PIECE: one byte of it after the other
-pub fed-more : (t : State) (input : List ℕ) (i : ℕ) → i < length input → fed t (take (i + 1) input) ≡ fedByte (fed t (take i input)) (getD input i 0)
+fed-more : (t : State) (input : List ℕ) (i : ℕ) → i < length input → fed t (take (i + 1) input) ≡ fedByte (fed t (take i input)) (getD input i 0)
 unfolding fed
 fed-more t input i h = ap (λ (k : ℕ). fed t (take k input)) (add-one i) ∙ ap (fed t) (take-suc input i 0 h) ∙ fed-append t (take i input) (getD input i 0 ∷ [])
 

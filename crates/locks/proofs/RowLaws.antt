@@ -1,14 +1,14 @@
 -- One row's locks as two sets: its holders, those that clash, a change's lock set, a set of changes' locks taken away. Assumes nothing.
 use mathlib.Core.Path.{_≡_, refl, sym, _∙_}
 use mathlib.Core.Logic.{_≢_}
-use mathlib.Core.Bool.{Bool, true, false, not, cond, and-true, _&&_, _||_}
+use mathlib.Core.Bool.{Bool, true, false, not, cond, and-true, _&&_, _||_, and-false}
 use Prim.Native.Nat.{ℕ, zero, suc, _≤_, _<_}
 use native.Mathlib.Omega.{arith}
 use lib.Dec.{ltb, eqb}
 use Rattle.rules.specs.Base.{put, anyBelow}
 use Rattle.rules.specs.Sets.{Set}
 use Rattle.rules.specs.Locks.{clash}
-use Rattle.rules.proofs.BaseLaws.{Same, same, other, same?, ltb-true, eqb-other, anyBelow-none, eqb-same, and-false, or-false-left, or-false-right}
+use Rattle.rules.proofs.BaseLaws.{Same, same, other, same?, ltb-true, eqb-other, anyBelow-none, eqb-same, or-false-left, or-false-right}
 use Rattle.locks.specs.Held.{inMode, holding, clashesWith, rowWithout}
 
 -- TESTS OF A MODE

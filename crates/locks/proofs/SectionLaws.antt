@@ -15,7 +15,7 @@ use Rattle.locks.specs.Held.{Modes, inMode}
 use Rattle.locks.proofs.BitLaws.{bitsSection, lockBits, lock-bits, bits-same, bits-read, bits-loaded, bits-stored}
 
 -- the same locks below 256, the same section
-pub section-same : (held after : ℕ → ℕ → ℕ) → ((e m c : ℕ) → e < 256 → m < 2 → c < 256 → eqb (held e c) (suc m) ≡ eqb (after e c) (suc m)) → lockSection held ≡ lockSection after
+section-same : (held after : ℕ → ℕ → ℕ) → ((e m c : ℕ) → e < 256 → m < 2 → c < 256 → eqb (held e c) (suc m) ≡ eqb (after e c) (suc m)) → lockSection held ≡ lockSection after
 unfolding lockBits
 section-same held after h = lock-bits held ∙ bits-same (lockBits held) (lockBits after) h ∙ sym (lock-bits after)
 

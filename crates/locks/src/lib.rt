@@ -28,7 +28,7 @@ pub fn writers(locks: &[u8], entry: u8) -> ChangeSet
 }
 
 // The changes that hold an entry.
-pub fn holders(locks: &[u8], entry: u8) -> ChangeSet
+fn holders(locks: &[u8], entry: u8) -> ChangeSet
     ensures { λ r. ⌜ ((held : ℕ → ℕ → ℕ) → Modes held → now (locks .entry) ≡ lockSection held → (k : ℕ) → members r k ≡ holding (held entry) k) ⌝ }
 {
     let r = readers(locks, entry);

@@ -1,7 +1,7 @@
--- Laws of the log's section. Other crates cite a file X here as Rattle.log.proofs.X.
+-- Laws of the log's section.
 -- records read, appended and replaced
 pub mod LogLaws
--- the records that no member owns
+-- the log closed up when changes have ended
 pub mod DropLaws
 -- records handed over
 pub mod MoveLaws

@@ -12,7 +12,7 @@ ghost use mathlib.Core.List.{List, [], _∷_, _++_};
 ghost use Prim.Native.Nat.{ℕ, _+_, _*_, _^_, _≤_, _<_};
 ghost use lib.ListN.{length, getD, set};
 ghost use Rattle.rules.specs.Window.{LogRecord};
-ghost use Rattle.rules.specs.Effects.{movedRecord, moveLog, unowned, undo as undone};
+ghost use Rattle.rules.specs.Effects.{addRecord, movedRecord, moveLog, unowned, undo as undone};
 ghost use Rattle.layout.specs.Codec.{noRecord, valuesSize, logSize, valueSection, logSection};
 ghost use Rattle.layout.specs.Records.{Tabled};
 ghost use Rattle.cells.specs.Part.{part, patch};
@@ -21,7 +21,7 @@ ghost use Rattle.sets.specs.Members.{members};
 ghost use Rattle.sets.specs.Entries.{onEntries};
 
 // The owner of record i.
-pub fn owner_at(log: &[u8], i: usize) -> u8
+fn owner_at(log: &[u8], i: usize) -> u8
     requires { ⌜ length (now log) ≡ logSize ⌝ }
     requires { ⌜ i < 2048 ⌝ }
     ensures { λ r. ⌜ ((l : List LogRecord) → now (log .entry) ≡ logSection l → r ≡ getD l i noRecord .owner) ⌝ }
@@ -30,7 +30,7 @@ pub fn owner_at(log: &[u8], i: usize) -> u8
 }
 
 // The entry of record i.
-pub fn entry_at(log: &[u8], i: usize) -> u8
+fn entry_at(log: &[u8], i: usize) -> u8
     requires { ⌜ length (now log) ≡ logSize ⌝ }
     requires { ⌜ i < 2048 ⌝ }
     ensures { λ r. ⌜ ((l : List LogRecord) → now (log .entry) ≡ logSection l → r ≡ getD l i noRecord .entry) ⌝ }
@@ -39,7 +39,7 @@ pub fn entry_at(log: &[u8], i: usize) -> u8
 }
 
 // The value before of record i.
-pub fn before_at(log: &[u8], i: usize) -> u32
+fn before_at(log: &[u8], i: usize) -> u32
     requires { ⌜ length (now log) ≡ logSize ⌝ }
     requires { ⌜ i < 2048 ⌝ }
     ensures { λ r. ⌜ ((l : List LogRecord) → now (log .entry) ≡ logSection l → getD l i noRecord .before < 2 ^ 32 → r ≡ getD l i noRecord .before) ⌝ }
@@ -51,7 +51,7 @@ pub fn before_at(log: &[u8], i: usize) -> u32
 pub fn append(log: &mut [u8], count: usize, owner: u8, entry: u8, before: u32)
     requires { ⌜ length (now log) ≡ logSize ⌝ }
     requires { ⌜ count < 2048 ⌝ }
-    ensures { λ _. ⌜ ((l : List LogRecord) → length l ≡ count → now (log .entry) ≡ logSection l → now (log .exit) ≡ logSection (l ++ (record { owner = owner; entry = entry; before = before } ∷ []))) ⌝ }
+    ensures { λ _. ⌜ ((l : List LogRecord) → length l ≡ count → now (log .entry) ≡ logSection l → now (log .exit) ≡ logSection (addRecord owner entry before l)) ⌝ }
 {
     let at = count * Log::RECORD;
     log[at] = owner;

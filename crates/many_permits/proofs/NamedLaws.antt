@@ -8,7 +8,7 @@ use Rattle.rules.specs.Sets.{Set}
 use Rattle.rules.specs.Window.{PermitRecord}
 use Rattle.rules.specs.Locks.{contains, makePermit}
 use Rattle.rules.proofs.BaseLaws.{Same, same, other, same?, allBelow-intro, anyBelow-none, not-true}
-use Rattle.sets.proofs.BoundLaws.{all-ext, any-or, any-and, none-as}
+use Rattle.rules.proofs.BoundLaws.{all-ext, any-or, any-and, none-as}
 use Rattle.beside.specs.Permits.{anyOf}
 use Rattle.beside.specs.Beside.{containsHeld, beside, otherHolder, othersFit, entryFits}
 use Rattle.beside.proofs.PlaceLaws.{any-same}

@@ -1,7 +1,7 @@
 -- The walk over an entry's rows that finds the givers. Assumes nothing.
 use mathlib.Core.Path.{_≡_, refl, sym, ap, ap₂, _∙_}
 use mathlib.Core.Logic.{⊎-elim}
-use mathlib.Core.Bool.{Bool, true, false, _&&_, _||_, or-assoc, false≢true}
+use mathlib.Core.Bool.{Bool, true, false, _&&_, _||_, or-assoc, false≢true, and-false}
 use mathlib.Core.List.{List, [], _∷_, _++_}
 use Prim.Native.Nat.{ℕ, suc, _+_, _-_, _≤_, _<_}
 use native.Mathlib.Nat.{eq-or-lt-of-le}
@@ -12,7 +12,7 @@ use borrow.Author.Tests.{eq-eqb, ne-eqb}
 use Rattle.rules.specs.Base.{table, any, rising}
 use Rattle.rules.specs.Window.{PermitRecord, permitKey}
 use Rattle.rules.specs.Locks.{contains, permitted}
-use Rattle.rules.proofs.BaseLaws.{and-false, no-true}
+use Rattle.rules.proofs.BaseLaws.{no-true}
 use Rattle.layout.specs.Codec.{permitSection}
 use Rattle.layout.proofs.SectionLaws.{Bytes}
 use Rattle.sets.proofs.MemberLaws.{add-passed, nothing-added}

@@ -1,6 +1,6 @@
 -- Statuses of a set of changes, and the changes of some statuses: one turn of the loops, and their ends. Assumes nothing.
 use mathlib.Core.Path.{_≡_, refl, sym, ap, ap₂, _∙_, fun-ext}
-use mathlib.Core.Bool.{Bool, true, false, not, cond, _&&_, _||_, and-true}
+use mathlib.Core.Bool.{Bool, true, false, not, cond, _&&_, _||_, and-true, and-false, or-comm}
 use mathlib.Core.List.{List}
 use Prim.Native.Nat.{ℕ, suc, _+_, _-_, _*_, _%_, _^_, _≤_, _<_, min, max}
 use native.Mathlib.Nat.{zero-mul, one-mul}
@@ -13,7 +13,7 @@ use lib.ListN.{getD}
 use Rattle.rules.specs.Base.{put, outside}
 use Rattle.rules.specs.Sets.{Set}
 use Rattle.rules.specs.Effects.{withStatuses}
-use Rattle.rules.proofs.BaseLaws.{Same, same, other, same?, ltb-true, ltb-false, Below, under, over, below, and-false, and-right, or-comm, both-ways, eqb-eq, lt-of}
+use Rattle.rules.proofs.BaseLaws.{Same, same, other, same?, ltb-true, ltb-false, Below, under, over, below, and-right, both-ways, eqb-eq, lt-of}
 use Rattle.layout.specs.Codec.{changeSection, bit, unpack}
 use Rattle.cells.proofs.Digits.{unpack-zero, unpack-power, unpack-or, unpack-mod}
 use Rattle.sets.proofs.WalkLaws.{Lowest, lowest-rises}

@@ -1,2 +1,2 @@
--- Statuses of changes, set for a set; the changes whose status lies in a range.
+-- The members of a set below a bound; the changes whose status lies in a range.
 pub mod Statuses

@@ -1,5 +1,5 @@
--- The statuses of changes when those of a set get another; the changes whose status lies in a range. Assumes nothing.
-use mathlib.Core.Bool.{cond, not, _&&_}
+-- The members of a set below a bound; the changes whose status lies in a range. Assumes nothing.
+use mathlib.Core.Bool.{not, _&&_}
 use mathlib.Core.List.{List}
 use Prim.Native.Nat.{ℕ, _*_}
 use lib.Dec.{ltb}

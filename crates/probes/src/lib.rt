@@ -1,4 +1,4 @@
-// Functions of the inner crates for the Rust tests and the benchmark.
+// The soundness check of the inner crates, exported for the Rust tests and the benchmark.
 ghost use mathlib.Core.Path.{_≡_};
 ghost use Rattle.layout.specs.Memory.{soundMemory};
 

@@ -10,7 +10,7 @@ use Rattle.rules.specs.Window.{limits, LogRecord, PermitRecord, TieRecord, Wind
 use Rattle.rules.specs.Locks.{makePermit, addPermit}
 use Rattle.rules.specs.Ties.{makeTie, addTie}
 use Rattle.rules.specs.Calls.{Write, Permit, Depend, done}
-use Rattle.rules.specs.Effects.{effect, writeEntry}
+use Rattle.rules.specs.Effects.{effect, writeEntry, addRecord}
 use Rattle.layout.specs.Codec.{valuesAt, valuesSize, permitsAt, permitsSize, tiesAt, tiesSize, logAt, logSize, figures, valueSection, permitSection, tieSection, logSection, lay, decode, encode}
 use Rattle.layout.specs.Memory.{soundBytes}
 use Rattle.layout.specs.Records.{Tabled}
@@ -22,17 +22,20 @@ use Rattle.replies.specs.declared.Reply.{Reply}
 use Rattle.replies.specs.Gives.{Gives, written}
 use Rattle.replies.proofs.GiveLaws.{given-done}
 use Rattle.reads.proofs.ReadLaws.{laid-known, permits-known, ties-known}
-use Rattle.records.specs.Logged.{withRecord}
+
+-- a window with one record more in its log
+abbrev withRecord : Window → ℕ → ℕ → ℕ → Window
+withRecord W c e before = withLog W (addRecord c e before (W .log))
 
 -- WINDOWS whose parts were put in place one by one
 module _ (W : Window) where
   one-logged : (m c e before : ℕ) → m ≡ length (W .log) → set (figures W) 2 (m + 1) ≡ figures (withRecord W c e before)
-  unfolding figures withRecord withLog
+  unfolding figures addRecord withLog
   one-logged m c e before q = rw (q, length-append W.log (record { owner = c; entry = e; before = before } ∷ [])) refl
 
   with-value : (c e v before : ℕ) → before ≡ W .value e → {bs out : List ℕ} → bs ≡ encode (withRecord W c e before) → ((x : ℕ → ℕ) → take valuesSize (drop valuesAt bs) ≡ valueSection x → out ≡ valueSection (put x e v))
       → laidAt bs valuesAt valuesSize out ≡ encode (writeEntry W c e v)
-  unfolding lay encode figures withRecord withLog withValue writeEntry
+  unfolding lay encode figures withLog withValue writeEntry
   with-value c e v before q b g = values-lent (figures (withRecord W c e before)) (withRecord W c e before) b _ (g W.value) ∙ rw q refl
 
   permits-counted : (n : ℕ) (ps : List PermitRecord) → n ≡ length ps → set (figures W) 3 n ≡ figures (withPermits W ps)
@@ -47,7 +50,7 @@ module _ (bs : List ℕ) (s : soundBytes bs ≡ true) where
   pub record-logged : (c e before m : ℕ) → m ≡ length (decode bs .log) → (o1 o2 : List ℕ)
       → ((l : List LogRecord) → length l ≡ m → take logSize (drop logAt bs) ≡ logSection l → o1 ≡ logSection (l ++ (record { owner = c; entry = e; before = before } ∷ [])))
       → FigureStored (laidAt bs logAt logSize o1) 2 (m + 1) o2 → headLaid (laidAt bs logAt logSize o1) o2 ≡ encode (withRecord (decode bs) c e before)
-  unfolding withRecord
+  unfolding addRecord
   record-logged c e before m u o1 o2 f h =
       let W = decode bs in
       figure-stored W (withRecord W c e before) (log-lent (figures W) W (laid-known bs s) _ (f W.log (sym u))) 2 (m + 1) (omega arith) h (one-logged W m c e before u)

@@ -1,4 +1,4 @@
-// What a call that enters a record in a table does when it is not refused, on the bytes of a sound window. The number of a change, an entry or a mode that is not refused fits a byte.
+// What a call that enters a record in a table does when it is not refused, on the bytes of a sound window. The numbers of changes and entries, operations and kinds that are not refused fit a byte.
 use layout::Changes;
 use layout::Entries;
 use layout::Header;
@@ -14,21 +14,20 @@ ghost use mathlib.Core.Path.{_≡_};
 ghost use mathlib.Core.Bool.{true};
 ghost use Prim.Native.Nat.{_<_};
 ghost use lib.ListN.{length};
-ghost use Rattle.rules.specs.Window.{limits};
+ghost use Rattle.rules.specs.Window.{limits, withLog};
 ghost use Rattle.rules.specs.Calls.{Write, Permit, Depend};
-ghost use Rattle.rules.specs.Effects.{effect};
+ghost use Rattle.rules.specs.Effects.{effect, addRecord};
 ghost use Rattle.rules.specs.Refusals.{checks, firstFailed};
 ghost use Rattle.layout.specs.Codec.{windowSize, decode, encode};
 ghost use Rattle.layout.specs.Memory.{soundBytes};
 ghost use Rattle.replies.specs.Gives.{Gives, written};
-ghost use Rattle.records.specs.Logged.{withRecord};
 
 // A record goes to the end of the log, and is counted.
 fn log_record(w: &mut [u8], change: u8, entry: u8, before: u32)
     requires { ⌜ length (now w) ≡ windowSize ⌝ }
     requires { ⌜ soundBytes (now w) ≡ true ⌝ }
     requires { ⌜ length (decode (now w) .log) < 2048 ⌝ }
-    ensures { λ r. ⌜ now (w .exit) ≡ encode (withRecord (decode (now (w .entry))) change entry before) ⌝ }
+    ensures { λ r. ⌜ now (w .exit) ≡ encode (withLog (decode (now (w .entry))) (addRecord change entry before (decode (now (w .entry)) .log))) ⌝ }
 {
     let count = reads::records(w);
     log::append(&mut w[Log::AT..Window::SIZE], count, change, entry, before);

@@ -14,8 +14,8 @@ pub fn done(number: u32) -> Reply
     Reply { answer: 0, number }
 }
 
-// Another answer, with second number 0.
-pub fn refused(answer: u32) -> Reply
+// Another answer, with second number 0: of a call that changes no byte.
+pub fn unchanged(answer: u32) -> Reply
     ensures { λ r. ⌜ (r .answer ≡ answer) × (r .number ≡ 0) ⌝ }
 {
     Reply { answer, number: 0 }

@@ -46,7 +46,7 @@ pub unless-not {ℓ} : {A : Type ℓ} (most : ℕ) (new old : List A) → length
 unless-not most new old h = unless-fits most new old (over-false (length new) most h)
 
 -- one row more at most
-pub length-added : (x : Row) (rs : List Row) → length (addRow x rs) ≤ suc (length rs)
+length-added : (x : Row) (rs : List Row) → length (addRow x rs) ≤ suc (length rs)
 unfolding addRow
 length-added x rs = length-insert rowKey uniteRows (λ y z. unfold rowKey uniteRows in refl) x rs
 

@@ -40,7 +40,7 @@ unfolding rowBytes rowAt
 row-part l i h = sym (part4 l (4 * i) h)
 
 -- so are those of several
-pub bytes-part : (l : List ℕ) (m i : ℕ) → 4 * i + 4 * m ≤ length l → rowsBytes (table m i (rowAt l)) ≡ part l (4 * i) (4 * m)
+bytes-part : (l : List ℕ) (m i : ℕ) → 4 * i + 4 * m ≤ length l → rowsBytes (table m i (rowAt l)) ≡ part l (4 * i) (4 * m)
 unfolding rowsBytes table part
 bytes-part l zero i h = refl
 bytes-part l (suc m) i h =

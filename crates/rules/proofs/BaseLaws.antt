@@ -38,20 +38,6 @@ or-map a b c d f g e = ⊎-elim (λ x. or-left c d (f x)) (λ x. or-right c d (g
 pub and-map : (a b c d : Bool) → (a ≡ true → c ≡ true) → (b ≡ true → d ≡ true) → a && b ≡ true → c && d ≡ true
 and-map a b c d f g e = and-both c d (f (and-left a b e)) (g (and-right a b e))
 
-pub or-true : (a : Bool) → a || true ≡ true
-or-true true = refl
-or-true false = refl
-
-pub and-false : (a : Bool) → a && false ≡ false
-and-false true = refl
-and-false false = refl
-
-pub or-comm : (a b : Bool) → a || b ≡ b || a
-or-comm true true = refl
-or-comm true false = refl
-or-comm false true = refl
-or-comm false false = refl
-
 pub and-four : (a b c d : Bool) → a && b && c && d ≡ true → (a ≡ true) × (b ≡ true) × (c ≡ true) × (d ≡ true)
 and-four a b c d e = let f = and-left (a && b && c) d e in let g = and-left (a && b) c f in (and-left a b g, and-right a b g, and-right (a && b) c f, and-right (a && b && c) d e)
 

@@ -10,7 +10,7 @@ use Rattle.rules.specs.Base.{Key, put, anyBelow, any, insert, byOrder, o
 use Rattle.rules.specs.Sets.{Set, reach}
 use Rattle.rules.specs.Window.{Limits, PermitRecord, TieRecord, Window, tieKey, withValue, withHeld, withPermits, withTies, isEnded, live, noChange}
 use Rattle.rules.specs.Ties.{isGroup, isFall, isArrow, tied, grouped, falling, makeTie, addTie, groupOf, endSet}
-use Rattle.rules.specs.Effects.{commitBlockers, entriesNamed, withStatuses, tieStays, tiesLeft, endAll, addChange, handOver}
+use Rattle.rules.specs.Effects.{commitBlockers, entriesNamed, withStatuses, tieStays, tiesLeft, endAll, addChange, handOver, leadsTo, leadersOf}
 use Rattle.rules.specs.Events.{Action, isTying, isOpening}
 use Rattle.rules.proofs.BaseLaws.{or-left, or-right, and-left, and-right, eqb-eq, eqb-same, eqb-other, Same, same, other, same?, Below, under, over, below, ltb-true, any-intro}
 use Rattle.rules.proofs.DemandMoves.{shownStatus, Calm, Move, opened, started, calm, locked, granted, handed, tied as tieing, committed, aborted, live-status}
@@ -99,7 +99,7 @@ module _ (L : Limits) (W : Window) (z : Sound L W) where
         stay t p q = rw (eqb-eq (t .leader) l (and-right (k (t .kind)) _ p), eqb-eq (t .follower) f q, hl, hf)
 
   arrow-blocks : (g : Set) (k l f : ℕ) → isArrow k ≡ true → tied (W .ties) (ofKind k) l f ≡ true → g f ≡ true → commitBlockers W g l ≡ true
-  unfolding tied commitBlockers
+  unfolding tied commitBlockers leadersOf leadsTo
   arrow-blocks g k l f a e h = or-right (g l && not (eqb (W .status l) 3)) _ (weaken (W .ties) e)
     where
       one : (t : TieRecord) → eqb (t .kind) k && eqb (t .leader) l && eqb (t .follower) f ≡ true → isArrow (t .kind) && eqb (t .leader) l && g (t .follower) ≡ true

@@ -19,7 +19,7 @@ use Rattle.rules.proofs.DemandTies.{Bound, stands, over as gone}
 use Rattle.rules.proofs.SetLaws.{reach-to, reach-seed, reach-closed}
 use Rattle.rules.proofs.SoundParts.{live-below}
 
-pub test-grouped : (p : List Event) (a b : ℕ) → isGrouped p a b ≡ true → Grouped p a b
+test-grouped : (p : List Event) (a b : ℕ) → isGrouped p a b ≡ true → Grouped p a b
 unfolding isGrouped
 test-grouped p a b = reach-to (suc (highest p)) _ (Grouped p a) (λ d e g q. ⊎-elim (along g) (against g) (or-cases (tieMade p 3 d e) _ q)) a itself b
 

@@ -51,7 +51,7 @@ pub data Move (W : Window) : Action → ℕ → Window → Type 0 where
   committed : (c k : ℕ) → live W c ≡ true → anyBelow (suc (W .given)) (commitBlockers W (groupOf W c)) ≡ false → Move W nothing k (endAll 4 (groupOf W c) W)
   aborted : (c k : ℕ) (v : ℕ → ℕ) → live W c ≡ true → Move W nothing k (endAll 5 (endSet W c) (withValue W v))
 
-pub calm-same : (W : Window) → Calm W W
+calm-same : (W : Window) → Calm W W
 calm-same W = record { stay = λ c e. refl; fewer = λ c e. e; on = λ c e. e; given = refl; entries = refl; held = refl; permits = refl; ties = refl }
 
 pub not-ended : (x : ℕ) → isLive x ≡ true → isEnded x ≡ false

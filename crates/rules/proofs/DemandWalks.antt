@@ -13,7 +13,7 @@ use Rattle.rules.specs.Window.{Limits, TieRecord, Window, isEnded, noCha
 use Rattle.rules.specs.Ties.{isGroup, isArrow, tied, grouped, leading, acyclic, groupOf}
 use Rattle.rules.specs.Sound.{tieSound}
 use Rattle.rules.specs.Calls.{Call, Commit, done, unchanged}
-use Rattle.rules.specs.Effects.{effect, commitChange, commitBlockers, commitGroup, withStatuses, tiesLeft, endAll}
+use Rattle.rules.specs.Effects.{effect, commitChange, commitBlockers, commitGroup, withStatuses, tiesLeft, endAll, leadsTo, leadersOf}
 use Rattle.rules.specs.Refusals.{step, settle, checks, firstFailed, _if_}
 use Rattle.rules.specs.Lists.{final, walks}
 use Rattle.rules.proofs.BaseLaws.{not-true, never, none-below, or-none, or-left, or-right, or-cases, and-both, and-left, and-right, Same, same, other, same?, ltb-true, any-intro, any-elim, Within, count-within, count-same}
@@ -178,7 +178,7 @@ module _ (L : Limits) (W : Window) (z : Sound L W) where
   -- with all live changes completed, where one lives there is one whose group can commit
   module _ (ready : (c : ℕ) → live W c ≡ true → W .status c ≡ 3) where
     unblocked : (d : ℕ) → live W d ≡ true → blocked (suc (W .given)) (W .ties) d ≡ false → anyBelow (suc (W .given)) (commitBlockers W (groupOf W d)) ≡ false
-    unfolding blocked commitBlockers groupOf
+    unfolding blocked commitBlockers leadersOf leadsTo groupOf
     unblocked d ld h = none-below (suc (W .given)) _ (λ x k e. ⊎-elim (λ q. unready x q) (λ q. led x q) (or-cases (reach (suc (W .given)) (grouped (W .ties)) d x && not (eqb (W .status x) 3)) _ e))
       where
         unready : (x : ℕ) → reach (suc (W .given)) (grouped (W .ties)) d x && not (eqb (W .status x) 3) ≡ true → ⊥

@@ -4,8 +4,10 @@ pub mod Computing
 pub mod Cases
 pub mod SoundCases
 pub mod ListCases
--- tests, lists, orders, sets, ties
+-- tests, numbers below a bound, walks that ask a test of one number after the other, lists, orders, sets, ties
 pub mod BaseLaws
+pub mod BoundLaws
+pub mod TurnLaws
 pub mod ListLaws
 pub mod SortLaws
 pub mod SetLaws

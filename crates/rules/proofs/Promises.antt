@@ -14,7 +14,7 @@ use Rattle.rules.specs.Window.{Limits, LogRecord, TieRecord, Window, tie
 use Rattle.rules.specs.Locks.{clash, permitted}
 use Rattle.rules.specs.Ties.{makeTie, addTie, acyclic, isArrow, tied, grouped, falling, groupOf, endSet}
 use Rattle.rules.specs.Calls.{Lock, Commit, Abort, done, unchanged}
-use Rattle.rules.specs.Effects.{covers, lockBlockers, grantable, lockEntry, commitBlockers, commitGroup, commitChange, undo, withStatuses, endAll, abortAll, abortChange, effect}
+use Rattle.rules.specs.Effects.{covers, lockBlockers, grantable, lockEntry, commitBlockers, commitGroup, commitChange, undo, withStatuses, endAll, abortAll, abortChange, effect, leadsTo, leadersOf}
 use Rattle.rules.specs.Refusals.{checks, firstFailed, _if_, settle, step}
 use Rattle.rules.proofs.BaseLaws.{lt-of, or-cases, or-none, and-both, and-left, and-right, not-true, not-false, ne-of, eqb-eq, none-below, anyBelow-none}
 use Rattle.rules.proofs.DemandMoves.{live-status, not-ended}
@@ -103,7 +103,7 @@ module _ (L : Limits) (W : Window) (z : Sound L W) (c : ℕ) (lc : live W c ≡ 
     pub unled : (l f : ℕ) → groupOf W c f ≡ true → tied W.ties isArrow l f ≡ true → ⊥
 
   free-of : anyBelow (suc W.given) (commitBlockers W (groupOf W c)) ≡ false → Free
-  unfolding commitBlockers tied
+  unfolding commitBlockers leadersOf leadsTo tied
   free-of none = record { completed = completed; unled = unled }
     where
       clear : (d : ℕ) → live W d ≡ true → (groupOf W c d && not (eqb (W .status d) 3) ≡ false) × (any (λ t. isArrow t.kind && eqb t.leader d && groupOf W c t.follower) W.ties ≡ false)
@@ -119,7 +119,7 @@ module _ (L : Limits) (W : Window) (z : Sound L W) (c : ℕ) (lc : live W c ≡ 
           one t q = and-both (isArrow t.kind && eqb t.leader l) _ (and-left (isArrow t.kind && eqb t.leader l) _ q) (rw (eqb-eq t.follower f (and-right (isArrow t.kind && eqb t.leader l) _ q)) g)
 
   of-free : Free → anyBelow (suc W.given) (commitBlockers W (groupOf W c)) ≡ false
-  unfolding commitBlockers
+  unfolding commitBlockers leadersOf leadsTo
   of-free f = none-below (suc W.given) _ (λ d h e. ⊎-elim (unready d) (led d) (or-cases (groupOf W c d && not (eqb (W .status d) 3)) _ e))
     where
       unready : (d : ℕ) → groupOf W c d && not (eqb (W .status d) 3) ≡ true → ⊥

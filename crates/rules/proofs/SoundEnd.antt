@@ -1,7 +1,7 @@
 -- Ending a set of live changes keeps a window sound. Assumes nothing.
 use mathlib.Core.Path.{_≡_, refl, sym, _∙_, ap, fun-ext}
 use mathlib.Core.Logic.{⊎-elim}
-use mathlib.Core.Bool.{Bool, true, false, not, cond, _&&_, _||_, false≢true}
+use mathlib.Core.Bool.{Bool, true, false, not, cond, _&&_, _||_, false≢true, or-true, and-false}
 use Prim.Native.Nat.{ℕ, suc}
 use lib.Dec.{leb, ltb, eqb}
 use Rattle.rules.specs.Base.{all, outside}
@@ -10,7 +10,7 @@ use Rattle.rules.specs.Window.{Limits, LogRecord, PermitRecord, TieRecor
 use Rattle.rules.specs.Locks.{pairPermitted, permitted, contains, clash}
 use Rattle.rules.specs.Sound.{statusSound, heldSound, recordSound, permitSound, tieSound}
 use Rattle.rules.specs.Effects.{withStatuses, released, isUnowned, unowned, permitStays, permitsLeft, tieStays, tiesLeft, endAll}
-use Rattle.rules.proofs.BaseLaws.{or-cases, or-map, or-true, and-left, and-right, and-false, not-true, no-true, or-false-left, or-false-right, eqb-eq, ltb-true}
+use Rattle.rules.proofs.BaseLaws.{or-cases, or-map, and-left, and-right, not-true, no-true, or-false-left, or-false-right, eqb-eq, ltb-true}
 use Rattle.rules.proofs.ListLaws.{all-weaken, all-keep, any-keep-up, fewer}
 use Rattle.rules.proofs.SortLaws.{rising-keep}
 use Rattle.rules.proofs.SoundParts.{Sound, clash-left, clash-right, live-below, live-zero, live-change, ends-live}

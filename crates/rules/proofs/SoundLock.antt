@@ -1,7 +1,7 @@
 -- A lock that is granted keeps a window sound. Assumes nothing.
 use mathlib.Core.Path.{_≡_, refl, sym, _∙_, ap}
 use mathlib.Core.Logic.{_⊎_, inl, inr, ⊎-elim, _≢_}
-use mathlib.Core.Bool.{Bool, true, false, not, cond, _&&_, _||_, false≢true}
+use mathlib.Core.Bool.{Bool, true, false, not, cond, _&&_, _||_, false≢true, or-comm, or-true}
 use Prim.Native.Nat.{ℕ, suc}
 use lib.Dec.{leb, ltb, eqb}
 use Rattle.rules.specs.Base.{put2}
@@ -9,7 +9,7 @@ use Rattle.rules.specs.Window.{Limits, LogRecord, Window, withHeld, live
 use Rattle.rules.specs.Locks.{clash, permitted, pairPermitted}
 use Rattle.rules.specs.Sound.{heldSound, recordSound}
 use Rattle.rules.specs.Effects.{lockBlockers, grantable, putHeld}
-use Rattle.rules.proofs.BaseLaws.{anyBelow-none, not-true, Below, under, over as beyond, below, Same, same, other, same?, eqb-other, eqb-eq, eqb-same, or-left, or-right, or-comm, or-true}
+use Rattle.rules.proofs.BaseLaws.{anyBelow-none, not-true, Below, under, over as beyond, below, Same, same, other, same?, eqb-other, eqb-eq, eqb-same, or-left, or-right}
 use Rattle.rules.proofs.ListLaws.{all-weaken}
 use Rattle.rules.proofs.SoundParts.{Sound, clash-left, held-no-change, record-parts}
 

@@ -1,7 +1,7 @@
 -- Soundness part by part, with no bound on the places: the form in which calls are seen to keep it. Assumes nothing.
 use mathlib.Core.Path.{_≡_, refl, sym, _∙_}
 use mathlib.Core.Logic.{⊎-elim}
-use mathlib.Core.Bool.{Bool, true, false, not, cond, _&&_, _||_, false≢true}
+use mathlib.Core.Bool.{Bool, true, false, not, cond, _&&_, _||_, false≢true, or-true, and-false}
 use mathlib.Core.List.{List, [], _∷_}
 use Prim.Native.Nat.{ℕ, suc, _<_, _≤_, _^_}
 use native.Mathlib.Omega.{arith}
@@ -13,7 +13,7 @@ use Rattle.rules.specs.Window.{Limits, LogRecord, PermitRecord, TieRecor
 use Rattle.rules.specs.Locks.{clash, clashesPermitted, pairPermitted}
 use Rattle.rules.specs.Ties.{isGroup, acyclic}
 use Rattle.rules.specs.Sound.{sound, parts, valueSound, statusSound, parentSound, heldSound, recordSound, permitSound, tieSound}
-use Rattle.rules.proofs.BaseLaws.{Below, under, over as beyond, below, eqb-eq, and-left, and-right, and-both, or-left, or-right, or-cases, or-true, and-false, allBelow-at, allBelow-intro, within-of, le-of, lt-of, ltb-true, ltb-false, ge-of, ne-of, not-true, or-false-left, or-false-right, eqb-other, and-four, and-five}
+use Rattle.rules.proofs.BaseLaws.{Below, under, over as beyond, below, eqb-eq, and-left, and-right, and-both, or-left, or-right, or-cases, allBelow-at, allBelow-intro, within-of, le-of, lt-of, ltb-true, ltb-false, ge-of, ne-of, not-true, or-false-left, or-false-right, eqb-other, and-four, and-five}
 use Rattle.rules.proofs.ListLaws.{all-weaken}
 
 pub record Sound (L : Limits) (W : Window) : Type 0 where
@@ -58,7 +58,7 @@ pub inside-of : (low high x : ℕ) → outside low high x ≡ false → (low ≤
 unfolding outside
 inside-of low high x e = (ge-of x low (or-false-left (ltb x low) (ltb high x) e), ge-of high x (or-false-right (ltb x low) (ltb high x) e))
 
-pub outside-false : (low high x : ℕ) → low ≤ x → x ≤ high → outside low high x ≡ false
+outside-false : (low high x : ℕ) → low ≤ x → x ≤ high → outside low high x ≡ false
 unfolding outside
 outside-false low high x h l = rw (ltb-false x low h, ltb-false high x l)
 

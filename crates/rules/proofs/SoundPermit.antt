@@ -1,6 +1,6 @@
 -- A permit given keeps a window sound. Assumes nothing.
 use mathlib.Core.Path.{_≡_, refl}
-use mathlib.Core.Bool.{Bool, true, false, not, cond, _&&_, _||_}
+use mathlib.Core.Bool.{Bool, true, false, not, cond, _&&_, _||_, or-true}
 use mathlib.Core.List.{List}
 use Prim.Native.Nat.{ℕ}
 use lib.Dec.{eqb}
@@ -10,7 +10,7 @@ use Rattle.rules.specs.Sets.{Set}
 use Rattle.rules.specs.Window.{Limits, PermitRecord, Window, permitKey, withPermits, live}
 use Rattle.rules.specs.Locks.{contains, clash, permitted, pairPermitted, unitePermits, addPermit}
 use Rattle.rules.specs.Sound.{permitSound}
-use Rattle.rules.proofs.BaseLaws.{or-map, or-true, and-map}
+use Rattle.rules.proofs.BaseLaws.{or-map, and-map}
 use Rattle.rules.proofs.SortLaws.{all-insert, insert-rising, any-insert}
 use Rattle.rules.proofs.SoundParts.{Sound, permit-parts}
 

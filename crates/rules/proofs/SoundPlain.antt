@@ -1,6 +1,6 @@
 -- A fresh window is sound; values, the log, a status and a new change keep a window sound. Assumes nothing.
 use mathlib.Core.Path.{_≡_, refl, sym, _∙_, ap, fun-ext}
-use mathlib.Core.Bool.{Bool, true, false, not, cond, _&&_, _||_}
+use mathlib.Core.Bool.{Bool, true, false, not, cond, _&&_, _||_, or-true}
 use mathlib.Core.List.{List, [], _∷_, _++_}
 use Prim.Native.Nat.{ℕ, suc, _≤_, _^_}
 use native.Mathlib.Omega.{arith}
@@ -13,7 +13,7 @@ use Rattle.rules.specs.Locks.{clash, pairPermitted}
 use Rattle.rules.specs.Ties.{acyclic}
 use Rattle.rules.specs.Sound.{valueSound, statusSound, parentSound, heldSound, recordSound, permitSound, tieSound}
 use Rattle.rules.specs.Effects.{undo, addChange}
-use Rattle.rules.proofs.BaseLaws.{both-ways, Same, same, other, same?, or-map, or-true, and-left, and-right, and-map, eqb-other, ltb-true, ltb-false, lt-of}
+use Rattle.rules.proofs.BaseLaws.{both-ways, Same, same, other, same?, or-map, and-left, and-right, and-map, eqb-other, ltb-true, ltb-false, lt-of}
 use Rattle.rules.proofs.ListLaws.{all-weaken, all-append, length-append-one}
 use Rattle.rules.proofs.SoundParts.{Sound, live-below, ends-below, record-parts, permit-parts, tie-parts}
 use Rattle.rules.proofs.TieLaws.{acyclic-more}

@@ -11,7 +11,7 @@ use Rattle.rules.specs.Locks.{makePermit}
 use Rattle.rules.specs.Ties.{grouped, falling, makeTie, groupOf, endSet}
 use Rattle.rules.specs.Sound.{sound, recordSound, permitSound}
 use Rattle.rules.specs.Calls.{Call, Open, Initiate, Begin, Complete, Lock, Read, Write, Permit, Delegate, Depend, Commit, Abort, Status, Parent, Value, arguments, fits, Outcome, done, unchanged}
-use Rattle.rules.specs.Effects.{effect, covers, lockEntry, writeEntry, entriesNamed, commitChange, abortChange, grantable, commitBlockers, commitGroup, abortAll, undo}
+use Rattle.rules.specs.Effects.{effect, covers, lockEntry, writeEntry, entriesNamed, commitChange, abortChange, grantable, commitBlockers, commitGroup, abortAll, undo, addRecord}
 use Rattle.rules.specs.Refusals.{Check, firstFailed, _if_, checks, step, settle}
 use Rattle.rules.proofs.BaseLaws.{and-left, and-right, or-false-left, or-false-right, not-false, eqb-eq, ge-of, gt-of, ltb-true, leb-true}
 use Rattle.rules.proofs.SetLaws.{reach-to}
@@ -58,7 +58,7 @@ codes L W (Parent c) = refl
 codes L W (Value e) = refl
 
 -- open asks nothing of the window
-pub open-sound : (L : Limits) (W : Window) (n : ℕ) → Passed (checks L W (Open n)) → Sound L (effect W (Open n) .after)
+open-sound : (L : Limits) (W : Window) (n : ℕ) → Passed (checks L W (Open n)) → Sound L (effect W (Open n) .after)
 unfolding checks _if_ effect done
 open-sound L W n p = fresh-sound L n (ltb-true 0 n (omega (arith, ge-of n 1 (or-false-left (ltb n 1) (exceeds n L.entries) (p .0))))) (ap not (or-false-right (ltb n 1) (exceeds n L.entries) (p .0)))
 
@@ -94,7 +94,7 @@ module _ (L : Limits) (W : Window) (k : Sound L W) where
       (λ free. lock-sound L W c e m k (leb-true m 2 (inside-of 1 2 m (p .1 .1 .0) .1)) (entry-of e (p .1 .0)) (live-at c 2 (p .0) (not-false _ (p .1 .1 .1 .0)) (omega arith) (omega arith)) short free) (λ h. k))
 
   writes : (c e v : ℕ) → fits (Write c e v) ≡ true → Passed (checks L W (Write c e v)) → Sound L (effect W (Write c e v) .after)
-  unfolding fits arguments all checks _if_ effect writeEntry done running withValue live recordSound
+  unfolding fits arguments all checks _if_ effect writeEntry addRecord done running withValue live recordSound
   writes c e v a p =
       let x : ltb v (2 ^ 32) ≡ true = and-left (ltb v (2 ^ 32)) true (and-right (ltb e (2 ^ 32)) _ (and-right (ltb c (2 ^ 32)) _ a)) in
       let r : recordSound W.entries (live W) W.held (record { owner = c; entry = e; before = W .value e }) ≡ true =

@@ -46,9 +46,13 @@ unfoldable pub lockEntry : Window → ℕ → ℕ → ℕ → Outcome
 lockEntry W c e m = cond (covers (W .held e c) m) (done 0 W) (cond (grantable W c e m) (done 0 (putHeld W e c m)) (unchanged 20 0 W))
 
 -- WRITE
+-- "adds a log record": at the end
+unfoldable pub addRecord : ℕ → ℕ → ℕ → List LogRecord → List LogRecord
+addRecord owner entry before l = l ++ (record { owner = owner; entry = entry; before = before } ∷ [])
+
 -- "adds a log record with the old value, then stores, equal values too"
 unfoldable pub writeEntry : Window → ℕ → ℕ → ℕ → Window
-writeEntry W c e v = withLog (withValue W (put W.value e v)) (W.log ++ (record { owner = c; entry = e; before = W .value e } ∷ []))
+writeEntry W c e v = withLog (withValue W (put W.value e v)) (addRecord c e (W .value e) W.log)
 
 -- DELEGATE (delegation)
 -- "65,535 is every entry"
@@ -137,9 +141,16 @@ endAll how s W = record {
 unfoldable pub size : Window → Set → ℕ
 size W s = countBelow (suc W.given) s
 
+-- "all leaders of wait or fall ties to any member": whether c leads a member by a tie, and by one of a list
+unfoldable pub leadsTo : Set → ℕ → TieRecord → Bool
+leadsTo g c t = isArrow t.kind && eqb t.leader c && g t.follower
+
+unfoldable pub leadersOf : List TieRecord → Set → Set
+leadersOf ts g c = any (leadsTo g c) ts
+
 -- "the members of its group that are not completed, and all leaders of wait or fall ties to any member"
 unfoldable pub commitBlockers : Window → Set → Set
-commitBlockers W g c = g c && not (eqb (W .status c) 3) || any (λ t. isArrow t.kind && eqb t.leader c && g t.follower) W.ties
+commitBlockers W g c = g c && not (eqb (W .status c) 3) || leadersOf W.ties g c
 
 -- "If there is any, the answer is 20, its second number is the lowest change number in that set, and no byte changes. If there is none, the whole group becomes committed"
 unfoldable pub commitGroup : Window → Set → Outcome

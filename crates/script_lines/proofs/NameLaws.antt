@@ -24,7 +24,7 @@ unfolding placeAmong
 nowhere l k = refl
 
 -- IN ONE OF TWO LISTS OF NAMES
-pub among-both : (k : ℕ) (ns ms : List (List ℕ)) (l : List ℕ) {r : ℕ} → r ≡ placeAmong k ns l → (r ≡ 0 → ⊥) → r ≡ placeAmong k (ns ++ ms) l
+among-both : (k : ℕ) (ns ms : List (List ℕ)) (l : List ℕ) {r : ℕ} → r ≡ placeAmong k ns l → (r ≡ 0 → ⊥) → r ≡ placeAmong k (ns ++ ms) l
 unfolding placeAmong
 among-both k [] ms l e z = absurd (z e)
 among-both k (n ∷ ns) ms l e z = go (sameBytes l n) (λ q. among-both (suc k) ns ms l q z) e
@@ -33,7 +33,7 @@ among-both k (n ∷ ns) ms l e z = go (sameBytes l n) (λ q. among-both (suc k) 
     go true ih q = q
     go false ih q = ih q
 
-pub among-second : (k : ℕ) (ns ms : List (List ℕ)) (l : List ℕ) → 1 ≤ k → 0 ≡ placeAmong k ns l → placeAmong k (ns ++ ms) l ≡ placeAmong (length ns + k) ms l
+among-second : (k : ℕ) (ns ms : List (List ℕ)) (l : List ℕ) → 1 ≤ k → 0 ≡ placeAmong k ns l → placeAmong k (ns ++ ms) l ≡ placeAmong (length ns + k) ms l
 unfolding placeAmong
 among-second k [] ms l h z = let e : length {A = List ℕ} [] + k ≡ k = omega arith in rw e
 among-second k (n ∷ ns) ms l h z = go (sameBytes l n) (among-second (suc k) ns ms l (omega arith)) z

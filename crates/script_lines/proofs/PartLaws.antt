@@ -39,7 +39,7 @@ module _ (s : ℕ) where
       go ih false h = ap (inFront x) (ih (omega arith))
 
 -- there is always a part
-pub some-part : (s : ℕ) (l : List ℕ) → (f : List ℕ) × ((fs : List (List ℕ)) × (partedBy s l ≡ f ∷ fs))
+some-part : (s : ℕ) (l : List ℕ) → (f : List ℕ) × ((fs : List (List ℕ)) × (partedBy s l ≡ f ∷ fs))
 unfolding partedBy inFront
 some-part s [] = ([], ([], refl))
 some-part s (x ∷ l) = go (eqb x s) (some-part s l)
@@ -72,7 +72,7 @@ module _ (l : List ℕ) (from i : ℕ) where
       }
 
 -- no call has the number 0
-pub no-fields : numbered 0 0 0 0 0 ≡ none
+no-fields : numbered 0 0 0 0 0 ≡ none
 unfolding numbered isArgument callOf made placed readings
 no-fields = refl
 

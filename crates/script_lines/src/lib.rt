@@ -1,6 +1,6 @@
 // A script's lines: which call a line asks for, and its reply.
 use replies::Reply;
-use replies::refused;
+use replies::unchanged;
 use script_calls::make;
 use text::NO_NUMBER;
 ghost use mathlib.Core.Path.{_≡_};
@@ -79,7 +79,7 @@ fn among_last(name: &[u8]) -> u32
 }
 
 // The number of the call with a name, 0 if no call has it.
-pub fn call_number(name: &[u8]) -> u32
+fn call_number(name: &[u8]) -> u32
     ensures { λ r. ⌜ r ≡ callNumber (now (name .entry)) ⌝ }
 {
     let low = among_first(name);
@@ -193,12 +193,12 @@ pub fn answer(memory: &mut [u8], line: &[u8]) -> Reply
     ensures { λ r. ⌜ Gives (replyTo (now (memory .entry)) (now (line .entry))) r (now (memory .exit)) ⌝ }
 {
     if line.len() > 64 {
-        return refused(30);
+        return unchanged(30);
     }
     let f = take_apart(line);
     let arguments = (f.a < NO_NUMBER) & (f.b < NO_NUMBER) & (f.c < NO_NUMBER) & (f.d < NO_NUMBER);
     if !arguments {
-        return refused(30);
+        return unchanged(30);
     }
     make(
         memory,

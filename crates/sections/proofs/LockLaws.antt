@@ -1,7 +1,7 @@
 -- The locks: readers and writers of each entry, live and apart, and zeros. Assumes nothing.
 use mathlib.Core.Path.{_≡_, refl, sym, _∙_, ap}
 use mathlib.Core.Logic.{⊎-elim}
-use mathlib.Core.Bool.{Bool, true, false, not, cond, _&&_, _||_, false≢true}
+use mathlib.Core.Bool.{Bool, true, false, not, cond, _&&_, _||_, false≢true, and-false}
 use mathlib.Core.List.{List}
 use Prim.Native.Nat.{ℕ, zero, suc, _+_, _-_, _*_, _/_, _%_, _^_, _≤_, _<_}
 use native.Mathlib.Omega.{arith}
@@ -11,7 +11,7 @@ use lib.Seq.{ext-getD}
 use Rattle.rules.specs.Base.{allBelow, table}
 use Rattle.rules.specs.Sets.{Set}
 use Rattle.rules.specs.Sound.{heldSound}
-use Rattle.rules.proofs.BaseLaws.{and-left, and-right, or-cases, and-false, no-true, not-true, not-false, eqb-eq, ltb-true, ltb-false, lt-of, allBelow-at, allBelow-intro, Same, same, other, same?, Below, under, over, below}
+use Rattle.rules.proofs.BaseLaws.{and-left, and-right, or-cases, no-true, not-true, not-false, eqb-eq, ltb-true, ltb-false, lt-of, allBelow-at, allBelow-intro, Same, same, other, same?, Below, under, over, below}
 use Rattle.layout.specs.Codec.{bit, pack, unpack, lockByte, lockSection}
 use Rattle.layout.proofs.CodecLaws.{pack-most, pack-same, pack-none, unpack-pack}
 use Rattle.layout.proofs.SectionLaws.{Bytes, length-table, getD-table0}

@@ -26,7 +26,7 @@ use Rattle.sections.proofs.ByteLaws.{join4-below, byte-join4}
 use Rattle.sections.proofs.LockLaws.{held-live}
 
 -- a writer's bit is the write lock
-pub writes-held : (locks : List ℕ) (held : ℕ → ℕ → ℕ) → locks ≡ lockSection held → (e c : ℕ) → e < 256 → c < 256 → writes locks e c ≡ eqb (held e c) 2
+writes-held : (locks : List ℕ) (held : ℕ → ℕ → ℕ) → locks ≡ lockSection held → (e c : ℕ) → e < 256 → c < 256 → writes locks e c ≡ eqb (held e c) 2
 unfolding writes lockBits
 writes-held locks held q e c he hc = let p : e * 64 + 32 ≡ e * 64 + 1 * 32 = omega arith in
     ap (λ l. bytesHave l (e * 64 + 32) c) (q ∙ lock-bits held) ∙ bits-read (lockBits held) e 1 (e * 64 + 32) he (omega arith) p c hc

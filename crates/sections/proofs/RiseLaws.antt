@@ -1,6 +1,6 @@
 -- Rows walked in rising order: each is tested by itself, and its rank against a bound that is carried from row to row. Assumes nothing.
 use mathlib.Core.Path.{_≡_, refl, sym, _∙_}
-use mathlib.Core.Bool.{Bool, true, false, not, _&&_}
+use mathlib.Core.Bool.{Bool, true, false, not, _&&_, and-false}
 use mathlib.Core.List.{List}
 use Prim.Native.Nat.{ℕ, _+_, _-_, _≤_, _<_}
 use native.Mathlib.Numerals.{add-one}
@@ -8,9 +8,9 @@ use native.Mathlib.Omega.{arith}
 use lib.Dec.{leb}
 use borrow.Author.Tests.{lt-leb}
 use Rattle.rules.specs.Base.{allBelow}
-use Rattle.rules.proofs.BaseLaws.{and-false, not-true, not-false, leb-true, eqb-other}
+use Rattle.rules.proofs.BaseLaws.{not-true, not-false, leb-true, eqb-other}
 use Rattle.layout.proofs.SectionLaws.{Bytes}
-use Rattle.sets.proofs.TurnLaws.{none-yet, turn-failed, turn-passed}
+use Rattle.rules.proofs.TurnLaws.{none-yet, turn-failed, turn-passed}
 use Rattle.rows.specs.Rows.{rank, rowAt}
 use Rattle.rows.proofs.OrderLaws.{small-at}
 use Rattle.sections.specs.Cells.{inOrder}

@@ -14,7 +14,7 @@ use Rattle.layout.specs.Codec.{unpack}
 use Rattle.cells.specs.Bits.{bytesHave}
 use Rattle.cells.proofs.Digits.{unpack-or, unpack-and, unpack-not}
 use Rattle.sets.specs.Members.{stored}
-use Rattle.sets.proofs.BoundLaws.{all-ext, none-as}
+use Rattle.rules.proofs.BoundLaws.{all-ext, none-as}
 use Rattle.sets.proofs.GatherLaws.{Gathered, gathered-more, gathered-all}
 use Rattle.sets.proofs.Bytes.{stored-have}
 use Rattle.sections.specs.Cells.{reads, writes, lockFits, rowFits}

@@ -1,6 +1,6 @@
 -- A set's words and its 32 bytes: what is loaded, what is stored, and that it is read again. Assumes nothing.
 use mathlib.Core.Path.{_≡_, sym, ap, ap₂, _∙_}
-use mathlib.Core.Bool.{Bool, false}
+use mathlib.Core.Bool.{Bool, false, and-false}
 use mathlib.Core.List.{List, [], _∷_, _++_}
 use Prim.Native.Nat.{ℕ, _+_, _*_, _/_, _%_, _≤_, _<_}
 use native.Mathlib.Nat.{mod-lt}
@@ -11,7 +11,7 @@ use lib.ListN.{length, getD, length-append}
 use lib.Pow.{pow-pos}
 use Rattle.rules.specs.Base.{table}
 use Rattle.rules.specs.Sets.{Set}
-use Rattle.rules.proofs.BaseLaws.{ltb-true, ltb-false, and-false}
+use Rattle.rules.proofs.BaseLaws.{ltb-true, ltb-false}
 use Rattle.layout.specs.Codec.{byte, pack, unpack}
 use Rattle.layout.proofs.SectionLaws.{length-table, getD-table0}
 use Rattle.layout.proofs.RecordLaws.{table-append}
@@ -104,7 +104,7 @@ words-bytes s =
     both a b = a ++ b
 
 -- where there is room they stand there, and nothing else has changed; elsewhere nothing has
-pub stored-full : (s : Set) (bs : List ℕ) (at : ℕ) → at + 32 ≤ length bs → stored s bs at ≡ patch bs at (setBytes s)
+stored-full : (s : Set) (bs : List ℕ) (at : ℕ) → at + 32 ≤ length bs → stored s bs at ≡ patch bs at (setBytes s)
 unfolding stored
 stored-full s bs at h = rw (le-leb (at + 32) (length bs) h)
 
@@ -132,7 +132,7 @@ stored-words s d l m n o at room el em en eo = eo ∙ next (at + 24) _ 3 (en ∙
 
 -- READ AGAIN
 -- what was stored is what is read
-pub stored-bit : (s : Set) (d : List ℕ) (at : ℕ) → at + 32 ≤ length d → (k : ℕ) → k < 256 → bytesHave (stored s d at) at k ≡ s k
+stored-bit : (s : Set) (d : List ℕ) (at : ℕ) → at + 32 ≤ length d → (k : ℕ) → k < 256 → bytesHave (stored s d at) at k ≡ s k
 unfolding setByte
 stored-bit s d at room k h =
     let e : k / 8 * 8 + k % 8 ≡ k = omega arith in

@@ -1,8 +1,4 @@
 -- What is proved of sets of changes. Other crates cite a file X here as Rattle.sets.proofs.X.
--- the numbers below a bound that pass a test
-pub mod BoundLaws
--- walks that ask a test of one number after the other
-pub mod TurnLaws
 -- walks over the members of a set, the lowest first
 pub mod WalkLaws
 -- four words as a set

@@ -22,7 +22,7 @@ use Rattle.passes.proofs.PassLaws.{Inside, Stable, Growing, pulled-follower, pu
 use Rattle.sets.specs.declared.Along.{Along}
 use Rattle.sets.specs.Closure.{relation, lowKind, Spread}
 use Rattle.sets.specs.Members.{members}
-use Rattle.sets.proofs.BoundLaws.{count-more}
+use Rattle.rules.proofs.BoundLaws.{count-more}
 use Rattle.sets.proofs.WalkLaws.{Lowest, lowest-of, rest-without}
 use Rattle.sets.proofs.MemberLaws.{four-words}
 use Rattle.sets.proofs.Words.{ofWords}
@@ -35,7 +35,7 @@ either false = inr refl
 
 -- ROWS
 -- rows of zeros hold nothing
-pub rows-none : (x y : ℕ) → rowHas (replicate 1024 0) x y ≡ false
+rows-none : (x y : ℕ) → rowHas (replicate 1024 0) x y ≡ false
 unfolding rowHas
 rows-none x y = rw (zero-at (x * 4 + y / 64), unpack-zero (y % 64)) (and-false (ltb y 256))
   where

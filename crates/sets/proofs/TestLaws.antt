@@ -18,7 +18,7 @@ use Rattle.cells.proofs.Digits.{unpack-zero, unpack-ext, trailing-hit}
 use Rattle.words.proofs.BitLaws.{eqb-iff}
 use Rattle.sets.specs.Members.{members, agree}
 use Rattle.sets.specs.declared.ChangeSet.{ChangeSet}
-use Rattle.sets.proofs.BoundLaws.{lowest-is}
+use Rattle.rules.proofs.BoundLaws.{lowest-is}
 use Rattle.sets.proofs.Words.{ofWords, place, each-of-4, or-four, xor-zero, low-at}
 use Rattle.sets.proofs.MemberLaws.{members-above, words-are, words-none, members-ext, agree-at, agree-all}
 

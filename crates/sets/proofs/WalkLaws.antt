@@ -8,7 +8,7 @@ use lib.Dec.{eqb}
 use Rattle.rules.specs.Base.{lowestBelow}
 use Rattle.rules.specs.Sets.{Set}
 use Rattle.rules.proofs.BaseLaws.{Same, same, other, same?}
-use Rattle.sets.proofs.BoundLaws.{lowest-is, lowest-most, lowest-found, lowest-below}
+use Rattle.rules.proofs.BoundLaws.{lowest-is, lowest-most, lowest-found, lowest-below}
 
 -- a number is the lowest member of a set of changes, or 256
 pub record Lowest (s : Set) (a : ℕ) : Type 0 where

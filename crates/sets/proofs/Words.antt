@@ -1,6 +1,6 @@
 -- The four words of a set read as its members: two sets joined word by word, the lowest member, how many there are. Assumes nothing.
 use mathlib.Core.Path.{_≡_, refl, sym, ap, ap₂, _∙_}
-use mathlib.Core.Bool.{Bool, true, false}
+use mathlib.Core.Bool.{Bool, true, false, cond}
 use mathlib.Core.List.{List, [], _∷_}
 use Prim.Native.Nat.{ℕ, zero, suc, _+_, _-_, _*_, _/_, _%_, _^_, _<_}
 use native.Mathlib.Decide.{decLt}
@@ -11,13 +11,13 @@ use lib.Count.{ones, ones-step, ones-le, trailingZeros}
 use lib.Dec.{eqb}
 use lib.ListN.{length, getD}
 use Rattle.rules.specs.Base.{countBelow}
+use Rattle.rules.proofs.BoundLaws.{count-ext, count-add}
 use Rattle.layout.specs.Codec.{bit, unpack}
 use Rattle.cells.proofs.Digits.{Digit, none, one, digit, unpack-first, unpack-next, unpack-zero, trailing-hit, trailing-below}
 use Rattle.words.specs.Members.{wordsHave}
 use Rattle.words.proofs.BitLaws.{words-joined}
 use Rattle.sets.specs.Members.{members}
 use Rattle.sets.specs.declared.ChangeSet.{ChangeSet}
-use Rattle.sets.proofs.BoundLaws.{count-ext, count-add, count-first}
 
 -- the set of these words
 abbrev pub ofWords : List ℕ → ChangeSet
@@ -92,6 +92,21 @@ low-at s i h fits p z = (omega (arith, hit .0), place s i (trailingZeros 64 w) (
 ones-digit : {d : ℕ} → Digit d → d ≡ bit (eqb d 1)
 ones-digit none = refl
 ones-digit one = refl
+
+-- how many of the numbers below a bound pass, the first counted apart
+count-first : (p : ℕ → Bool) (n : ℕ) → countBelow (suc n) p ≡ bit (p 0) + countBelow n (λ k. p (suc k))
+unfolding countBelow
+count-first p zero = go (p 0)
+  where
+    go : (b : Bool) → cond b 1 0 ≡ bit b + 0
+    go true = refl
+    go false = refl
+count-first p (suc n) = go (p (suc n)) (count-first p n)
+  where
+    go : (b : Bool) → countBelow (suc n) p ≡ bit (p 0) + countBelow n (λ k. p (suc k))
+        → cond b (suc (countBelow (suc n) p)) (countBelow (suc n) p) ≡ bit (p 0) + cond b (suc (countBelow n (λ k. p (suc k)))) (countBelow n (λ k. p (suc k)))
+    go true e = omega arith
+    go false e = e
 
 -- the ones of a word are its digits that are set
 ones-count : (n w : ℕ) → w < 2 ^ n → ones w ≡ countBelow n (unpack w)

@@ -19,7 +19,7 @@ ghost use Rattle.passes.specs.TieRows.{rowHas};
 ghost use Rattle.sets.specs.Members.{members, agree, loaded, stored};
 ghost use Rattle.sets.specs.Closure.{relation, lowKind, Spread};
 
-// The ties of which there are fewer are few.
+// From so many ties on a closure notes them in rows.
 const FEW: usize = 32;
 
 // A set of change numbers: bit c % 64 of word c / 64 says whether c is a member.
@@ -105,7 +105,7 @@ impl ChangeSet {
     }
 
     // Whether the members are the other's.
-    pub fn equal(self, other: ChangeSet) -> bool
+    fn equal(self, other: ChangeSet) -> bool
         ensures { λ r. ⌜ r ≡ allBelow 256 (agree (members self) (members other)) ⌝ }
     {
         let a = self.words;

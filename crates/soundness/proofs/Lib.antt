@@ -1,4 +1,4 @@
--- What is proved of the soundness check. Other crates cite a file X here as Rattle.soundness.proofs.X.
+-- What is proved of the soundness check.
 -- the sections of sound bytes together are the bytes of a sound window
 pub mod Assembly
 -- what each test says of sound bytes, and what one that failed or passed decides

@@ -26,7 +26,7 @@ ghost use Rattle.soundness.specs.Parts.{FrontSound, BackSound, Listed};
 ghost use Rattle.soundness.specs.Read.{AreFigures};
 
 // The figures of a header.
-pub struct Figures {
+struct Figures {
     pub entries: usize,
     pub given: usize,
     pub records: usize,
@@ -35,7 +35,7 @@ pub struct Figures {
 }
 
 // The figures of a window.
-pub fn read_figures(w: &[u8]) -> Figures
+fn read_figures(w: &[u8]) -> Figures
     requires { ⌜ length (now w) ≡ windowSize ⌝ }
     ensures { λ r. ⌜ ((h : HeadSound (part (now (w .entry)) headAt headSize)) → AreFigures h r) ⌝ }
 {
@@ -108,7 +108,7 @@ fn related(w: &[u8], entries: usize, permits: usize, ties: usize) -> bool
 }
 
 // Whether a window's bytes are sound.
-pub fn sound(w: &[u8]) -> bool
+fn sound(w: &[u8]) -> bool
     requires { ⌜ length (now w) ≡ windowSize ⌝ }
     ensures { λ r. ⌜ r ≡ soundBytes (now (w .entry)) ⌝ }
 {

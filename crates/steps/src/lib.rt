@@ -1,7 +1,7 @@
 // Each call but open and delegate on a sound window's bytes: the first refusal that applies, or what the call does.
 use replies::Reply;
 use replies::done;
-use replies::refused;
+use replies::unchanged;
 ghost use mathlib.Core.Path.{_≡_};
 ghost use mathlib.Core.Bool.{true};
 ghost use lib.ListN.{length};
@@ -20,7 +20,7 @@ pub fn initiate(w: &mut [u8], parent: u32) -> Reply
 {
     let code = refusals::initiate(w, parent);
     if code != 0 {
-        return refused(code);
+        return unchanged(code);
     }
     effects::initiate(w, parent)
 }
@@ -33,7 +33,7 @@ pub fn begin(w: &mut [u8], change: u32) -> Reply
 {
     let code = refusals::begin(w, change);
     if code != 0 {
-        return refused(code);
+        return unchanged(code);
     }
     effects::begin(w, change)
 }
@@ -46,7 +46,7 @@ pub fn complete(w: &mut [u8], change: u32) -> Reply
 {
     let code = refusals::complete(w, change);
     if code != 0 {
-        return refused(code);
+        return unchanged(code);
     }
     effects::complete(w, change)
 }
@@ -59,7 +59,7 @@ pub fn lock(w: &mut [u8], change: u32, entry: u32, mode: u32) -> Reply
 {
     let code = refusals::lock(w, change, entry, mode);
     if code != 0 {
-        return refused(code);
+        return unchanged(code);
     }
     effects::lock(w, change, entry, mode)
 }
@@ -72,7 +72,7 @@ pub fn read(w: &[u8], change: u32, entry: u32) -> Reply
 {
     let code = refusals::read(w, change, entry);
     if code != 0 {
-        return refused(code);
+        return unchanged(code);
     }
     done(reads::value(w, entry))
 }
@@ -85,7 +85,7 @@ pub fn write(w: &mut [u8], change: u32, entry: u32, value: u32) -> Reply
 {
     let code = refusals::write(w, change, entry);
     if code != 0 {
-        return refused(code);
+        return unchanged(code);
     }
     records::write(w, change, entry, value)
 }
@@ -98,7 +98,7 @@ pub fn permit(w: &mut [u8], giver: u32, taker: u32, entry: u32, operations: u32)
 {
     let code = pair_refusals::permit(w, giver, taker, entry, operations);
     if code != 0 {
-        return refused(code);
+        return unchanged(code);
     }
     records::permit(w, giver, taker, entry, operations)
 }
@@ -111,7 +111,7 @@ pub fn depend(w: &mut [u8], kind: u32, leader: u32, follower: u32) -> Reply
 {
     let code = pair_refusals::depend(w, kind, leader, follower);
     if code != 0 {
-        return refused(code);
+        return unchanged(code);
     }
     records::depend(w, kind, leader, follower)
 }
@@ -124,7 +124,7 @@ pub fn commit(w: &mut [u8], change: u32) -> Reply
 {
     let code = refusals::change(w, change);
     if code != 0 {
-        return refused(code);
+        return unchanged(code);
     }
     endings::commit(w, change)
 }
@@ -137,7 +137,7 @@ pub fn abort(w: &mut [u8], change: u32) -> Reply
 {
     let code = refusals::change(w, change);
     if code != 0 {
-        return refused(code);
+        return unchanged(code);
     }
     endings::abort(w, change)
 }
@@ -150,7 +150,7 @@ pub fn status(w: &[u8], change: u32) -> Reply
 {
     let code = refusals::change(w, change);
     if code != 0 {
-        return refused(code);
+        return unchanged(code);
     }
     done(reads::status(w, change) as u32)
 }
@@ -163,7 +163,7 @@ pub fn parent(w: &[u8], change: u32) -> Reply
 {
     let code = refusals::change(w, change);
     if code != 0 {
-        return refused(code);
+        return unchanged(code);
     }
     done(reads::parent(w, change) as u32)
 }
@@ -176,7 +176,7 @@ pub fn value(w: &[u8], entry: u32) -> Reply
 {
     let code = refusals::value(w, entry);
     if code != 0 {
-        return refused(code);
+        return unchanged(code);
     }
     done(reads::value(w, entry))
 }

@@ -1,6 +1,6 @@
 -- Numbers in decimal, as the code reads them. Assumes nothing.
 use mathlib.Core.Path.{_≡_, refl, sym, _∙_}
-use mathlib.Core.Bool.{Bool, true, false, not, cond, _&&_, false≢true}
+use mathlib.Core.Bool.{Bool, true, false, not, cond, _&&_, false≢true, and-false}
 use mathlib.Core.List.{List, [], _∷_}
 use Prim.Native.Nat.{ℕ, _+_, _-_, _*_, _^_, _≤_, _<_}
 use native.Mathlib.Nat.{pow-suc, pow-zero, pow-le-pow-right, zero-lt-suc}
@@ -11,7 +11,7 @@ use lib.Seq.{drop-cons}
 use lib.Dec.{eqb, leb}
 use borrow.Author.Tests.{eq-eqb, ne-eqb, le-leb, lt-leb, leb-true, not-true}
 use Rattle.rules.specs.Base.{all}
-use Rattle.rules.proofs.BaseLaws.{and-five, and-false, no-true}
+use Rattle.rules.proofs.BaseLaws.{and-five, no-true}
 use Rattle.text.specs.Decimal.{isDigit, valueAfter, leadingZero, isNumber, noNumber, number}
 
 -- READING: i bytes of l have been read, all of them digits that say v

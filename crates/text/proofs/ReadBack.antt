@@ -1,6 +1,6 @@
 -- What is printed is read back as the same number; how long it is. Assumes nothing.
 use mathlib.Core.Path.{_≡_, refl, sym, ap, _∙_}
-use mathlib.Core.Bool.{true, false}
+use mathlib.Core.Bool.{true, false, and-false}
 use mathlib.Core.List.{List, [], _∷_}
 use Prim.Native.Nat.{ℕ, zero, suc, _+_, _-_, _*_, _/_, _%_, _^_, _≤_, _<_}
 use native.Mathlib.Nat.{pow-suc, pow-zero, div-lt-iff-lt-mul, zero-lt-suc}
@@ -9,7 +9,6 @@ use lib.ListN.{length}
 use lib.Dec.{eqb}
 use borrow.Author.Tests.{ne-eqb, le-leb}
 use Rattle.rules.specs.Base.{all}
-use Rattle.rules.proofs.BaseLaws.{and-false}
 use Rattle.text.specs.Decimal.{isDigit, valueAfter, leadingZero, number, digitsBefore, shownBefore}
 use Rattle.text.proofs.DecimalLaws.{number-value}
 use Rattle.text.proofs.ShownLaws.{by-digits}
@@ -48,13 +47,13 @@ digits-count =
     few n after l h f (suc j) b = omega (arith, f j (div-lt-iff-lt-mul (zero-lt-suc 9) .1 (rw pow-suc at b)))
 
 -- HOW LONG a printed number is: below 10 ^ (j + 1), at most j + 1 digits
-pub shown-length : (n j : ℕ) (after : List ℕ) → n < 10 ^ suc j → length (shownBefore n after) ≤ suc j + length after
+shown-length : (n j : ℕ) (after : List ℕ) → n < 10 ^ suc j → length (shownBefore n after) ≤ suc j + length after
 unfolding shownBefore
 shown-length n j after h =
     omega (arith, digits-count n (n / 10) ((48 + n % 10) ∷ after) (omega arith) .1 j (div-lt-iff-lt-mul (zero-lt-suc 9) .1 (rw pow-suc at h)))
 
 -- at least one
-pub shown-some : (n : ℕ) (after : List ℕ) → length after < length (shownBefore n after)
+shown-some : (n : ℕ) (after : List ℕ) → length after < length (shownBefore n after)
 unfolding shownBefore
 shown-some n after = digits-count n (n / 10) ((48 + n % 10) ∷ after) (omega arith) .0
 

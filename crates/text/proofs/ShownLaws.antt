@@ -10,13 +10,13 @@ use borrow.Author.Tests.{ne-eqb}
 use Rattle.text.specs.Decimal.{digitsBefore, shownBefore}
 
 -- DIGITS FROM THE RIGHT: 0 has none
-pub digits-none : (k : ℕ) (after : List ℕ) → digitsBefore k 0 after ≡ after
+digits-none : (k : ℕ) (after : List ℕ) → digitsBefore k 0 after ≡ after
 unfolding digitsBefore
 digits-none zero after = refl
 digits-none (suc k) after = refl
 
 -- any other number has a last one
-pub digits-more : (k n : ℕ) (after : List ℕ) → 0 < n → digitsBefore (suc k) n after ≡ digitsBefore k (n / 10) ((48 + n % 10) ∷ after)
+digits-more : (k n : ℕ) (after : List ℕ) → 0 < n → digitsBefore (suc k) n after ≡ digitsBefore k (n / 10) ((48 + n % 10) ∷ after)
 unfolding digitsBefore
 digits-more k n after h = rw (ne-eqb n 0 (λ e. omega arith)) refl
 

@@ -9,7 +9,7 @@ unfoldable pub inFront : ℕ → List (List ℕ) → List (List ℕ)
 inFront x [] = (x ∷ []) ∷ []
 inFront x (f ∷ fs) = (x ∷ f) ∷ fs
 
--- the parts of a text that each byte s ends: n of them end one part each, and the last one goes to the end, empty or not
+-- the parts of a text between bytes s: n such bytes make n + 1 parts, empty or not
 unfoldable pub partedBy : ℕ → List ℕ → List (List ℕ)
 partedBy s [] = [] ∷ []
 partedBy s (x ∷ l) = cond (eqb x s) ([] ∷ partedBy s l) (inFront x (partedBy s l))

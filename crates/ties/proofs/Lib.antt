@@ -1,3 +1,3 @@
--- What is proved of the table of ties. Other crates cite a file X here as Rattle.ties.proofs.X.
+-- What is proved of the table of ties.
 -- ties as rows; the ties left are the rules', and a tie that stands is not entered again
 pub mod TieLaws

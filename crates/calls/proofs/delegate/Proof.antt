@@ -10,7 +10,7 @@ use Rattle.calls.proofs.delegate.Statement.{statement}
 use Rattle.calls.proofs.delegate.Tie as tie
 
 returns : tie.Need-returns
-returns c = unsound (c .before .before .before .before .before .args .memory .now) (Delegate (c .before .before .before .before .before .args .from) (c .before .before .before .before .before .args .to) (c .before .before .before .before .before .args .entry)) (sym (c .before .before .sound-memory .ensures) ∙ not-true _ (c .before .if1 .taken)) (unfold isOpen actionOf isOpening in refl) _ (c .refused .ensures)
+returns c = unsound (c .before .before .before .before .before .args .memory .now) (Delegate (c .before .before .before .before .before .args .from) (c .before .before .before .before .before .args .to) (c .before .before .before .before .before .args .entry)) (sym (c .before .before .sound-memory .ensures) ∙ not-true _ (c .before .if1 .taken)) (unfold isOpen actionOf isOpening in refl) _ (c .unchanged .ensures)
 
 part-delegate-end : tie.Need-part-delegate-end
 part-delegate-end c = lent-room (c .before .before .before .before .args .memory .now) (sym (c .before .sound-memory .ensures) ∙ not-false _ (c .if1 .left))

@@ -10,7 +10,7 @@ use Rattle.calls.proofs.depend.Statement.{statement}
 use Rattle.calls.proofs.depend.Tie as tie
 
 returns : tie.Need-returns
-returns c = unsound (c .before .before .before .before .before .args .memory .now) (Depend (c .before .before .before .before .before .args .kind) (c .before .before .before .before .before .args .leader) (c .before .before .before .before .before .args .follower)) (sym (c .before .before .sound-memory .ensures) ∙ not-true _ (c .before .if1 .taken)) (unfold isOpen actionOf isOpening in refl) _ (c .refused .ensures)
+returns c = unsound (c .before .before .before .before .before .args .memory .now) (Depend (c .before .before .before .before .before .args .kind) (c .before .before .before .before .before .args .leader) (c .before .before .before .before .before .args .follower)) (sym (c .before .before .sound-memory .ensures) ∙ not-true _ (c .before .if1 .taken)) (unfold isOpen actionOf isOpening in refl) _ (c .unchanged .ensures)
 
 part-depend-end : tie.Need-part-depend-end
 part-depend-end c = lent-room (c .before .before .before .before .args .memory .now) (sym (c .before .sound-memory .ensures) ∙ not-false _ (c .if1 .left))

@@ -8,10 +8,10 @@ use Rattle.calls.proofs.open.Statement.{statement}
 use Rattle.calls.proofs.open.Tie as tie
 
 returns : tie.Need-returns
-returns c = open-short (c .before .before .before .args .memory .now) (c .before .before .before .args .entries) (c .before .if1 .taken) _ (c .refused .ensures)
+returns c = open-short (c .before .before .before .args .memory .now) (c .before .before .before .args .entries) (c .before .if1 .taken) _ (c .unchanged .ensures)
 
 returns-2 : tie.Need-returns-2
-returns-2 c = open-refused (c .before .before .before .before .before .args .memory .now) (c .before .before .before .before .before .args .entries) (c .before .before .before .if1 .left) (sym (c .before .before .outside .ensures) ∙ c .before .if2 .taken) _ (c .refused2 .ensures)
+returns-2 c = open-refused (c .before .before .before .before .before .args .memory .now) (c .before .before .before .before .before .args .entries) (c .before .before .before .if1 .left) (sym (c .before .before .outside .ensures) ∙ c .before .if2 .taken) _ (c .unchanged2 .ensures)
 
 cast-make-fresh : tie.Need-cast-make-fresh
 cast-make-fresh c = omega (arith, inside-of 1 256 _ (sym (c .before .before .outside .ensures) ∙ c .before .if2 .left) .1)

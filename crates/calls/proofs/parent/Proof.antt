@@ -10,7 +10,7 @@ use Rattle.calls.proofs.parent.Statement.{statement}
 use Rattle.calls.proofs.parent.Tie as tie
 
 returns : tie.Need-returns
-returns c = unsound (c .before .before .before .before .before .args .memory .now) (Parent (c .before .before .before .before .before .args .change)) (sym (c .before .before .sound-memory .ensures) ∙ not-true _ (c .before .if1 .taken)) (unfold isOpen actionOf isOpening in refl) _ (c .refused .ensures)
+returns c = unsound (c .before .before .before .before .before .args .memory .now) (Parent (c .before .before .before .before .before .args .change)) (sym (c .before .before .sound-memory .ensures) ∙ not-true _ (c .before .if1 .taken)) (unfold isOpen actionOf isOpening in refl) _ (c .unchanged .ensures)
 
 part-parent-end : tie.Need-part-parent-end
 part-parent-end c = lent-room (c .before .before .before .before .before .args .memory .now) (sym (c .before .before .sound-memory .ensures) ∙ not-false _ (c .before .if1 .left))

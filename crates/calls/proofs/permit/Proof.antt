@@ -10,7 +10,7 @@ use Rattle.calls.proofs.permit.Statement.{statement}
 use Rattle.calls.proofs.permit.Tie as tie
 
 returns : tie.Need-returns
-returns c = unsound (c .before .before .before .before .before .args .memory .now) (Permit (c .before .before .before .before .before .args .giver) (c .before .before .before .before .before .args .taker) (c .before .before .before .before .before .args .entry) (c .before .before .before .before .before .args .operations)) (sym (c .before .before .sound-memory .ensures) ∙ not-true _ (c .before .if1 .taken)) (unfold isOpen actionOf isOpening in refl) _ (c .refused .ensures)
+returns c = unsound (c .before .before .before .before .before .args .memory .now) (Permit (c .before .before .before .before .before .args .giver) (c .before .before .before .before .before .args .taker) (c .before .before .before .before .before .args .entry) (c .before .before .before .before .before .args .operations)) (sym (c .before .before .sound-memory .ensures) ∙ not-true _ (c .before .if1 .taken)) (unfold isOpen actionOf isOpening in refl) _ (c .unchanged .ensures)
 
 part-permit-end : tie.Need-part-permit-end
 part-permit-end c = lent-room (c .before .before .before .before .args .memory .now) (sym (c .before .sound-memory .ensures) ∙ not-false _ (c .if1 .left))

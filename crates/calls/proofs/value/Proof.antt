@@ -10,7 +10,7 @@ use Rattle.calls.proofs.value.Statement.{statement}
 use Rattle.calls.proofs.value.Tie as tie
 
 returns : tie.Need-returns
-returns c = unsound (c .before .before .before .before .before .args .memory .now) (Value (c .before .before .before .before .before .args .entry)) (sym (c .before .before .sound-memory .ensures) ∙ not-true _ (c .before .if1 .taken)) (unfold isOpen actionOf isOpening in refl) _ (c .refused .ensures)
+returns c = unsound (c .before .before .before .before .before .args .memory .now) (Value (c .before .before .before .before .before .args .entry)) (sym (c .before .before .sound-memory .ensures) ∙ not-true _ (c .before .if1 .taken)) (unfold isOpen actionOf isOpening in refl) _ (c .unchanged .ensures)
 
 part-value-end : tie.Need-part-value-end
 part-value-end c = lent-room (c .before .before .before .before .before .args .memory .now) (sym (c .before .before .sound-memory .ensures) ∙ not-false _ (c .before .if1 .left))

@@ -10,7 +10,7 @@ use Rattle.calls.proofs.write.Statement.{statement}
 use Rattle.calls.proofs.write.Tie as tie
 
 returns : tie.Need-returns
-returns c = unsound (c .before .before .before .before .before .args .memory .now) (Write (c .before .before .before .before .before .args .change) (c .before .before .before .before .before .args .entry) (c .before .before .before .before .before .args .value)) (sym (c .before .before .sound-memory .ensures) ∙ not-true _ (c .before .if1 .taken)) (unfold isOpen actionOf isOpening in refl) _ (c .refused .ensures)
+returns c = unsound (c .before .before .before .before .before .args .memory .now) (Write (c .before .before .before .before .before .args .change) (c .before .before .before .before .before .args .entry) (c .before .before .before .before .before .args .value)) (sym (c .before .before .sound-memory .ensures) ∙ not-true _ (c .before .if1 .taken)) (unfold isOpen actionOf isOpening in refl) _ (c .unchanged .ensures)
 
 part-write-end : tie.Need-part-write-end
 part-write-end c = lent-room (c .before .before .before .before .args .memory .now) (sym (c .before .sound-memory .ensures) ∙ not-false _ (c .if1 .left))

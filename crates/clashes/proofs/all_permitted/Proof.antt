@@ -8,7 +8,7 @@ use borrow.Author.Needs.{needs}
 use Rattle.rules.specs.Base.{allBelow}
 use Rattle.rules.specs.Window.{Window}
 use Rattle.layout.specs.Records.{permitAt}
-use Rattle.sets.proofs.TurnLaws.{none-yet, turn-failed, turn-passed, turns-done}
+use Rattle.rules.proofs.TurnLaws.{none-yet, turn-failed, turn-passed, turns-done}
 use Rattle.clashes.specs.LocksAndPermits.{LocksAndPermits}
 use Rattle.clashes.proofs.ClashLaws.{entryPermitted, by-entries, lower-last, turn-quiet, turn-found}
 use Rattle.clashes.proofs.all_permitted.Statement.{statement}

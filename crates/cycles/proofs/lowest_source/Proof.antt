@@ -3,7 +3,7 @@ use mathlib.Core.Path.{_∙_}
 use borrow.Author.Needs.{needs}
 use Rattle.words.specs.Members.{wordsHave}
 use Rattle.sets.specs.Members.{members}
-use Rattle.sets.proofs.BoundLaws.{lowest-ext}
+use Rattle.rules.proofs.BoundLaws.{lowest-ext}
 use Rattle.cycles.specs.Graph.{sources}
 use Rattle.cycles.proofs.lowest_source.Statement.{statement}
 use Rattle.cycles.proofs.lowest_source.Tie as tie

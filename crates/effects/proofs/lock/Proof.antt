@@ -19,8 +19,8 @@ grantable-requires c κs = c .before .before .before .before .before .pre
 
 returns-2 : tie.Need-returns-2
 returns-2 c = let s = c .before .before .before .before .before .before .before .before in
-    lock-blocked (s .args .w .now) (s .pre .1 .0) (c .refused .result) (s .args .change) (s .args .entry) (s .args .mode) _ _
-    (c .before .before .before .before .before .held .ensures) (c .before .before .before .before .if1 .left) (c .before .before .grantable .ensures) (not-true _ (c .before .if2 .taken)) (c .refused .ensures)
+    lock-blocked (s .args .w .now) (s .pre .1 .0) (c .unchanged .result) (s .args .change) (s .args .entry) (s .args .mode) _ _
+    (c .before .before .before .before .before .held .ensures) (c .before .before .before .before .if1 .left) (c .before .before .grantable .ensures) (not-true _ (c .before .if2 .taken)) (c .unchanged .ensures)
 
 cast-grant : tie.Need-cast-grant
 cast-grant c = let s = c .before .before .before .before .before .before .before .before in record { fits = lock-known (s .args .w .now) (s .pre .1 .0) (s .args .change) (s .args .entry) (s .args .mode) (s .pre .1 .1) .1 }

@@ -28,7 +28,7 @@ unfolding effect commitChange
 returns-2 c =
     let s = c .before .before .before .before .before .before in
     let status = c .before .before .before .status in
-    ended-else (s .args .w .now) (s .pre .1 .0) (s .args .change) (status .result) (status .ensures) 4 5 _ (c .before .before .if1 .left) (c .before .if2 .taken) (c .refused .result) (c .refused .ensures)
+    ended-else (s .args .w .now) (s .pre .1 .0) (s .args .change) (status .result) (status .ensures) 4 5 _ (c .before .before .if1 .left) (c .before .if2 .taken) (c .unchanged .result) (c .unchanged .ensures)
 
 cast-group : tie.Need-cast-group
 cast-group c =

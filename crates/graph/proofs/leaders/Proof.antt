@@ -4,9 +4,9 @@ use Prim.Native.Nat.{ℕ, _-_, _≤_}
 use native.Mathlib.Omega.{arith}
 use borrow.Author.Needs.{needs}
 use Rattle.rules.specs.Base.{anyBelow}
+use Rattle.rules.specs.Effects.{leadsTo}
 use Rattle.layout.specs.Records.{tieAt}
 use Rattle.sets.specs.Members.{members}
-use Rattle.graph.specs.Leaders.{leadsTo}
 use Rattle.graph.proofs.ReachLaws.{leaders-next, leaders-of}
 use Rattle.graph.proofs.leaders.Statement.{statement}
 use Rattle.graph.proofs.leaders.Tie as tie

@@ -16,7 +16,7 @@ returns : tie.Need-returns
 returns c =
     let s = c .before .before .before .before .before in
     let a = s .args in
-    refused-first (a .w .now) (s .pre .1) (a .from) (a .to) (a .entry) _ (c .before .before .delegate .ensures) _ (c .before .if1 .taken) (c .refused .ensures)
+    refused-first (a .w .now) (s .pre .1) (a .from) (a .to) (a .entry) _ (c .before .before .delegate .ensures) _ (c .before .if1 .taken) (c .unchanged .ensures)
 
 cast-hand-over : tie.Need-cast-hand-over
 cast-hand-over c =
@@ -40,7 +40,7 @@ returns-2 : tie.Need-returns-2
 returns-2 c =
     let s = c .before .before .before .before .before .before .before .before .before .before in
     let a = s .args in
-    refused-last (a .w .now) (s .pre .1) (a .from) (a .to) (a .entry) _ (c .before .before .before .before .before .before .before .delegate .ensures) _ (c .before .before .before .before .before .before .if1 .left) _ (c .before .before .before .before .hand-over .last .0) (c .before .before .before .before .hand-over .ensures .0) (c .before .before .before .before .hand-over .ensures .1) (not-true _ (c .before .if2 .taken)) (c .refused2 .ensures)
+    refused-last (a .w .now) (s .pre .1) (a .from) (a .to) (a .entry) _ (c .before .before .before .before .before .before .before .delegate .ensures) _ (c .before .before .before .before .before .before .if1 .left) _ (c .before .before .before .before .hand-over .last .0) (c .before .before .before .before .hand-over .ensures .0) (c .before .before .before .before .hand-over .ensures .1) (not-true _ (c .before .if2 .taken)) (c .unchanged2 .ensures)
 
 returns-3 : tie.Need-returns-3
 returns-3 c =

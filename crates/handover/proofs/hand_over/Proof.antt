@@ -10,7 +10,7 @@ use Rattle.rules.proofs.BaseLaws.{not-true, not-false}
 use Rattle.layout.specs.Codec.{decode}
 use Rattle.layout.proofs.MemoryLaws.{bytes-sound}
 use Rattle.sets.specs.Entries.{onEntries}
-use Rattle.handover.specs.Delegated.{tablesSize}
+use Rattle.handed.specs.Tables.{tablesSize}
 use Rattle.handover.proofs.JudgeLaws.{copy-fits, copied-out, handed-tables}
 use Rattle.handover.proofs.hand_over.Statement.{statement}
 use Rattle.handover.proofs.hand_over.Tie as tie
@@ -30,17 +30,17 @@ slice-aggregate-hand-tables c = slice-aggregate-copy-in (c .before .before .befo
 hand-tables-requires : tie.Need-hand-tables-requires
 hand-tables-requires c κs = (c .before .before .before .before .before .before .before .before .pre .0, (c .before .before .before .before .before .before .before .before .pre .1 .0, sym (slice-aggregate-hand-tables c)))
 
-slice-aggregate-permitted : tie.Need-slice-aggregate-permitted
-slice-aggregate-permitted c = slice-aggregate-hand-tables (c .before .before .before .before) ∙ sym (c .before .before .before .hand-tables .kept .1 .0)
+slice-aggregate-all-permitted : tie.Need-slice-aggregate-all-permitted
+slice-aggregate-all-permitted c = slice-aggregate-hand-tables (c .before .before .before .before) ∙ sym (c .before .before .before .hand-tables .kept .1 .0)
 
-permitted-requires : tie.Need-permitted-requires
-permitted-requires c κs = (c .before .before .before .before .before .before .before .before .before .before .before .before .pre .0, (c .before .before .before .before .before .before .before .before .before .before .before .before .pre .1 .0, (sym (slice-aggregate-permitted c), omega (arith, c .before .before .before .hand-tables .ensures .0))))
+all-permitted-requires : tie.Need-all-permitted-requires
+all-permitted-requires c κs = (c .before .before .before .before .before .before .before .before .before .before .before .before .pre .0, (c .before .before .before .before .before .before .before .before .before .before .before .before .pre .1 .0, (sym (slice-aggregate-all-permitted c), omega (arith, c .before .before .before .hand-tables .ensures .0))))
 
 same-length : tie.Need-same-length
 same-length c = refl
 
 slice-aggregate-take-over : tie.Need-slice-aggregate-take-over
-slice-aggregate-take-over c = slice-aggregate-permitted (c .before .before .before .before)
+slice-aggregate-take-over c = slice-aggregate-all-permitted (c .before .before .before .before)
 
 take-over-requires : tie.Need-take-over-requires
 take-over-requires c κs = (c .before .before .before .before .before .before .before .before .before .before .before .before .before .before .before .before .pre .0, (c .before .before .before .before .before .before .before .before .before .before .before .before .before .before .before .before .pre .1 .0, (sym (slice-aggregate-take-over c), c .before .before .before .before .before .before .before .hand-tables .ensures .0)))
@@ -55,7 +55,7 @@ returns c =
     let bs = a .w .now in
     let on = onEntries (a .every) (a .entry) in
     let h = c .before .before .before .before .before .hand-tables .ensures .1 (copied-out bs (s .pre .1 .0) (s .pre .0) _ (c .before .before .before .before .before .before .before .before .before .copy-in .ensures)) in
-    (sym (not-true _ (c .if1 .taken)) ∙ c .before .permitted .ensures (handOver (decode bs) (a .from) (a .to) on) (handed-tables (decode bs) (a .from) (a .to) on (bytes-sound bs (s .pre .1 .0)) (s .pre .1 .1) _ _ h), refl)
+    (sym (not-true _ (c .if1 .taken)) ∙ c .before .all-permitted .ensures (handOver (decode bs) (a .from) (a .to) on) (handed-tables (decode bs) (a .from) (a .to) on (bytes-sound bs (s .pre .1 .0)) (s .pre .1 .1) _ _ h), refl)
 
 returns-2 : tie.Need-returns-2
 returns-2 c =
@@ -64,7 +64,7 @@ returns-2 c =
     let bs = a .w .now in
     let on = onEntries (a .every) (a .entry) in
     let h = c .before .before .before .before .before .before .before .before .before .before .hand-tables .ensures .1 (copied-out bs (s .pre .1 .0) (s .pre .0) _ (c .before .before .before .before .before .before .before .before .before .before .before .before .before .before .copy-in .ensures)) in
-    (sym (not-false _ (c .before .before .before .before .before .if1 .left)) ∙ c .before .before .before .before .before .before .permitted .ensures (handOver (decode bs) (a .from) (a .to) on) (handed-tables (decode bs) (a .from) (a .to) on (bytes-sound bs (s .pre .1 .0)) (s .pre .1 .1) _ _ h), c .before .before .take-over .ensures h)
+    (sym (not-false _ (c .before .before .before .before .before .if1 .left)) ∙ c .before .before .before .before .before .before .all-permitted .ensures (handOver (decode bs) (a .from) (a .to) on) (handed-tables (decode bs) (a .from) (a .to) on (bytes-sound bs (s .pre .1 .0)) (s .pre .1 .1) _ _ h), c .before .before .take-over .ensures h)
 
 pub hand-over-spec : {M : Type 1} → statement M
 hand-over-spec =
@@ -77,8 +77,8 @@ hand-over-spec =
     copy-in-requires
     slice-aggregate-hand-tables
     hand-tables-requires
-    slice-aggregate-permitted
-    permitted-requires
+    slice-aggregate-all-permitted
+    all-permitted-requires
     same-length
     returns
     slice-aggregate-take-over

@@ -7,10 +7,10 @@ use Rattle.script_lines.proofs.answer.Statement.{statement}
 use Rattle.script_lines.proofs.answer.Tie as tie
 
 returns : tie.Need-returns
-returns c = too-long (c .before .before .before .before .args .memory .now) (c .before .before .before .before .args .line .now) (omega arith) _ (c .refused .ensures)
+returns c = too-long (c .before .before .before .before .args .memory .now) (c .before .before .before .before .args .line .now) (omega arith) _ (c .unchanged .ensures)
 
 returns-2 : tie.Need-returns-2
-returns-2 c = no-argument (c .before .before .before .before .before .before .before .before .before .before .args .memory .now) (c .before .before .before .before .before .before .before .before .before .before .args .line .now) (c .before .before .before .before .before .before .before .if1 .left) (c .before .before .before .before .before .before .take-apart .result .call) (c .before .before .before .before .before .before .take-apart .result .a) (c .before .before .before .before .before .before .take-apart .result .b) (c .before .before .before .before .before .before .take-apart .result .c) (c .before .before .before .before .before .before .take-apart .result .d) (c .before .before .before .before .before .before .take-apart .ensures) (not-true _ (c .before .if2 .taken)) _ (c .refused2 .ensures)
+returns-2 c = no-argument (c .before .before .before .before .before .before .before .before .before .before .args .memory .now) (c .before .before .before .before .before .before .before .before .before .before .args .line .now) (c .before .before .before .before .before .before .before .if1 .left) (c .before .before .before .before .before .before .take-apart .result .call) (c .before .before .before .before .before .before .take-apart .result .a) (c .before .before .before .before .before .before .take-apart .result .b) (c .before .before .before .before .before .before .take-apart .result .c) (c .before .before .before .before .before .before .take-apart .result .d) (c .before .before .before .before .before .before .take-apart .ensures) (not-true _ (c .before .if2 .taken)) _ (c .unchanged2 .ensures)
 
 cast-make : tie.Need-cast-make
 cast-make c = omega (arith, small (c .before .before .before .before .before .before .before .take-apart .result .a) (c .before .before .before .before .before .before .before .take-apart .result .b) (c .before .before .before .before .before .before .before .take-apart .result .c) (c .before .before .before .before .before .before .before .take-apart .result .d) (not-false _ (c .before .before .if2 .left)) .0)

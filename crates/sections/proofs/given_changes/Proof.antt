@@ -4,7 +4,7 @@ use mathlib.Core.Bool.{true}
 use Prim.Native.Nat.{_≤_, _-_}
 use borrow.Author.Needs.{needs}
 use Rattle.rules.specs.Base.{allBelow}
-use Rattle.sets.proofs.TurnLaws.{none-yet, turn-failed, turn-passed, turns-done}
+use Rattle.rules.proofs.TurnLaws.{none-yet, turn-failed, turn-passed, turns-done}
 use Rattle.sections.specs.Cells.{nextFits}
 use native.Mathlib.Omega.{arith}
 use Rattle.sections.proofs.given_changes.Statement.{statement}

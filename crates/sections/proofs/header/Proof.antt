@@ -2,7 +2,7 @@
 use mathlib.Core.Path.{_∙_, sym}
 use native.Mathlib.Omega.{arith}
 use borrow.Author.Needs.{needs}
-use Rattle.sets.proofs.TurnLaws.{refused}
+use Rattle.rules.proofs.TurnLaws.{refused}
 use Rattle.sections.proofs.HeadLaws.{figure-num, entries-again, given-again, records-again, permits-again, ties-again, head-zeros, head-sound}
 use Rattle.sections.proofs.header.Statement.{statement}
 use Rattle.sections.proofs.header.Tie as tie

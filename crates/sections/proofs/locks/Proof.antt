@@ -1,7 +1,7 @@
 -- `sections::locks` meets its contract. Assumes nothing.
 use mathlib.Core.Path.{_∙_, sym}
 use Rattle.sets.specs.Members.{members}
-use Rattle.sets.proofs.TurnLaws.{failed, held, refused}
+use Rattle.rules.proofs.TurnLaws.{failed, held, refused}
 use Rattle.sections.proofs.LockLaws.{locks-of, of-locks}
 use borrow.Author.Needs.{needs}
 use Rattle.sections.proofs.locks.Statement.{statement}

@@ -1,6 +1,6 @@
 -- `sections::log` meets its contract. Assumes nothing.
 use mathlib.Core.Path.{_∙_, sym}
-use Rattle.sets.proofs.TurnLaws.{failed, held, refused}
+use Rattle.rules.proofs.TurnLaws.{failed, held, refused}
 use Rattle.sections.proofs.LogLaws.{log-of, of-log}
 use borrow.Author.Needs.{needs}
 use Rattle.sections.proofs.log.Statement.{statement}

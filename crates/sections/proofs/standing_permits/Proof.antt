@@ -4,7 +4,7 @@ use Prim.Native.Nat.{_≤_, _-_}
 use native.Mathlib.Omega.{arith}
 use borrow.Author.Needs.{needs}
 use Rattle.words.specs.Members.{wordsHave}
-use Rattle.sets.proofs.TurnLaws.{turns-done}
+use Rattle.rules.proofs.TurnLaws.{turns-done}
 use Rattle.sections.specs.Cells.{permitFits}
 use Rattle.sections.proofs.RiseLaws.{rank-small, Risen, none-risen, row-fails, row-low, row-rises}
 use Rattle.sections.proofs.standing_permits.Statement.{statement}

@@ -2,7 +2,7 @@
 use mathlib.Core.Path.{_∙_, sym}
 use Rattle.words.specs.Members.{wordsHave}
 use Rattle.sets.specs.Members.{members}
-use Rattle.sets.proofs.TurnLaws.{failed, held, refused}
+use Rattle.rules.proofs.TurnLaws.{failed, held, refused}
 use Rattle.sections.proofs.TableLaws.{ties-of, of-ties}
 use borrow.Author.Needs.{needs}
 use Rattle.sections.proofs.ties.Statement.{statement}

@@ -2,7 +2,7 @@
 use native.Mathlib.Omega.{arith}
 use Rattle.cells.specs.Part.{part}
 use Rattle.cells.proofs.PartLaws.{length-part}
-use Rattle.sets.proofs.TurnLaws.{refused}
+use Rattle.rules.proofs.TurnLaws.{refused}
 use Rattle.soundness.proofs.TestLaws.{fails, passes}
 use borrow.Author.Needs.{needs}
 use Rattle.soundness.proofs.back.Statement.{statement}

@@ -1,6 +1,6 @@
 -- `soundness::front` meets its contract. Assumes nothing.
 use Rattle.cells.specs.Part.{part}
-use Rattle.sets.proofs.TurnLaws.{refused}
+use Rattle.rules.proofs.TurnLaws.{refused}
 use Rattle.soundness.proofs.TestLaws.{fails, passes}
 use borrow.Author.Needs.{needs}
 use Rattle.soundness.proofs.front.Statement.{statement}

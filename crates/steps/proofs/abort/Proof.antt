@@ -8,7 +8,7 @@ use Rattle.steps.proofs.abort.Statement.{statement}
 use Rattle.steps.proofs.abort.Tie as tie
 
 returns : tie.Need-returns
-returns c = turned-back (c .before .before .before .before .before .args .w .now) (c .before .before .before .before .before .pre .1) (Abort (c .before .before .before .before .before .args .change)) _ _ (c .before .before .change .ensures .abort) (c .before .if1 .taken) (c .refused .ensures)
+returns c = turned-back (c .before .before .before .before .before .args .w .now) (c .before .before .before .before .before .pre .1) (Abort (c .before .before .before .before .before .args .change)) _ _ (c .before .before .change .ensures .abort) (c .before .if1 .taken) (c .unchanged .ensures)
 
 abort-requires : tie.Need-abort-requires
 abort-requires c κs = (c .before .before .before .before .before .pre .0, (c .before .before .before .before .before .pre .1, sym (c .before .before .change .ensures .abort) ∙ c .before .if1 .left))

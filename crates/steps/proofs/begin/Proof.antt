@@ -8,7 +8,7 @@ use Rattle.steps.proofs.begin.Statement.{statement}
 use Rattle.steps.proofs.begin.Tie as tie
 
 returns : tie.Need-returns
-returns c = turned-back (c .before .before .before .before .before .args .w .now) (c .before .before .before .before .before .pre .1) (Begin (c .before .before .before .before .before .args .change)) _ _ (c .before .before .begin .ensures) (c .before .if1 .taken) (c .refused .ensures)
+returns c = turned-back (c .before .before .before .before .before .args .w .now) (c .before .before .before .before .before .pre .1) (Begin (c .before .before .before .before .before .args .change)) _ _ (c .before .before .begin .ensures) (c .before .if1 .taken) (c .unchanged .ensures)
 
 begin-requires-2 : tie.Need-begin-requires-2
 begin-requires-2 c κs = (c .before .before .before .before .before .pre .0, (c .before .before .before .before .before .pre .1, sym (c .before .before .begin .ensures) ∙ c .before .if1 .left))

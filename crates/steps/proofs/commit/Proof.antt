@@ -8,7 +8,7 @@ use Rattle.steps.proofs.commit.Statement.{statement}
 use Rattle.steps.proofs.commit.Tie as tie
 
 returns : tie.Need-returns
-returns c = turned-back (c .before .before .before .before .before .args .w .now) (c .before .before .before .before .before .pre .1) (Commit (c .before .before .before .before .before .args .change)) _ _ (c .before .before .change .ensures .commit) (c .before .if1 .taken) (c .refused .ensures)
+returns c = turned-back (c .before .before .before .before .before .args .w .now) (c .before .before .before .before .before .pre .1) (Commit (c .before .before .before .before .before .args .change)) _ _ (c .before .before .change .ensures .commit) (c .before .if1 .taken) (c .unchanged .ensures)
 
 commit-requires : tie.Need-commit-requires
 commit-requires c κs = (c .before .before .before .before .before .pre .0, (c .before .before .before .before .before .pre .1, sym (c .before .before .change .ensures .commit) ∙ c .before .if1 .left))

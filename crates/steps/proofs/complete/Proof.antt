@@ -8,7 +8,7 @@ use Rattle.steps.proofs.complete.Statement.{statement}
 use Rattle.steps.proofs.complete.Tie as tie
 
 returns : tie.Need-returns
-returns c = turned-back (c .before .before .before .before .before .args .w .now) (c .before .before .before .before .before .pre .1) (Complete (c .before .before .before .before .before .args .change)) _ _ (c .before .before .complete .ensures) (c .before .if1 .taken) (c .refused .ensures)
+returns c = turned-back (c .before .before .before .before .before .args .w .now) (c .before .before .before .before .before .pre .1) (Complete (c .before .before .before .before .before .args .change)) _ _ (c .before .before .complete .ensures) (c .before .if1 .taken) (c .unchanged .ensures)
 
 complete-requires-2 : tie.Need-complete-requires-2
 complete-requires-2 c κs = (c .before .before .before .before .before .pre .0, (c .before .before .before .before .before .pre .1, sym (c .before .before .complete .ensures) ∙ c .before .if1 .left))

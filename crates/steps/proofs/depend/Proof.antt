@@ -8,7 +8,7 @@ use Rattle.steps.proofs.depend.Statement.{statement}
 use Rattle.steps.proofs.depend.Tie as tie
 
 returns : tie.Need-returns
-returns c = turned-back (c .before .before .before .before .before .args .w .now) (c .before .before .before .before .before .pre .1) (Depend (c .before .before .before .before .before .args .kind) (c .before .before .before .before .before .args .leader) (c .before .before .before .before .before .args .follower)) _ _ (c .before .before .depend .ensures) (c .before .if1 .taken) (c .refused .ensures)
+returns c = turned-back (c .before .before .before .before .before .args .w .now) (c .before .before .before .before .before .pre .1) (Depend (c .before .before .before .before .before .args .kind) (c .before .before .before .before .before .args .leader) (c .before .before .before .before .before .args .follower)) _ _ (c .before .before .depend .ensures) (c .before .if1 .taken) (c .unchanged .ensures)
 
 depend-requires-2 : tie.Need-depend-requires-2
 depend-requires-2 c κs = (c .before .before .before .before .before .pre .0, (c .before .before .before .before .before .pre .1, sym (c .before .before .depend .ensures) ∙ c .before .if1 .left))

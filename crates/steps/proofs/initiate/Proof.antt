@@ -8,7 +8,7 @@ use Rattle.steps.proofs.initiate.Statement.{statement}
 use Rattle.steps.proofs.initiate.Tie as tie
 
 returns : tie.Need-returns
-returns c = turned-back (c .before .before .before .before .before .args .w .now) (c .before .before .before .before .before .pre .1) (Initiate (c .before .before .before .before .before .args .parent)) _ _ (c .before .before .initiate .ensures) (c .before .if1 .taken) (c .refused .ensures)
+returns c = turned-back (c .before .before .before .before .before .args .w .now) (c .before .before .before .before .before .pre .1) (Initiate (c .before .before .before .before .before .args .parent)) _ _ (c .before .before .initiate .ensures) (c .before .if1 .taken) (c .unchanged .ensures)
 
 initiate-requires-2 : tie.Need-initiate-requires-2
 initiate-requires-2 c κs = (c .before .before .before .before .before .pre .0, (c .before .before .before .before .before .pre .1, sym (c .before .before .initiate .ensures) ∙ c .before .if1 .left))

@@ -8,7 +8,7 @@ use Rattle.steps.proofs.lock.Statement.{statement}
 use Rattle.steps.proofs.lock.Tie as tie
 
 returns : tie.Need-returns
-returns c = turned-back (c .before .before .before .before .before .args .w .now) (c .before .before .before .before .before .pre .1) (Lock (c .before .before .before .before .before .args .change) (c .before .before .before .before .before .args .entry) (c .before .before .before .before .before .args .mode)) _ _ (c .before .before .lock .ensures) (c .before .if1 .taken) (c .refused .ensures)
+returns c = turned-back (c .before .before .before .before .before .args .w .now) (c .before .before .before .before .before .pre .1) (Lock (c .before .before .before .before .before .args .change) (c .before .before .before .before .before .args .entry) (c .before .before .before .before .before .args .mode)) _ _ (c .before .before .lock .ensures) (c .before .if1 .taken) (c .unchanged .ensures)
 
 lock-requires-2 : tie.Need-lock-requires-2
 lock-requires-2 c κs = (c .before .before .before .before .before .pre .0, (c .before .before .before .before .before .pre .1, sym (c .before .before .lock .ensures) ∙ c .before .if1 .left))

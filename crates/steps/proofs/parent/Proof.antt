@@ -8,7 +8,7 @@ use Rattle.steps.proofs.parent.Statement.{statement}
 use Rattle.steps.proofs.parent.Tie as tie
 
 returns : tie.Need-returns
-returns c = turned-back (c .before .before .before .before .args .w .now) (c .before .before .before .before .pre .1) (Parent (c .before .before .before .before .args .change)) _ _ (c .before .before .change .ensures .parent) (c .before .if1 .taken) (c .refused .ensures)
+returns c = turned-back (c .before .before .before .before .args .w .now) (c .before .before .before .before .pre .1) (Parent (c .before .before .before .before .args .change)) _ _ (c .before .before .change .ensures .parent) (c .before .if1 .taken) (c .unchanged .ensures)
 
 returns-2 : tie.Need-returns-2
 returns-2 c = let-through (decode (c .before .before .before .before .before .args .w .now)) (Parent (c .before .before .before .before .before .args .change)) _ (c .before .before .before .change .ensures .parent) (c .before .before .if1 .left) (λ z. parent-gives (c .before .before .before .before .before .args .w .now) (c .before .before .before .before .before .pre .1) _ _ (c .done .ensures) (c .before .before .before .before .before .args .change) (c .before .parent .ensures))

@@ -8,7 +8,7 @@ use Rattle.steps.proofs.permit.Statement.{statement}
 use Rattle.steps.proofs.permit.Tie as tie
 
 returns : tie.Need-returns
-returns c = turned-back (c .before .before .before .before .before .args .w .now) (c .before .before .before .before .before .pre .1) (Permit (c .before .before .before .before .before .args .giver) (c .before .before .before .before .before .args .taker) (c .before .before .before .before .before .args .entry) (c .before .before .before .before .before .args .operations)) _ _ (c .before .before .permit .ensures) (c .before .if1 .taken) (c .refused .ensures)
+returns c = turned-back (c .before .before .before .before .before .args .w .now) (c .before .before .before .before .before .pre .1) (Permit (c .before .before .before .before .before .args .giver) (c .before .before .before .before .before .args .taker) (c .before .before .before .before .before .args .entry) (c .before .before .before .before .before .args .operations)) _ _ (c .before .before .permit .ensures) (c .before .if1 .taken) (c .unchanged .ensures)
 
 permit-requires-2 : tie.Need-permit-requires-2
 permit-requires-2 c κs = (c .before .before .before .before .before .pre .0, (c .before .before .before .before .before .pre .1, sym (c .before .before .permit .ensures) ∙ c .before .if1 .left))

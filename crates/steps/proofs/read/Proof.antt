@@ -8,7 +8,7 @@ use Rattle.steps.proofs.read.Statement.{statement}
 use Rattle.steps.proofs.read.Tie as tie
 
 returns : tie.Need-returns
-returns c = turned-back (c .before .before .before .before .args .w .now) (c .before .before .before .before .pre .1) (Read (c .before .before .before .before .args .change) (c .before .before .before .before .args .entry)) _ _ (c .before .before .read .ensures) (c .before .if1 .taken) (c .refused .ensures)
+returns c = turned-back (c .before .before .before .before .args .w .now) (c .before .before .before .before .pre .1) (Read (c .before .before .before .before .args .change) (c .before .before .before .before .args .entry)) _ _ (c .before .before .read .ensures) (c .before .if1 .taken) (c .unchanged .ensures)
 
 returns-2 : tie.Need-returns-2
 returns-2 c = let-through (decode (c .before .before .before .before .before .args .w .now)) (Read (c .before .before .before .before .before .args .change) (c .before .before .before .before .before .args .entry)) _ (c .before .before .before .read .ensures) (c .before .before .if1 .left) (λ z. read-gives (c .before .before .before .before .before .args .w .now) (c .before .before .before .before .before .pre .1) _ _ (c .done .ensures) (c .before .before .before .before .before .args .change) (c .before .before .before .before .before .args .entry) (c .before .value .ensures))

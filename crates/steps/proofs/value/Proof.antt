@@ -8,7 +8,7 @@ use Rattle.steps.proofs.value.Statement.{statement}
 use Rattle.steps.proofs.value.Tie as tie
 
 returns : tie.Need-returns
-returns c = turned-back (c .before .before .before .before .args .w .now) (c .before .before .before .before .pre .1) (Value (c .before .before .before .before .args .entry)) _ _ (c .before .before .value .ensures) (c .before .if1 .taken) (c .refused .ensures)
+returns c = turned-back (c .before .before .before .before .args .w .now) (c .before .before .before .before .pre .1) (Value (c .before .before .before .before .args .entry)) _ _ (c .before .before .value .ensures) (c .before .if1 .taken) (c .unchanged .ensures)
 
 returns-2 : tie.Need-returns-2
 returns-2 c = let-through (decode (c .before .before .before .before .before .args .w .now)) (Value (c .before .before .before .before .before .args .entry)) _ (c .before .before .before .value .ensures) (c .before .before .if1 .left) (λ z. value-gives (c .before .before .before .before .before .args .w .now) (c .before .before .before .before .before .pre .1) _ _ (c .done .ensures) (c .before .before .before .before .before .args .entry) (c .before .value2 .ensures))

@@ -8,7 +8,7 @@ use Rattle.steps.proofs.write.Statement.{statement}
 use Rattle.steps.proofs.write.Tie as tie
 
 returns : tie.Need-returns
-returns c = turned-back (c .before .before .before .before .before .args .w .now) (c .before .before .before .before .before .pre .1) (Write (c .before .before .before .before .before .args .change) (c .before .before .before .before .before .args .entry) (c .before .before .before .before .before .args .value)) _ _ (c .before .before .write .ensures (c .before .before .before .before .before .args .value)) (c .before .if1 .taken) (c .refused .ensures)
+returns c = turned-back (c .before .before .before .before .before .args .w .now) (c .before .before .before .before .before .pre .1) (Write (c .before .before .before .before .before .args .change) (c .before .before .before .before .before .args .entry) (c .before .before .before .before .before .args .value)) _ _ (c .before .before .write .ensures (c .before .before .before .before .before .args .value)) (c .before .if1 .taken) (c .unchanged .ensures)
 
 write-requires-2 : tie.Need-write-requires-2
 write-requires-2 c κs = (c .before .before .before .before .before .pre .0, (c .before .before .before .before .before .pre .1, sym (c .before .before .write .ensures (c .before .before .before .before .before .args .value)) ∙ c .before .if1 .left))

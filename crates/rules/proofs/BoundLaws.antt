@@ -4,9 +4,8 @@ use mathlib.Core.Bool.{Bool, true, false, not, cond, _&&_, _||_, false≢true}
 use Prim.Native.Nat.{ℕ, zero, suc, _+_, _-_, _≤_, _<_}
 use native.Mathlib.Nat.{add-zero, add-suc, not-suc-le-zero}
 use native.Mathlib.Omega.{arith}
 use Rattle.rules.specs.Base.{anyBelow, allBelow, countBelow, lowestBelow}
 use Rattle.rules.proofs.BaseLaws.{any-intro, any-elim, anyBelow-none, none-below, allBelow-intro, allBelow-at, both-ways, not-true, Within, count-same, Same, same, other, same?, Below, under, over, below}
-use Rattle.layout.specs.Codec.{bit}
 
 -- tests that agree below the bound
 module _ (f g : ℕ → Bool) where
@@ -150,21 +149,6 @@ module _ (p : ℕ → Bool) where
     where
       go : (b : Bool) → countBelow (n + m) p ≡ countBelow n p + countBelow m (λ k. p (n + k))
           → cond b (suc (countBelow (n + m) p)) (countBelow (n + m) p) ≡ countBelow n p + cond b (suc (countBelow m (λ k. p (n + k)))) (countBelow m (λ k. p (n + k)))
-      go true e = omega arith
-      go false e = e
-
-  -- the first counted apart
-  pub count-first : (n : ℕ) → countBelow (suc n) p ≡ bit (p 0) + countBelow n (λ k. p (suc k))
-  unfolding countBelow
-  count-first zero = go (p 0)
-    where
-      go : (b : Bool) → cond b 1 0 ≡ bit b + 0
-      go true = refl
-      go false = refl
-  count-first (suc n) = go (p (suc n)) (count-first n)
-    where
-      go : (b : Bool) → countBelow (suc n) p ≡ bit (p 0) + countBelow n (λ k. p (suc k))
-          → cond b (suc (countBelow (suc n) p)) (countBelow (suc n) p) ≡ bit (p 0) + cond b (suc (countBelow n (λ k. p (suc k)))) (countBelow n (λ k. p (suc k)))
       go true e = omega arith
       go false e = e
 

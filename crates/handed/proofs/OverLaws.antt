@@ -16,7 +16,7 @@ use Rattle.layout.proofs.PartLaws.{head-part, log-part}
 use Rattle.layout.proofs.PutLaws.{laidAt, head-put, locks-put, permits-put, log-put}
 use Rattle.cells.specs.Part.{patch}
 use Rattle.cells.proofs.PartLaws.{take-patch-end, drop-patch}
-use Rattle.handover.specs.Delegated.{tablesSize, tablesOf, AreTables}
+use Rattle.handed.specs.Tables.{tablesSize, tablesOf, AreTables}
 
 -- TWO LISTS written one after the other
 patch-both : (l : List ℕ) (at : ℕ) (xs ys : List ℕ) → at ≤ length l → patch l at (xs ++ ys) ≡ patch (patch l at xs) (at + length xs) ys

@@ -1,11 +1,11 @@
--- `handover::permitted` meets its contract. Assumes nothing.
+-- `handed::all_permitted` meets its contract. Assumes nothing.
 use mathlib.Core.Path.{sym}
 use native.Mathlib.Omega.{arith}
 use native.Mathlib.Nat.{le-of-eq, le-trans}
 use lib.Dec.{lit≤}
-use Rattle.handover.proofs.JudgeLaws.{with-entries}
-use Rattle.handover.proofs.permitted.Statement.{statement}
-use Rattle.handover.proofs.permitted.Tie as tie
+use Rattle.handed.proofs.TableLaws.{with-entries}
+use Rattle.handed.proofs.all_permitted.Statement.{statement}
+use Rattle.handed.proofs.all_permitted.Tie as tie
 
 entries-requires : tie.Need-entries-requires
 entries-requires c κs = (c .before .before .pre .0, c .before .before .pre .1 .0)
@@ -22,8 +22,8 @@ all-permitted-requires c κs = (sym (c .before .all-permitted-arg .given .1), (s
 returns : tie.Need-returns
 returns c = λ W h. c .all-permitted .ensures W (with-entries h (c .before .before .before .entries .ensures .0))
 
-pub permitted-spec : {M : Type 1} → statement M
-permitted-spec =
+pub all-permitted-spec : {M : Type 1} → statement M
+all-permitted-spec =
     tie.close
     (tie.spec
     entries-requires

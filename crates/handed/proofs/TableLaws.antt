@@ -15,7 +15,8 @@ use Rattle.layout.proofs.LengthLaws.{length-locks, length-permits}
 use Rattle.layout.proofs.PutLaws.{laidAt}
 use Rattle.sets.specs.Entries.{onEntries}
 use Rattle.locks.specs.Held.{everyEntry}
-use Rattle.handover.specs.Delegated.{tablesOf, AreTables}
+use Rattle.clashes.specs.LocksAndPermits.{LocksAndPermits}
+use Rattle.handed.specs.Tables.{tablesOf, AreTables}
 
 -- the entries of which locks are handed over, by the flag
 pub on-every : (all : Bool) (entry : ℕ) → all ≡ true → everyEntry ≡ onEntries all entry
@@ -68,3 +69,7 @@ tables-handed W from to on bytes xs ys n e f g =
           ∙ ap (λ l. laidAt l locksSize permitsSize (permitSection (movePermits from to on W.permits))) b1
           ∙ permits-back (withHeld W (moveHeld from to on W.held)) (movePermits from to on W.permits);
     }
+
+-- with the number of entries as it was read
+pub with-entries : {locks permits : List ℕ} {n m count : ℕ} {W : Window} → LocksAndPermits locks permits n count W → m ≡ n → LocksAndPermits locks permits m count W
+with-entries h e = rw e h

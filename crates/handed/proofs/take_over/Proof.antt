@@ -1,4 +1,4 @@
--- `handover::take_over` meets its contract: the tables are copied in, the log is handed over, and the figure of permits stored. Assumes nothing.
+-- `handed::take_over` meets its contract: the tables are copied in, the log is handed over, and the figure of permits stored. Assumes nothing.
 use mathlib.Core.Path.{sym, _∙_}
 use native.Mathlib.Omega.{arith}
 use native.Mathlib.Nat.{le-of-eq, le-trans, lt-of-le-of-lt}
@@ -6,9 +6,9 @@ use lib.Dec.{lit≤}
 use Rattle.layout.specs.Codec.{decode}
 use Rattle.layout.proofs.MemoryLaws.{bytes-again}
 use Rattle.sets.specs.Entries.{onEntries}
-use Rattle.handover.proofs.OverLaws.{tables-fit, taken-over}
-use Rattle.handover.proofs.take_over.Statement.{statement}
-use Rattle.handover.proofs.take_over.Tie as tie
+use Rattle.handed.proofs.OverLaws.{tables-fit, taken-over}
+use Rattle.handed.proofs.take_over.Statement.{statement}
+use Rattle.handed.proofs.take_over.Tie as tie
 
 records-requires : tie.Need-records-requires
 records-requires c κs = (c .before .before .before .pre .0, c .before .before .before .pre .1 .0)

@@ -1,10 +1,10 @@
--- `handover::hand_locks` meets its contract. Assumes nothing.
+-- `handed::hand_locks` meets its contract. Assumes nothing.
 use mathlib.Core.Path.{_∙_, ap}
 use Rattle.rules.specs.Effects.{moveHeld}
 use Rattle.layout.specs.Codec.{lockSection}
-use Rattle.handover.proofs.TableLaws.{on-every, on-one}
-use Rattle.handover.proofs.hand_locks.Statement.{statement}
-use Rattle.handover.proofs.hand_locks.Tie as tie
+use Rattle.handed.proofs.TableLaws.{on-every, on-one}
+use Rattle.handed.proofs.hand_locks.Statement.{statement}
+use Rattle.handed.proofs.hand_locks.Tie as tie
 
 returns : tie.Need-returns
 returns c = λ held modes none is.

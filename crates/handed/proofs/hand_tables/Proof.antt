@@ -1,4 +1,4 @@
--- `handover::hand_tables` meets its contract: the locks are handed over, then the permits. Assumes nothing.
+-- `handed::hand_tables` meets its contract: the locks are handed over, then the permits. Assumes nothing.
 use mathlib.Core.Path.{sym, _∙_}
 use native.Mathlib.Nat.{le-of-eq, le-trans}
 use lib.Dec.{lit≤}
@@ -6,9 +6,9 @@ use Rattle.layout.specs.Codec.{decode}
 use Rattle.layout.proofs.MemoryLaws.{bytes-sound}
 use Rattle.sets.specs.Entries.{onEntries}
 use Rattle.reads.proofs.ReadLaws.{modes-known, none-from}
-use Rattle.handover.proofs.TableLaws.{tables-handed}
-use Rattle.handover.proofs.hand_tables.Statement.{statement}
-use Rattle.handover.proofs.hand_tables.Tie as tie
+use Rattle.handed.proofs.TableLaws.{tables-handed}
+use Rattle.handed.proofs.hand_tables.Statement.{statement}
+use Rattle.handed.proofs.hand_tables.Tie as tie
 
 entries-requires : tie.Need-entries-requires
 entries-requires c κs = (c .before .before .pre .0, c .before .before .pre .1 .0)

@@ -1,2 +1,0 @@
--- Groups, end sets and leaders, read from a section of ties.
-pub mod Leaders

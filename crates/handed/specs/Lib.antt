@@ -1,0 +1,2 @@
+-- The two tables on which a delegate is judged.
+pub mod Tables

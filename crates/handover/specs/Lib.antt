@@ -1,2 +1,0 @@
--- The call delegate: what the functions' contracts say.
-pub mod Delegated

@@ -1,2 +1,0 @@
--- A window with a record more.
-pub mod Logged
