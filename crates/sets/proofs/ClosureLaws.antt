@@ -155,10 +155,10 @@ place-again false n i h = refl
 
 module _ (low : ℕ) (bs : List ℕ) (n : ℕ) (back : Bool) (s r : Set) (p : r ≡ passed low (tieFrom back bs n) n s) where
   -- the members stay
-  pub pass-keeps : Inside s r
+  pass-keeps : Inside s r
   pass-keeps k e = rw p (passed-keeps low (tieFrom back bs n) n s k e)
 
-  -- and where they do not agree there are more of them, which leaves fewer to add
+  -- where the two do not agree r has more, which leaves fewer to add
   pub pass-less : (b : Bool) → b ≡ allBelow 256 (agree r s) → b ≡ false → 256 - countBelow 256 r < 256 - countBelow 256 s
   pass-less b eb q = go (below (countBelow 256 s) (countBelow 256 r))
     where

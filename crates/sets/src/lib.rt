@@ -273,7 +273,7 @@ fn low_kind(along: Along) -> u8
     }
 }
 
-// The row of a number.
+// The row of a number, as a set.
 fn row_at(rows: &[u64], c: u8) -> ChangeSet
     requires { ⌜ length (now rows) ≡ 1024 ⌝ }
     ensures { λ r. ⌜ ((k : ℕ) → members r k ≡ rowHas (now (rows .entry)) c k) ⌝ }
