@@ -1,142 +1,136 @@
 -- From a call number with its fields to the call that is made. Assumes nothing.
 use mathlib.Core.Path.{_≡_, refl}
-use mathlib.Core.Logic.{_⊎_, inl, inr}
-use mathlib.Core.Bool.{Bool, true, false, not, cond, _&&_, _||_}
+use mathlib.Core.Logic.{_≢_}
+use mathlib.Core.Bool.{Bool, true, false, cond, _&&_, _||_}
 use mathlib.Core.List.{List, [], _∷_}
 use mathlib.Core.Option.{Option, none, some}
-use Prim.Native.Nat.{ℕ, zero, suc, _+_, _-_, _≤_, _<_}
+use Prim.Native.Nat.{ℕ, zero, suc, _+_, _*_, _-_, _≤_, _<_}
 use native.Mathlib.Omega.{arith}
-use borrow.Author.Tests.{eqb-true, ne-eqb}
-use lib.Dec.{eqb}
+use borrow.Author.Tests.{ltb-true, leb-true, le-ltb, lt-leb, le-leb, ne-eqb}
+use lib.Dec.{eqb, ltb, leb}
 use lib.ListN.{length}
-use Rattle.rules.specs.Calls.{Call, Read, Permit}
+use Rattle.rules.specs.Calls.{Call}
 use Rattle.rules.specs.Base.{allBelow}
 use Rattle.rules.proofs.BaseLaws.{Below, under, over, below, allBelow-at}
-use Rattle.layout.specs.Memory.{handBack, perform}
+use Rattle.layout.specs.Memory.{handBack}
 use Rattle.replies.specs.declared.Reply.{Reply}
 use Rattle.replies.specs.Gives.{Gives}
-use Rattle.script_calls.specs.Fields.{Reads, nothing, one, two, three, four, readings, placed, made, callOf, replyOf, fieldsOf, fieldsRead}
+use Rattle.script_calls.specs.Fields.{Reads, nothing, one, two, three, four, readings, placed, made, callOf, replyOf, lastField}
 
 -- a broken line does nothing
 pub broken : (mem : List ℕ) (r : Reply) → (r .answer ≡ 30) × (r .number ≡ 0) → Gives (replyOf mem none) r mem
 unfolding replyOf handBack
 broken mem r e = record { answer = e .0; number = e .1; bytes = refl }
 
--- so does one with an unused field that is not 0
-pub not-zeros : (mem : List ℕ) (z : Bool) (o : Option Call) → z ≡ false → (r : Reply) → (r .answer ≡ 30) × (r .number ≡ 0) → Gives (replyOf mem (cond z o none)) r mem
-not-zeros mem z o h r e = rw h (broken mem r e)
+-- THE LAST FIELD IN USE
+-- each test of unused fields is a bound on it; it is 1 to 4
+bounds : (p q s : Bool) → let l : ℕ = cond s (cond q (cond p 1 2) 3) 4 in (p && q && s ≡ leb l 1) × (q && s ≡ leb l 2) × (s ≡ leb l 3) × (leb l 4 ≡ true) × (leb 1 l ≡ true)
+bounds true true true = (refl, refl, refl, refl, refl)
+bounds true true false = (refl, refl, refl, refl, refl)
+bounds true false true = (refl, refl, refl, refl, refl)
+bounds true false false = (refl, refl, refl, refl, refl)
+bounds false true true = (refl, refl, refl, refl, refl)
+bounds false true false = (refl, refl, refl, refl, refl)
+bounds false false true = (refl, refl, refl, refl, refl)
+bounds false false false = (refl, refl, refl, refl, refl)
 
--- the call that a line asks for
-pub called : (mem : List ℕ) {o : Option Call} {r : Reply} {after : List ℕ} (call : Call) → o ≡ some call → Gives (perform mem call) r after → Gives (replyOf mem o) r after
-unfolding replyOf
-called mem call e g = rw e g
+pub last-most : (b c d : ℕ) → lastField b c d ≤ 4
+unfolding lastField
+last-most b c d = leb-true (lastField b c d) 4 (bounds (eqb b 0) (eqb c 0) (eqb d 0) .3)
 
--- the same, where the unused fields are 0
-pub zeros : (mem : List ℕ) (z : Bool) {o : Option Call} {r : Reply} {after : List ℕ} (call : Call) → z ≡ true → o ≡ some call → Gives (perform mem call) r after
-    → Gives (replyOf mem (cond z o none)) r after
-zeros mem z call h e g = rw h (called mem call e g)
+last-least : (b c d : ℕ) → 1 ≤ lastField b c d
+unfolding lastField
+last-least b c d = leb-true 1 (lastField b c d) (bounds (eqb b 0) (eqb c 0) (eqb d 0) .4)
 
--- WHICH FIELDS A CALL READS, BY ITS NUMBER
-pub before-all : (rs : List Reads) → placed 0 rs ≡ nothing
-unfolding placed
-before-all [] = refl
-before-all (r ∷ rs) = refl
+-- how many fields are read; 0 where there is no call
+unfoldable pub fieldsOf : Reads → ℕ
+fieldsOf nothing = 0
+fieldsOf (one f) = 1
+fieldsOf (two f) = 2
+fieldsOf (three f) = 3
+fieldsOf (four f) = 4
 
-pub past-all : (k : ℕ) (rs : List Reads) → length rs < k → placed k rs ≡ nothing
+-- the call of the fields that are read, whatever the others hold
+unfoldable pub asked : Reads → (a b c d : ℕ) → Option Call
+asked nothing a b c d = none
+asked (one f) a b c d = some (f a)
+asked (two f) a b c d = some (f a b)
+asked (three f) a b c d = some (f a b c)
+asked (four f) a b c d = some (f a b c d)
+
+-- it is made where no field past those is in use
+made-asked : (r : Reads) (a b c d : ℕ) → made r a b c d ≡ cond (leb (lastField b c d) (fieldsOf r)) (asked r a b c d) none
+unfolding made fieldsOf asked lastField
+made-asked nothing a b c d = rw (lt-leb (lastField b c d) 0 (last-least b c d))
+made-asked (one f) a b c d = rw (← bounds (eqb b 0) (eqb c 0) (eqb d 0) .0)
+made-asked (two f) a b c d = rw (← bounds (eqb b 0) (eqb c 0) (eqb d 0) .1)
+made-asked (three f) a b c d = rw (← bounds (eqb b 0) (eqb c 0) (eqb d 0) .2)
+made-asked (four f) a b c d = rw (le-leb (lastField b c d) 4 (last-most b c d))
+
+-- HOW MANY FIELDS A CALL READS, BY ITS NUMBER
+unfoldable pub fieldsRead : (call : ℕ) → ℕ
+fieldsRead k = fieldsOf (placed k readings)
+
+past-all : (k : ℕ) (rs : List Reads) → length rs < k → placed k rs ≡ nothing
 unfolding placed
 past-all k [] h = refl
 past-all zero (r ∷ rs) h = refl
 past-all (suc zero) (r ∷ rs) h = absurd (omega arith)
 past-all (suc (suc k)) (r ∷ rs) h = past-all (suc k) rs (omega arith)
 
--- a range of call numbers
-pub range-reads : (from size n : ℕ) → allBelow size (λ i. eqb (fieldsRead (from + i)) n) ≡ true → (k : ℕ) → from ≤ k → k < from + size → fieldsRead k ≡ n
-range-reads from size n e k h l = let q : from + (k - from) ≡ k = omega arith in
-    rw q at (eqb-true (fieldsRead (from + (k - from))) n (allBelow-at size (λ i. eqb (fieldsRead (from + i)) n) e (k - from) (omega arith)))
+above-read : (k : ℕ) → 16 ≤ k → fieldsRead k ≡ 0
+unfolding fieldsRead fieldsOf readings
+above-read k h = rw (past-all k readings h)
 
-pub low-read : (k : ℕ) → 1 ≤ k → k < 5 → fieldsRead k ≡ 1
-unfolding fieldsRead fieldsOf placed readings allBelow
-low-read = range-reads 1 4 1 refl
-
-pub high-read : (k : ℕ) → 11 ≤ k → k < 16 → fieldsRead k ≡ 1
-unfolding fieldsRead fieldsOf placed readings allBelow
-high-read = range-reads 11 5 1 refl
-
-pub three-read : (k : ℕ) → (k ≡ 5) ⊎ (k ≡ 7) → fieldsRead k ≡ 3
-unfolding fieldsRead fieldsOf placed readings
-three-read k (inl e) = rw e
-three-read k (inr e) = rw e
-
-pub last-read : (k : ℕ) → ((k ≡ 5) ⊎ (k ≡ 7) → ⊥) → (k ≡ 6 → ⊥) → (k ≡ 8 → ⊥) → 5 ≤ k → k < 11 → fieldsRead k ≡ 3
-unfolding fieldsRead fieldsOf placed readings allBelow
-last-read k n n6 n8 h l = let n5 : k ≡ 5 → ⊥ = λ e. n (inl e) in
-    let n7 : k ≡ 7 → ⊥ = λ e. n (inr e) in
-    range-reads 9 2 3 refl k (omega arith) l
-
-pub zero-read : (k : ℕ) → k < 1 → placed k readings ≡ nothing
-zero-read k h = let e : k ≡ 0 = omega arith in rw e (before-all readings)
-
-pub above-read : (k : ℕ) → 16 ≤ k → placed k readings ≡ nothing
-unfolding readings
-above-read k h = past-all k readings h
-
-pub none-fielded : (k a b c d : ℕ) → placed k readings ≡ nothing → callOf k a b c d ≡ none
-unfolding callOf made
-none-fielded k a b c d h = rw h
-
--- an unused field that is not 0 makes a broken line
-pub one-fielded : (k a b c d : ℕ) → fieldsRead k ≡ 1 → callOf k a b c d ≡ cond (eqb b 0 && eqb c 0 && eqb d 0) (callOf k a 0 0 0) none
-unfolding fieldsRead fieldsOf callOf made
-one-fielded k a b c d e = go (placed k readings) e
+most-read : (k : ℕ) → fieldsRead k ≤ 4
+unfolding fieldsRead fieldsOf
+most-read k = go (placed k readings)
   where
-    go : (r : Reads) → fieldsOf r ≡ 1 → made r a b c d ≡ cond (eqb b 0 && eqb c 0 && eqb d 0) (made r a 0 0 0) none
-    go nothing h = absurd (omega arith)
-    go (one f) h = refl
-    go (two f) h = absurd (omega arith)
-    go (three f) h = absurd (omega arith)
-    go (four f) h = absurd (omega arith)
+    go : (r : Reads) → fieldsOf r ≤ 4
+    go nothing = omega arith
+    go (one f) = omega arith
+    go (two f) = omega arith
+    go (three f) = omega arith
+    go (four f) = omega arith
 
-pub three-fielded : (k a b c d : ℕ) → fieldsRead k ≡ 3 → callOf k a b c d ≡ cond (eqb d 0) (callOf k a b c 0) none
-unfolding fieldsRead fieldsOf callOf made
-three-fielded k a b c d e = go (placed k readings) e
-  where
-    go : (r : Reads) → fieldsOf r ≡ 3 → made r a b c d ≡ cond (eqb d 0) (made r a b c 0) none
-    go nothing h = absurd (omega arith)
-    go (one f) h = absurd (omega arith)
-    go (two f) h = absurd (omega arith)
-    go (three f) h = refl
-    go (four f) h = absurd (omega arith)
+-- THE DECISION, over the call number with one digit more, the last field in use
+-- the numbers that stand alone in it
+unfoldable pub alone : ℕ → Bool
+alone x = eqb x 11 || eqb x 21 || eqb x 31 || eqb x 41 || eqb x 111 || eqb x 121 || eqb x 131 || eqb x 141 || eqb x 151
 
-pub two-fielded : (k a b c d : ℕ) → k ≡ 6 → callOf k a b c d ≡ cond (eqb c 0 && eqb d 0) (some (Read a b)) none
-unfolding callOf made placed readings
-two-fielded k a b c d e = rw e
+pub not-alone : (x : ℕ) → ((((((((Unit {0} × (x ≢ 11)) × (x ≢ 21)) × (x ≢ 31)) × (x ≢ 41)) × (x ≢ 111)) × (x ≢ 121)) × (x ≢ 131)) × (x ≢ 141)) × (x ≢ 151) → alone x ≡ false
+unfolding alone
+not-alone x n = simp (ne-eqb x 11 (n .0 .0 .0 .0 .0 .0 .0 .0 .1), ne-eqb x 21 (n .0 .0 .0 .0 .0 .0 .0 .1), ne-eqb x 31 (n .0 .0 .0 .0 .0 .0 .1), ne-eqb x 41 (n .0 .0 .0 .0 .0 .1), ne-eqb x 111 (n .0 .0 .0 .0 .1), ne-eqb x 121 (n .0 .0 .0 .1), ne-eqb x 131 (n .0 .0 .1), ne-eqb x 141 (n .0 .1), ne-eqb x 151 (n .1))
 
-pub four-fielded : (k a b c d : ℕ) → k ≡ 8 → callOf k a b c d ≡ some (Permit a b c d)
-unfolding callOf made placed readings
-four-fielded k a b c d e = rw e
+-- the number, if it is from `from` to before `to`, stands alone or has more fields in use than the call reads
+unfoldable pub unread : (from to k l : ℕ) → Bool
+unread from to k l = ltb (k * 10 + l) from || leb to (k * 10 + l) || alone (k * 10 + l) || ltb (fieldsRead k) l
 
--- THE LAST CALL OF THOSE THAT READ ONE FIELD, AND OF THOSE THAT READ THREE
-isOne : ℕ → Bool
-isOne k = not (eqb (fieldsRead k) 1) || eqb k 1 || eqb k 2 || eqb k 3 || eqb k 4 || eqb k 11 || eqb k 12 || eqb k 13 || eqb k 14 || eqb k 15
+unfoldable pub allUnread : (from to : ℕ) → Bool
+allUnread from to = allBelow 16 (λ k. allBelow 4 (λ i. unread from to k (1 + i)))
 
-isThree : ℕ → Bool
-isThree k = not (eqb (fieldsRead k) 3) || eqb k 5 || eqb k 7 || eqb k 9 || eqb k 10
+module _ (k a b c d l : ℕ) (e : l ≡ lastField b c d) where
+  -- an arm: the numbers of one call, from one field in use to as many as it reads
+  pub in-arm : (K : ℕ) → K * 10 + 1 ≤ k * 10 + l → k * 10 + l < K * 10 + 1 + fieldsRead K → callOf k a b c d ≡ asked (placed K readings) a b c d
+  unfolding callOf fieldsRead
+  in-arm K lo hi =
+      let q : k ≡ K = omega (arith, most-read K, last-least b c d, last-most b c d) in
+      let h : lastField b c d ≤ fieldsRead K = omega arith in
+      rw (q, made-asked (placed K readings) a b c d, le-leb (lastField b c d) (fieldsRead K) h)
 
-module _ (k : ℕ) where
-  pub in-table : (n : ℕ) → fieldsRead k ≡ suc n → k < 16
-  unfolding fieldsRead fieldsOf
-  in-table n h = go (below k 16)
-    where
-      go : {b : Bool} → Below k 16 b → k < 16
-      go (under l) = l
-      go (over l) = let z : 0 ≡ suc n = rw (above-read k l) at h in absurd (omega arith)
+  module _ (from to : ℕ) (lo : from ≤ k * 10 + l) (hi : k < 16 → k * 10 + l < to) (n : alone (k * 10 + l) ≡ false) where
+    more-used : unread from to k l ≡ true → k < 16 → fieldsRead k < l
+    unfolding unread
+    more-used t h = ltb-true (fieldsRead k) l (simp (le-ltb (k * 10 + l) from lo, lt-leb to (k * 10 + l) (hi h), n) at t)
 
-  pub last-of-one : fieldsRead k ≡ 1 → (k ≡ 1 → ⊥) → (k ≡ 2 → ⊥) → (k ≡ 3 → ⊥) → (k ≡ 4 → ⊥) → (k ≡ 11 → ⊥) → (k ≡ 12 → ⊥) → (k ≡ 13 → ⊥) → (k ≡ 14 → ⊥) → k ≡ 15
-  unfolding fieldsRead fieldsOf placed readings allBelow isOne
-  last-of-one h n1 n2 n3 n4 n11 n12 n13 n14 = let t : isOne k ≡ true = allBelow-at 16 isOne refl k (in-table 0 h) in
-      eqb-true k 15 (simp (h, ne-eqb k 1 n1, ne-eqb k 2 n2, ne-eqb k 3 n3, ne-eqb k 4 n4, ne-eqb k 11 n11, ne-eqb k 12 n12, ne-eqb k 13 n13, ne-eqb k 14 n14) at t)
-
-  pub last-of-three : fieldsRead k ≡ 3 → (((k ≡ 5) → ⊥) × ((k ≡ 7) → ⊥)) × ((k ≡ 9) → ⊥) → k ≡ 10
-  unfolding fieldsRead fieldsOf placed readings allBelow isThree
-  last-of-three h n = let t : isThree k ≡ true = allBelow-at 16 isThree refl k (in-table 2 h) in
-      eqb-true k 10 (simp (h, ne-eqb k 5 (n .0 .0), ne-eqb k 7 (n .0 .1), ne-eqb k 9 (n .1)) at t)
+    -- between the arms
+    pub no-arm : allUnread from to ≡ true → callOf k a b c d ≡ none
+    unfolding callOf fieldsRead allUnread
+    no-arm t = rw (made-asked (placed k readings) a b c d, lt-leb (lastField b c d) (fieldsRead k) (go (below k 16)))
+      where
+        go : {u : Bool} → Below k 16 u → fieldsRead k < lastField b c d
+        go (over h) = omega (arith, above-read k h, last-least b c d)
+        go (under h) =
+            let q : 1 + (l - 1) ≡ l = omega (arith, last-least b c d) in
+            let row : allBelow 4 (λ i. unread from to k (1 + i)) ≡ true = allBelow-at 16 (λ j. allBelow 4 (λ i. unread from to j (1 + i))) t k h in
+            rw e at (more-used (rw q at (allBelow-at 4 (λ i. unread from to k (1 + i)) row (l - 1) (omega (arith, last-most b c d)))) h)

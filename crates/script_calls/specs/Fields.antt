@@ -45,13 +45,6 @@ unfoldable pub replyOf : List ℕ → Option Call → Reply (List ℕ)
 replyOf mem none = handBack mem 30
 replyOf mem (some c) = perform mem c
 
--- how many fields a call reads; 0 where there is no such call
-unfoldable pub fieldsOf : Reads → ℕ
-fieldsOf nothing = 0
-fieldsOf (one f) = 1
-fieldsOf (two f) = 2
-fieldsOf (three f) = 3
-fieldsOf (four f) = 4
-
-unfoldable pub fieldsRead : (call : ℕ) → ℕ
-fieldsRead k = fieldsOf (placed k readings)
+-- where the last field stands that is not 0; 1 where it is the first, or none
+unfoldable pub lastField : (b c d : ℕ) → ℕ
+lastField b c d = cond (eqb d 0) (cond (eqb c 0) (cond (eqb b 0) 1 2) 3) 4
