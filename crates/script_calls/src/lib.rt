@@ -1,6 +1,6 @@
 // The calls that a script asks for, by call number.
 use replies::Reply;
-use replies::refused;
+use replies::unchanged;
 ghost use mathlib.Core.Path.{_≡_};
 ghost use Rattle.replies.specs.Gives.{Gives};
 ghost use Rattle.script_calls.specs.Fields.{callOf, replyOf, lastField};
@@ -42,6 +42,6 @@ pub fn make(memory: &mut [u8], call: u32, a: u32, b: u32, c: u32, d: u32) -> Rep
         131 => calls::status(memory, a),
         141 => calls::parent(memory, a),
         151 => calls::value(memory, a),
-        _ => refused(30),
+        _ => unchanged(30),
     }
 }

@@ -119,7 +119,7 @@ no-call c =
     (c .if1 .came)
 
 returns-16 : tie.Need-returns-16
-returns-16 c = rw (no-call (c .before)) (broken (c .before .before .before .before .before .args .memory .now) _ (c .refused .ensures))
+returns-16 c = rw (no-call (c .before)) (broken (c .before .before .before .before .before .args .memory .now) _ (c .unchanged .ensures))
 
 pub make-spec : {M : Type 1} → statement M
 make-spec =
