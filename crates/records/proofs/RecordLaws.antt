@@ -48,9 +48,8 @@ module _ (W : Window) where
 
 module _ (bs : List ℕ) (s : soundBytes bs ≡ true) where
   pub record-logged : (c e before m : ℕ) → m ≡ length (decode bs .log) → (o1 o2 : List ℕ)
-      → ((l : List LogRecord) → length l ≡ m → take logSize (drop logAt bs) ≡ logSection l → o1 ≡ logSection (l ++ (record { owner = c; entry = e; before = before } ∷ [])))
+      → ((l : List LogRecord) → length l ≡ m → take logSize (drop logAt bs) ≡ logSection l → o1 ≡ logSection (addRecord c e before l))
       → FigureStored (laidAt bs logAt logSize o1) 2 (m + 1) o2 → headLaid (laidAt bs logAt logSize o1) o2 ≡ encode (withRecord (decode bs) c e before)
-  unfolding addRecord
   record-logged c e before m u o1 o2 f h =
       let W = decode bs in
       figure-stored W (withRecord W c e before) (log-lent (figures W) W (laid-known bs s) _ (f W.log (sym u))) 2 (m + 1) (omega arith) h (one-logged W m c e before u)

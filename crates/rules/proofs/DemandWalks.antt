@@ -168,7 +168,7 @@ module _ (L : Limits) (W : Window) (z : Sound L W) where
 module _ (L : Limits) (W : Window) (z : Sound L W) where
   all-fine : all (λ t. live W (t .leader) && fineTie (suc (W .given)) (W .ties) t) (W .ties) ≡ true
   unfolding fineTie acyclic
-  all-fine = all-weaken _ _ one (W .ties) (all-and _ _ (W .ties) (z .ties) (all-and _ _ (W .ties) (arrows-tied (W .ties)) (z .no-circle)))
+  all-fine = all-weaken _ _ one (W .ties) (all-and _ _ (W .ties) (z .ties) (all-and _ _ (W .ties) (arrows-tied (W .ties)) (z .no-cycle)))
     where
       one : (t : TieRecord) → tieSound (live W) t && ((not (isArrow (t .kind)) || tied (W .ties) isArrow (t .leader) (t .follower)) && (not (isArrow (t .kind)) || not (reach (suc (W .given)) (leading (W .ties)) (t .follower) (t .leader)))) ≡ true
           → live W (t .leader) && ((ltb (t .leader) (suc (W .given)) && ltb (t .follower) (suc (W .given))) && ((not (isArrow (t .kind)) || tied (W .ties) isArrow (t .leader) (t .follower)) && (not (isArrow (t .kind)) || not (reach (suc (W .given)) (leading (W .ties)) (t .follower) (t .leader))))) ≡ true

@@ -40,13 +40,13 @@ module _ (L : Limits) (W : Window) (z : Sound L W) where
 
   -- "no path of arrows returns to its group"
   pub no-return : (x : ℕ) → Arrows W.ties x x → ⊥
-  no-return = acyclic-paths W.ties (suc W.given) (ends-below W (z .ties)) .0 (z .no-circle)
+  no-return = acyclic-paths W.ties (suc W.given) (ends-below W (z .ties)) .0 (z .no-cycle)
 
   -- "an existing tie is 0 again": neither 9 nor 11 applies, and the ties stay as they are
   pub tie-again : (k l f : ℕ) → List·Memᴰ (makeTie k l f) W.ties
       → (addTie (makeTie k l f) W.ties ≡ W.ties) × (acyclic (suc W.given) (addTie (makeTie k l f) W.ties) ≡ true) × (not (exceeds (length (addTie (makeTie k l f) W.ties)) L.ties) ≡ true)
   unfolding addTie
-  tie-again k l f m = let e = insert-standing tieKey m (z .tie-order) in (e, rw e (z .no-circle), rw e (z .room-ties))
+  tie-again k l f m = let e = insert-standing tieKey m (z .tie-order) in (e, rw e (z .no-cycle), rw e (z .room-ties))
 
 -- 0 or 20, by a test
 zeroOr20 : Bool → ℕ

@@ -21,7 +21,7 @@ fill L zero W e = rw (leb·suc-zero W.given, over-true (suc W.given) L.changes (
 fill L (suc m) W e = rw (leb·suc-zero W.given, over-false (suc W.given) L.changes (omega arith)) (ap (λ l. (0, suc W.given) ∷ l) (fill L m (addChange W 0) (omega arith)))
 
 -- the smallest and the largest number of entries, and one more
-open-any : (L : Limits) (W : Window) → 1 ≤ L .entries
+pub open-any : (L : Limits) (W : Window) → 1 ≤ L .entries
     → answers (step L) W (Open 0 ∷ Open L.entries ∷ Open (suc L.entries) ∷ []) ≡ (2, 0) ∷ (0, 0) ∷ (2, 0) ∷ []
 unfolding answers step checks firstFailed _if_ settle effect done unchanged
 open-any L W h = rw (over-false L.entries L.entries (omega arith), over-true (suc L.entries) L.entries (omega arith), ltb-false L.entries 1 h, ltb-false (suc L.entries) 1 (omega arith))

@@ -117,6 +117,6 @@ module _ (L : Limits) (W : Window) (from to : ℕ) (on : Set) (k : Sound L W) (l
     ties = k .ties;
     permit-order = hand-order;
     tie-order = k .tie-order;
-    no-circle = k .no-circle;
+    no-cycle = k .no-cycle;
     locks = fits-all (handOver W from to on) hand-held fit;
   }

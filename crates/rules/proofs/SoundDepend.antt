@@ -1,4 +1,4 @@
--- A tie that closes no circle keeps a window sound. Assumes nothing.
+-- A tie that closes no cycle keeps a window sound. Assumes nothing.
 use mathlib.Core.Path.{_≡_, refl}
 use mathlib.Core.Logic.{_≢_}
 use mathlib.Core.Bool.{Bool, true, false, not, cond}
@@ -50,6 +50,6 @@ depend-sound L W t s a r k = record {
   ties = all-insert tieKey (λ x y. y) (λ x y. refl) (tieSound (live W)) t s (λ y h. h) W.ties (k .ties);
   permit-order = k .permit-order;
   tie-order = insert-rising tieKey (λ x y. y) (λ x y. refl) t W.ties (k .tie-order);
-  no-circle = a;
+  no-cycle = a;
   locks = k .locks;
 }

@@ -61,8 +61,8 @@ module _ (L : Limits) (W : Window) (how : ℕ) (s : Set) (ended : outside 1 3 ho
   unfolding tieSound left tieStays
   end-tie t h q = let n = not-true (s t.leader || s t.follower) q in rw (or-false-left (s t.leader) (s t.follower) n, or-false-right (s t.leader) (s t.follower) n) h
 
-  end-circle : all (λ t. ltb t.leader (suc W.given)) W.ties ≡ true
-  end-circle = all-weaken (λ t. live W t.leader && live W t.follower) (λ t. ltb t.leader (suc W.given))
+  end-cycle : all (λ t. ltb t.leader (suc W.given)) W.ties ≡ true
+  end-cycle = all-weaken (λ t. live W t.leader && live W t.follower) (λ t. ltb t.leader (suc W.given))
       (λ t h. ltb-true t.leader (suc W.given) (live-below W t.leader (and-left (live W t.leader) (live W t.follower) h))) W.ties (ends-live L W k)
 
   -- a permit from one that lives on, to one that lives on or to anybody, stays
@@ -104,6 +104,6 @@ module _ (L : Limits) (W : Window) (how : ℕ) (s : Set) (ended : outside 1 3 ho
     ties = rw live-end (all-keep (tieSound (live W)) (tieStays s) (tieSound left) end-tie W.ties (k .ties));
     permit-order = rising-keep permitKey (permitStays s) W.permits (k .permit-order);
     tie-order = rising-keep tieKey (tieStays s) W.ties (k .tie-order);
-    no-circle = acyclic-keep (suc W.given) (tieStays s) W.ties end-circle (k .no-circle);
+    no-cycle = acyclic-keep (suc W.given) (tieStays s) W.ties end-cycle (k .no-cycle);
     locks = end-pair;
   }

@@ -104,6 +104,6 @@ module _ (L : Limits) (W : Window) (c e m : ℕ) (k : Sound L W)
     ties = k .ties;
     permit-order = k .permit-order;
     tie-order = k .tie-order;
-    no-circle = k .no-circle;
+    no-cycle = k .no-cycle;
     locks = lock-pair;
   }

@@ -32,7 +32,7 @@ pub record Sound (L : Limits) (W : Window) : Type 0 where
   pub ties : all (tieSound (live W)) W.ties ≡ true
   pub permit-order : rising permitKey W.permits ≡ true
   pub tie-order : rising tieKey W.ties ≡ true
-  pub no-circle : acyclic (suc W.given) W.ties ≡ true
+  pub no-cycle : acyclic (suc W.given) W.ties ≡ true
   pub locks : (e a b : ℕ) → pairPermitted W e a b ≡ true
 
 -- what no place of a window of these largest figures can hold: a window read from bytes has 0 there
@@ -159,7 +159,7 @@ module _ (L : Limits) (W : Window) where
     ties = k .1 .1 .1 .1 .1 .1 .1 .1 .1 .1 .1 .1 .0;
     permit-order = k .1 .1 .1 .1 .1 .1 .1 .1 .1 .1 .1 .1 .1 .0;
     tie-order = k .1 .1 .1 .1 .1 .1 .1 .1 .1 .1 .1 .1 .1 .1 .0;
-    no-circle = k .1 .1 .1 .1 .1 .1 .1 .1 .1 .1 .1 .1 .1 .1 .1 .0;
+    no-cycle = k .1 .1 .1 .1 .1 .1 .1 .1 .1 .1 .1 .1 .1 .1 .1 .0;
     locks = fits-all W lock (k .1 .1 .1 .1 .1 .1 .1 .1 .1 .1 .1 .1 .1 .1 .1 .1 .0);
   }
     where
@@ -207,7 +207,7 @@ module _ (L : Limits) (W : Window) where
     k .ties,
     k .permit-order,
     k .tie-order,
-    k .no-circle,
+    k .no-cycle,
     fit-locks W (k .locks),
   )
 

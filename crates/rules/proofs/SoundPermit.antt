@@ -60,7 +60,7 @@ permit-sound L W p s r k = record {
   ties = k .ties;
   permit-order = insert-rising permitKey unitePermits unite-key p W.permits (k .permit-order);
   tie-order = k .tie-order;
-  no-circle = k .no-circle;
+  no-cycle = k .no-cycle;
   locks = λ e a b. or-map (eqb a b || not (clash (W .held e a) (W .held e b)) || permitted W.permits a b e (W .held e b)) (permitted W.permits b a e (W .held e a)) _ _
       (or-map (eqb a b || not (clash (W .held e a) (W .held e b))) (permitted W.permits a b e (W .held e b)) _ _ (λ z. z) (permitted-add p W.permits a b e (W .held e b)))
       (permitted-add p W.permits b a e (W .held e a)) (k .locks e a b);

@@ -37,7 +37,7 @@ fresh-sound L n h l = record {
   ties = refl;
   permit-order = refl;
   tie-order = refl;
-  no-circle = refl;
+  no-cycle = refl;
   locks = λ e a b. rw or-true;
 }
   where
@@ -86,7 +86,7 @@ value-sound L W v f k = record {
   ties = k .ties;
   permit-order = k .permit-order;
   tie-order = k .tie-order;
-  no-circle = k .no-circle;
+  no-cycle = k .no-cycle;
   locks = k .locks;
 }
 
@@ -110,7 +110,7 @@ log-sound L W r h l k = record {
   ties = k .ties;
   permit-order = k .permit-order;
   tie-order = k .tie-order;
-  no-circle = k .no-circle;
+  no-cycle = k .no-cycle;
   locks = k .locks;
 }
 
@@ -151,7 +151,7 @@ status-sound L W c s n h z k = record {
   ties = rw (live-put W c s h) (k .ties);
   permit-order = k .permit-order;
   tie-order = k .tie-order;
-  no-circle = k .no-circle;
+  no-cycle = k .no-cycle;
   locks = k .locks;
 }
 
@@ -209,6 +209,6 @@ module _ (L : Limits) (W : Window) (p : ℕ) (room : not (exceeds (suc W.given) 
     ties = all-weaken _ _ (tie-more (live W) (live (addChange W p)) live-start) W.ties (k .ties);
     permit-order = k .permit-order;
     tie-order = k .tie-order;
-    no-circle = acyclic-more (suc W.given) W.ties (ends-below W (k .ties)) (k .no-circle);
+    no-cycle = acyclic-more (suc W.given) W.ties (ends-below W (k .ties)) (k .no-cycle);
     locks = k .locks;
   }

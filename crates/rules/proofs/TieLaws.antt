@@ -1,4 +1,4 @@
--- Ties: who is at their ends, and that fewer of them, or more changes, close no circle. Assumes nothing.
+-- Ties: who is at their ends, and that fewer of them, or more changes, close no cycle. Assumes nothing.
 use mathlib.Core.Path.{_≡_, refl}
 use mathlib.Core.Logic.{⊎-elim}
 use mathlib.Core.Bool.{Bool, true, false, not, _&&_, _||_}
@@ -78,7 +78,7 @@ acyclic-keep n q ts b e = all-keep (λ t. ltb t.leader n && (not (isArrow t.kind
     (λ t p x. or-map (not (isArrow t.kind)) _ (not (isArrow t.kind)) _ (λ y. y) (not-both _ _ (reach-fewer n (leading (keep q ts)) (leading ts) (leading-keep q ts) t.follower t.leader (lt-of t.leader n (and-left (ltb t.leader n) _ p)))) (and-right (ltb t.leader n) _ p))
     ts (all-and _ _ ts b e)
 
--- one more change, to which no tie goes, closes no circle
+-- one more change, to which no tie goes, closes no cycle
 pub acyclic-more : (n : ℕ) (ts : List TieRecord) → all (λ t. ltb t.leader n && ltb t.follower n) ts ≡ true → acyclic n ts ≡ true → acyclic (suc n) ts ≡ true
 unfolding acyclic
 acyclic-more n ts b e = all-weaken (λ t. (ltb t.leader n && ltb t.follower n) && (not (isArrow t.kind) || not (reach n (leading ts) t.follower t.leader)))

@@ -69,7 +69,7 @@ module _ (bs : List ℕ) (size : length bs ≡ windowSize) (h : HeadSound (part 
     ties = k .ties .fine;
     permit-order = k .permits .order;
     tie-order = k .ties .order;
-    no-circle = a;
+    no-cycle = a;
     locks = fits-all gathered (f .locks .fine) p;
   }
 
@@ -159,4 +159,4 @@ module _ (bs : List ℕ) (size : length bs ≡ windowSize) (s : soundBytes bs �
   listed-known = gathered-listed bs size head-known changes-known front-known back-known
 
   pub relations-known : acyclic (suc (W .given)) (W .ties) && clashesPermitted W ≡ true
-  relations-known = and-both _ _ (z .no-circle) (fit-locks W (z .locks))
+  relations-known = and-both _ _ (z .no-cycle) (fit-locks W (z .locks))

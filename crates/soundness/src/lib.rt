@@ -90,7 +90,7 @@ fn back(
     )
 }
 
-// Arrows do not close a circle, and each clashing pair of locks has a permit.
+// Arrows do not close a cycle, and each clashing pair of locks has a permit.
 fn related(w: &[u8], entries: usize, permits: usize, ties: usize) -> bool
     requires { ⌜ length (now w) ≡ windowSize ⌝ }
     requires { ⌜ (entries ≤ 256) × (permits ≤ 1024) × (ties ≤ 512) ⌝ }

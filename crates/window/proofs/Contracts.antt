@@ -1,4 +1,5 @@
 -- The contracts of the exported functions, as what is known of a call made through them. Assumes nothing.
+use mathlib.Core.Path.{_≡_}
 use mathlib.Core.List.{List}
 use Prim.Native.Nat.{ℕ}
 use contract.Lifetimes.{Lfts}
@@ -41,53 +42,57 @@ use Rattle.window.proofs.window_value.Kinds as value-kinds
 use Rattle.window.proofs.window_value.Reads as value-contract
 
 -- a call made through its function: memory before, call, reply and memory afterwards, of which the function's contract (`Learnt`) holds.
--- a are the arguments, r is the result, s what the memory is at the end
-pub data Made : List ℕ → Call → Reply → List ℕ → Type 1 where
-  by-open : (κs : Lfts 1) (a : Dens κs open-kinds.ps) (r : resT open-kinds.r κs .Denot) (s : AtExit (endedOf 1 open-kinds.ps open-kinds.r) κs) → open-contract.Learnt κs a r s
-      → Made (now (a .0)) (Open (a .1 .0)) r (now (s .0))
-  by-initiate : (κs : Lfts 1) (a : Dens κs initiate-kinds.ps) (r : resT initiate-kinds.r κs .Denot) (s : AtExit (endedOf 1 initiate-kinds.ps initiate-kinds.r) κs) → initiate-contract.Learnt κs a r s
-      → Made (now (a .0)) (Initiate (a .1 .0)) r (now (s .0))
-  by-begin : (κs : Lfts 1) (a : Dens κs begin-kinds.ps) (r : resT begin-kinds.r κs .Denot) (s : AtExit (endedOf 1 begin-kinds.ps begin-kinds.r) κs) → begin-contract.Learnt κs a r s
-      → Made (now (a .0)) (Begin (a .1 .0)) r (now (s .0))
-  by-complete : (κs : Lfts 1) (a : Dens κs complete-kinds.ps) (r : resT complete-kinds.r κs .Denot) (s : AtExit (endedOf 1 complete-kinds.ps complete-kinds.r) κs) → complete-contract.Learnt κs a r s
-      → Made (now (a .0)) (Complete (a .1 .0)) r (now (s .0))
-  by-lock : (κs : Lfts 1) (a : Dens κs lock-kinds.ps) (r : resT lock-kinds.r κs .Denot) (s : AtExit (endedOf 1 lock-kinds.ps lock-kinds.r) κs) → lock-contract.Learnt κs a r s
-      → Made (now (a .0)) (Lock (a .1 .0) (a .1 .1 .0) (a .1 .1 .1 .0)) r (now (s .0))
-  by-read : (κs : Lfts 1) (a : Dens κs read-kinds.ps) (r : resT read-kinds.r κs .Denot) (s : AtExit (endedOf 1 read-kinds.ps read-kinds.r) κs) → read-contract.Learnt κs a r s
-      → Made (now (a .0)) (Read (a .1 .0) (a .1 .1 .0)) r (now (s .0))
-  by-write : (κs : Lfts 1) (a : Dens κs write-kinds.ps) (r : resT write-kinds.r κs .Denot) (s : AtExit (endedOf 1 write-kinds.ps write-kinds.r) κs) → write-contract.Learnt κs a r s
-      → Made (now (a .0)) (Write (a .1 .0) (a .1 .1 .0) (a .1 .1 .1 .0)) r (now (s .0))
-  by-permit : (κs : Lfts 1) (a : Dens κs permit-kinds.ps) (r : resT permit-kinds.r κs .Denot) (s : AtExit (endedOf 1 permit-kinds.ps permit-kinds.r) κs) → permit-contract.Learnt κs a r s
-      → Made (now (a .0)) (Permit (a .1 .0) (a .1 .1 .0) (a .1 .1 .1 .0) (a .1 .1 .1 .1 .0)) r (now (s .0))
-  by-delegate : (κs : Lfts 1) (a : Dens κs delegate-kinds.ps) (r : resT delegate-kinds.r κs .Denot) (s : AtExit (endedOf 1 delegate-kinds.ps delegate-kinds.r) κs) → delegate-contract.Learnt κs a r s
-      → Made (now (a .0)) (Delegate (a .1 .0) (a .1 .1 .0) (a .1 .1 .1 .0)) r (now (s .0))
-  by-depend : (κs : Lfts 1) (a : Dens κs depend-kinds.ps) (r : resT depend-kinds.r κs .Denot) (s : AtExit (endedOf 1 depend-kinds.ps depend-kinds.r) κs) → depend-contract.Learnt κs a r s
-      → Made (now (a .0)) (Depend (a .1 .0) (a .1 .1 .0) (a .1 .1 .1 .0)) r (now (s .0))
-  by-commit : (κs : Lfts 1) (a : Dens κs commit-kinds.ps) (r : resT commit-kinds.r κs .Denot) (s : AtExit (endedOf 1 commit-kinds.ps commit-kinds.r) κs) → commit-contract.Learnt κs a r s
-      → Made (now (a .0)) (Commit (a .1 .0)) r (now (s .0))
-  by-abort : (κs : Lfts 1) (a : Dens κs abort-kinds.ps) (r : resT abort-kinds.r κs .Denot) (s : AtExit (endedOf 1 abort-kinds.ps abort-kinds.r) κs) → abort-contract.Learnt κs a r s
-      → Made (now (a .0)) (Abort (a .1 .0)) r (now (s .0))
-  by-status : (κs : Lfts 1) (a : Dens κs status-kinds.ps) (r : resT status-kinds.r κs .Denot) (s : AtExit (endedOf 1 status-kinds.ps status-kinds.r) κs) → status-contract.Learnt κs a r s
-      → Made (now (a .0)) (Status (a .1 .0)) r (now (s .0))
-  by-parent : (κs : Lfts 1) (a : Dens κs parent-kinds.ps) (r : resT parent-kinds.r κs .Denot) (s : AtExit (endedOf 1 parent-kinds.ps parent-kinds.r) κs) → parent-contract.Learnt κs a r s
-      → Made (now (a .0)) (Parent (a .1 .0)) r (now (s .0))
-  by-value : (κs : Lfts 1) (a : Dens κs value-kinds.ps) (r : resT value-kinds.r κs .Denot) (s : AtExit (endedOf 1 value-kinds.ps value-kinds.r) κs) → value-contract.Learnt κs a r s
-      → Made (now (a .0)) (Value (a .1 .0)) r (now (s .0))
+-- a are the function's arguments, s what the memory is at the end. A call without a function is refused here
+pub Made : List ℕ → Call → Reply → List ℕ → Type 0
+Made mem (Open n) r after = (κs : Lfts 1) × (a : Dens κs open-kinds.ps) × (s : AtExit (endedOf 1 open-kinds.ps open-kinds.r) κs) × open-contract.Learnt κs a r s
+    × (now (a .0) ≡ mem) × (Open (a .1 .0) ≡ Open n) × (now (s .0) ≡ after)
+Made mem (Initiate p) r after = (κs : Lfts 1) × (a : Dens κs initiate-kinds.ps) × (s : AtExit (endedOf 1 initiate-kinds.ps initiate-kinds.r) κs) × initiate-contract.Learnt κs a r s
+    × (now (a .0) ≡ mem) × (Initiate (a .1 .0) ≡ Initiate p) × (now (s .0) ≡ after)
+Made mem (Begin c) r after = (κs : Lfts 1) × (a : Dens κs begin-kinds.ps) × (s : AtExit (endedOf 1 begin-kinds.ps begin-kinds.r) κs) × begin-contract.Learnt κs a r s
+    × (now (a .0) ≡ mem) × (Begin (a .1 .0) ≡ Begin c) × (now (s .0) ≡ after)
+Made mem (Complete c) r after = (κs : Lfts 1) × (a : Dens κs complete-kinds.ps) × (s : AtExit (endedOf 1 complete-kinds.ps complete-kinds.r) κs) × complete-contract.Learnt κs a r s
+    × (now (a .0) ≡ mem) × (Complete (a .1 .0) ≡ Complete c) × (now (s .0) ≡ after)
+Made mem (Lock c e m) r after = (κs : Lfts 1) × (a : Dens κs lock-kinds.ps) × (s : AtExit (endedOf 1 lock-kinds.ps lock-kinds.r) κs) × lock-contract.Learnt κs a r s
+    × (now (a .0) ≡ mem) × (Lock (a .1 .0) (a .1 .1 .0) (a .1 .1 .1 .0) ≡ Lock c e m) × (now (s .0) ≡ after)
+Made mem (Read c e) r after = (κs : Lfts 1) × (a : Dens κs read-kinds.ps) × (s : AtExit (endedOf 1 read-kinds.ps read-kinds.r) κs) × read-contract.Learnt κs a r s
+    × (now (a .0) ≡ mem) × (Read (a .1 .0) (a .1 .1 .0) ≡ Read c e) × (now (s .0) ≡ after)
+Made mem (Write c e v) r after = (κs : Lfts 1) × (a : Dens κs write-kinds.ps) × (s : AtExit (endedOf 1 write-kinds.ps write-kinds.r) κs) × write-contract.Learnt κs a r s
+    × (now (a .0) ≡ mem) × (Write (a .1 .0) (a .1 .1 .0) (a .1 .1 .1 .0) ≡ Write c e v) × (now (s .0) ≡ after)
+Made mem (Permit g t e o) r after = (κs : Lfts 1) × (a : Dens κs permit-kinds.ps) × (s : AtExit (endedOf 1 permit-kinds.ps permit-kinds.r) κs) × permit-contract.Learnt κs a r s
+    × (now (a .0) ≡ mem) × (Permit (a .1 .0) (a .1 .1 .0) (a .1 .1 .1 .0) (a .1 .1 .1 .1 .0) ≡ Permit g t e o) × (now (s .0) ≡ after)
+Made mem (Delegate f t e) r after = (κs : Lfts 1) × (a : Dens κs delegate-kinds.ps) × (s : AtExit (endedOf 1 delegate-kinds.ps delegate-kinds.r) κs) × delegate-contract.Learnt κs a r s
+    × (now (a .0) ≡ mem) × (Delegate (a .1 .0) (a .1 .1 .0) (a .1 .1 .1 .0) ≡ Delegate f t e) × (now (s .0) ≡ after)
+Made mem (Depend k l f) r after = (κs : Lfts 1) × (a : Dens κs depend-kinds.ps) × (s : AtExit (endedOf 1 depend-kinds.ps depend-kinds.r) κs) × depend-contract.Learnt κs a r s
+    × (now (a .0) ≡ mem) × (Depend (a .1 .0) (a .1 .1 .0) (a .1 .1 .1 .0) ≡ Depend k l f) × (now (s .0) ≡ after)
+Made mem (Commit c) r after = (κs : Lfts 1) × (a : Dens κs commit-kinds.ps) × (s : AtExit (endedOf 1 commit-kinds.ps commit-kinds.r) κs) × commit-contract.Learnt κs a r s
+    × (now (a .0) ≡ mem) × (Commit (a .1 .0) ≡ Commit c) × (now (s .0) ≡ after)
+Made mem (Abort c) r after = (κs : Lfts 1) × (a : Dens κs abort-kinds.ps) × (s : AtExit (endedOf 1 abort-kinds.ps abort-kinds.r) κs) × abort-contract.Learnt κs a r s
+    × (now (a .0) ≡ mem) × (Abort (a .1 .0) ≡ Abort c) × (now (s .0) ≡ after)
+Made mem (Status c) r after = (κs : Lfts 1) × (a : Dens κs status-kinds.ps) × (s : AtExit (endedOf 1 status-kinds.ps status-kinds.r) κs) × status-contract.Learnt κs a r s
+    × (now (a .0) ≡ mem) × (Status (a .1 .0) ≡ Status c) × (now (s .0) ≡ after)
+Made mem (Parent c) r after = (κs : Lfts 1) × (a : Dens κs parent-kinds.ps) × (s : AtExit (endedOf 1 parent-kinds.ps parent-kinds.r) κs) × parent-contract.Learnt κs a r s
+    × (now (a .0) ≡ mem) × (Parent (a .1 .0) ≡ Parent c) × (now (s .0) ≡ after)
+Made mem (Value e) r after = (κs : Lfts 1) × (a : Dens κs value-kinds.ps) × (s : AtExit (endedOf 1 value-kinds.ps value-kinds.r) κs) × value-contract.Learnt κs a r s
+    × (now (a .0) ≡ mem) × (Value (a .1 .0) ≡ Value e) × (now (s .0) ≡ after)
 
 -- it gives what `perform` gives
-pub made-gives : {mem : List ℕ} {c : Call} {r : Reply} {after : List ℕ} → Made mem c r after → Gives (perform mem c) r after
-made-gives (by-open κs a r s x) = x
-made-gives (by-initiate κs a r s x) = x
-made-gives (by-begin κs a r s x) = x
-made-gives (by-complete κs a r s x) = x
-made-gives (by-lock κs a r s x) = x
-made-gives (by-read κs a r s x) = x
-made-gives (by-write κs a r s x) = x
-made-gives (by-permit κs a r s x) = x
-made-gives (by-delegate κs a r s x) = x
-made-gives (by-depend κs a r s x) = x
-made-gives (by-commit κs a r s x) = x
-made-gives (by-abort κs a r s x) = x
-made-gives (by-status κs a r s x) = x
-made-gives (by-parent κs a r s x) = x
-made-gives (by-value κs a r s x) = x
+moved : {m mem : List ℕ} {d c : Call} {r : Reply} {l after : List ℕ} → Gives (perform m d) r l → m ≡ mem → d ≡ c → l ≡ after → Gives (perform mem c) r after
+moved x e f g = rw (← e, ← f, ← g) x
+
+pub made-gives : (mem : List ℕ) (c : Call) (r : Reply) (after : List ℕ) → Made mem c r after → Gives (perform mem c) r after
+unfolding Made
+made-gives mem (Open n) r after (κs, a, s, x, h, i, j) = moved x h i j
+made-gives mem (Initiate p) r after (κs, a, s, x, h, i, j) = moved x h i j
+made-gives mem (Begin c) r after (κs, a, s, x, h, i, j) = moved x h i j
+made-gives mem (Complete c) r after (κs, a, s, x, h, i, j) = moved x h i j
+made-gives mem (Lock c e m) r after (κs, a, s, x, h, i, j) = moved x h i j
+made-gives mem (Read c e) r after (κs, a, s, x, h, i, j) = moved x h i j
+made-gives mem (Write c e v) r after (κs, a, s, x, h, i, j) = moved x h i j
+made-gives mem (Permit g t e o) r after (κs, a, s, x, h, i, j) = moved x h i j
+made-gives mem (Delegate f t e) r after (κs, a, s, x, h, i, j) = moved x h i j
+made-gives mem (Depend k l f) r after (κs, a, s, x, h, i, j) = moved x h i j
+made-gives mem (Commit c) r after (κs, a, s, x, h, i, j) = moved x h i j
+made-gives mem (Abort c) r after (κs, a, s, x, h, i, j) = moved x h i j
+made-gives mem (Status c) r after (κs, a, s, x, h, i, j) = moved x h i j
+made-gives mem (Parent c) r after (κs, a, s, x, h, i, j) = moved x h i j
+made-gives mem (Value e) r after (κs, a, s, x, h, i, j) = moved x h i j

@@ -15,7 +15,7 @@ use Rattle.window.specs.Seen.{Done, seenOf, seen}
 use Rattle.window.proofs.Contracts.{Made, made-gives}
 
 -- calls made through the functions, each on the memory that the last one left
-pub data Run : List ℕ → List Done → Type 1 where
+pub data Run : List ℕ → List Done → Type 0 where
   none : {mem : List ℕ} → Run mem []
   next : {mem : List ℕ} {d : Done} {l : List Done} → Made mem (d .call) (d .reply) (d .after) → Run (d .after) l → Run mem (d ∷ l)
 
@@ -31,12 +31,12 @@ seen-one mem d g = λ i. record { call = d .call; answer = g .answer i; number =
 seen-all : (mem : List ℕ) (p : List Event) (l : List Done) → Run mem l → seen p l ≡ history perform mem p (callsOf l)
 unfolding seen history
 seen-all mem p [] none = refl
-seen-all mem p (d ∷ l) (next m r) = let g = made-gives m in
+seen-all mem p (d ∷ l) (next m r) = let g = made-gives mem (d .call) (d .reply) (d .after) m in
     seen-all (d .after) (remember (seenOf d) p) l r
     ∙ (λ i. history perform (g .bytes i) (remember (seen-one mem d g i) p) (callsOf l))
 
 -- demand 3 of what is seen of the calls made: the open d, then the calls l
-pub record Demand3Seen (mem : List ℕ) (d : Done) (l : List Done) : Type 1 where
+pub record Demand3Seen (mem : List ℕ) (d : Done) (l : List Done) : Type 0 where
   pub kept : Kept (seen [] (d ∷ l))
   -- as many walks as there are live groups, made after them, leave all live changes committed
   pub walked : AllCompleted (seen [] (d ∷ l)) → (k : List Done) → Run mem (d ∷ (l ++ k)) → callsOf k ≡ walks (liveGroups (seen [] (d ∷ l))) (highest (seen [] (d ∷ l)))
@@ -53,7 +53,7 @@ code-kept mem n d l r o e f = record {
     opened = go r
       where
         go : Run mem (d ∷ l) → perform mem (Open n) .answer ≡ 0
-        go (next m s) = ap (λ c. perform mem c .answer) (sym o) ∙ sym (made-gives m .answer) ∙ e
+        go (next m s) = ap (λ c. perform mem c .answer) (sym o) ∙ sym (made-gives mem (d .call) (d .reply) (d .after) m .answer) ∙ e
 
     whole : Demand3After (λ k. history perform mem [] (Open n ∷ k)) (callsOf l)
     whole = bytes-kept mem n opened (callsOf l) f

@@ -24,7 +24,7 @@ returns c =
     let s = c .before .before .before .before in
     let bs = s .args .w .now in
     let k = bytes-sound bs (s .pre .1 .0) in
-    c .returns .ensures _ (sym (c .before .before .ties .ensures .0)) (ties-known bs (s .pre .1 .0)) _ (sound-ends limits _ k) (omega arith) (omega arith) (s .pre .1 .1 .0) (k .no-circle)
+    c .returns .ensures _ (sym (c .before .before .ties .ensures .0)) (ties-known bs (s .pre .1 .0)) _ (sound-ends limits _ k) (omega arith) (omega arith) (s .pre .1 .1 .0) (k .no-cycle)
 
 pub tie-returns-spec : {M : Type 1} → statement M
 tie-returns-spec =
