@@ -8,7 +8,7 @@ use Rattle.rules.specs.Window.{PermitRecord}
 use Rattle.rules.proofs.BaseLaws.{Same, same, other, same?}
 use Rattle.layout.specs.Records.{permitAt}
 use Rattle.rules.proofs.BoundLaws.{any-ext}
-use Rattle.beside.specs.Permits.{anyOf, FirstOf}
+use Rattle.beside.specs.Permits.{anyOf, NoneBefore, FirstOf}
 
 -- other permits, or another test, that say the same
 pub any-same : (n : ℕ) (t u : ℕ → PermitRecord) (p q : PermitRecord → Bool) → ((j : ℕ) → j < n → p (t j) ≡ q (u j)) → anyOf n t p ≡ anyOf n u q
@@ -31,8 +31,11 @@ module _ (p : PermitRecord → Bool) (bs : List ℕ) (count start : ℕ) where
       go (same q) = rw q e
       go (other n) = before k h (omega arith)
 
+  pub none-before : (j : ℕ) → start ≤ j → j ≤ count → Skipped j → NoneBefore p bs count start j
+  none-before j h l before = record { from = h; to = l; skipped = before }
+
   pub first-found : (j : ℕ) → start ≤ j → j < count → Skipped j → p (permitAt bs j) ≡ true → FirstOf p bs count start j
-  first-found j h l before e = record { from = h; to = omega arith; skipped = before; found = λ _. e }
+  first-found j h l before e = record { before = none-before j h (omega arith) before; found = λ _. e }
 
   pub first-nothing : (j : ℕ) → start ≤ j → j ≡ count → Skipped j → FirstOf p bs count start j
-  first-nothing j h l before = record { from = h; to = omega arith; skipped = before; found = λ m. absurd (omega arith) }
+  first-nothing j h l before = record { before = none-before j h (omega arith) before; found = λ m. absurd (omega arith) }

@@ -11,12 +11,14 @@ use Rattle.layout.specs.Records.{permitAt}
 unfoldable pub anyOf : ℕ → (ℕ → PermitRecord) → (PermitRecord → Bool) → Bool
 anyOf n t p = anyBelow n (λ j. p (t j))
 
--- the first place from a start on whose permit passes; the count where there is none
-pub record FirstOf (p : PermitRecord → Bool) (bs : List ℕ) (count start at : ℕ) : Type 0 where
-  -- from the start on, and at most the count
+-- a place from a start on, and at most the count, with none on the way whose permit passes
+pub record NoneBefore (p : PermitRecord → Bool) (bs : List ℕ) (count start at : ℕ) : Type 0 where
   pub from : start ≤ at
   pub to : at ≤ count
-  -- none on the way passes
   pub skipped : (j : ℕ) → start ≤ j → j < at → p (permitAt bs j) ≡ false
+
+-- the first place from a start on whose permit passes; the count where there is none
+pub record FirstOf (p : PermitRecord → Bool) (bs : List ℕ) (count start at : ℕ) : Type 0 where
+  pub before : NoneBefore p bs count start at
   -- it passes itself
   pub found : at < count → p (permitAt bs at) ≡ true

@@ -51,7 +51,7 @@ module _ (bs : List ℕ) (count e next from to : ℕ) (lower : (j : ℕ) → j <
     where
       go : Dec (j < next) → permitAt bs j .entry < e
       go (yes l) = lower j l
-      go (no l) = gt-of e (permitAt bs j .entry) (first .skipped j (omega arith) h)
+      go (no l) = gt-of e (permitAt bs j .entry) (first .before .skipped j (omega arith) h)
 
   pub lower-last : (j : ℕ) → j < to → permitAt bs j .entry < e + 1
   unfolding fromEntry
@@ -59,13 +59,13 @@ module _ (bs : List ℕ) (count e next from to : ℕ) (lower : (j : ℕ) → j <
     where
       go : Dec (j < from) → permitAt bs j .entry < e + 1
       go (yes l) = omega (arith, lower-first j l)
-      go (no l) = gt-of (e + 1) (permitAt bs j .entry) (last .skipped j (omega arith) h)
+      go (no l) = gt-of (e + 1) (permitAt bs j .entry) (last .before .skipped j (omega arith) h)
 
   -- in order, those of e are the ones between
   module _ (order : (i j : ℕ) → i ≤ j → j < count → permitAt bs i .entry ≤ permitAt bs j .entry) where
     own : (j : ℕ) → from ≤ j → j < to → permitAt bs j .entry ≡ e
     unfolding fromEntry
-    own j h l = omega (arith, lower-last j l, le-of e (permitAt bs from .entry) (first .found (omega (arith, last .to))), order from j h (omega (arith, last .to)))
+    own j h l = omega (arith, lower-last j l, le-of e (permitAt bs from .entry) (first .found (omega (arith, last .before .to))), order from j h (omega (arith, last .before .to)))
 
     owned : (j : ℕ) → j < count → permitAt bs j .entry ≡ e → (from ≤ j) × (j < to)
     unfolding fromEntry
@@ -92,11 +92,11 @@ module _ (ps : List PermitRecord) (bs : List ℕ) (section : bs ≡ permitSectio
   own-any : (q : PermitRecord → Bool) → anyOf (to - from) (permitFrom bs from) q ≡ any (λ p. eqb p.entry e && q p) ps
   unfolding anyOf permitFrom
   own-any q = both-ways _ _
-      (λ f. let (j, h, g) = any-elim (to - from) _ f in here (from + j) (omega arith) (omega (arith, last .to)) g)
+      (λ f. let (j, h, g) = any-elim (to - from) _ f in here (from + j) (omega arith) (omega (arith, last .before .to)) g)
       (λ f. let (j, h, g) = any-place (λ p. eqb p.entry e && q p) noPermit ps f in there j h (rw (← record-at j h) at g))
     where
       here : (j : ℕ) → from ≤ j → j < to → q (permitAt bs j) ≡ true → any (λ p. eqb p.entry e && q p) ps ≡ true
-      here j h l g = any-at (λ p. eqb p.entry e && q p) noPermit ps j (omega (arith, last .to)) (rw (← record-at j (omega (arith, last .to))) (and-both (eqb (permitAt bs j .entry) e) (q (permitAt bs j)) (rw (own bs (length ps) e next from to lower first last rise j h l) (eqb-same e)) g))
+      here j h l g = any-at (λ p. eqb p.entry e && q p) noPermit ps j (omega (arith, last .before .to)) (rw (← record-at j (omega (arith, last .before .to))) (and-both (eqb (permitAt bs j .entry) e) (q (permitAt bs j)) (rw (own bs (length ps) e next from to lower first last rise j h l) (eqb-same e)) g))
 
       there : (j : ℕ) → j < length ps → eqb (permitAt bs j .entry) e && q (permitAt bs j) ≡ true → anyBelow (to - from) (λ j. q (permitAt bs (from + j))) ≡ true
       there j h g =

@@ -15,7 +15,7 @@ use Rattle.rules.proofs.BaseLaws.{both-ways, any-intro, any-elim, anyBelow-none
 use Rattle.layout.specs.Records.{permitAt}
 use Rattle.beside.specs.Permits.{anyOf}
 use Rattle.beside.proofs.PlaceLaws.{Skipped}
-use Rattle.many_permits.specs.Blocks.{NoneBefore, involves, byteIs}
+use Rattle.many_permits.specs.Blocks.{involves, byteIs}
 
 -- ONE OF THE FIRST N
 module _ (t : ℕ → PermitRecord) (p : PermitRecord → Bool) where
@@ -46,9 +46,6 @@ module _ (p : PermitRecord → Bool) (bs : List ℕ) (count start : ℕ) where
       go : Dec (k < j) → p (permitAt bs k) ≡ false
       go (yes m) = before k h m
       go (no m) = none k (omega arith) l
-
-  pub none-before : (j : ℕ) → start ≤ j → j ≤ count → Skipped p bs count start j → NoneBefore p bs count start j
-  none-before j h l before = record { from = h; to = l; skipped = before }
 
 -- A BLOCK OF PERMITS
 -- one byte more

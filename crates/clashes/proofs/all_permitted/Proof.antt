@@ -44,7 +44,7 @@ loop-again c =
     (λ w.
     let lower : (j : ℕ) → j < w .2 .result → permitAt (a .permits .now) j .entry < l .entry + 1 = lower-last (a .permits .now) (a .count) (l .entry) (l .next) (w .1 .result) (w .2 .result) (l .inv .2) (w .1 .ensures) (w .2 .ensures) in (
       omega arith,
-      rw (w .5) (w .2 .ensures .to),
+      rw (w .5) (w .2 .ensures .before .to),
       rw (w .5) lower,
       λ W h. turn-passed (l .entry) (entryPermitted W) (w .3 .result) (l .inv .3 W h)
           (turn-found (a .locks .now) (a .permits .now) (a .entries) (a .count) W h (l .entry) (w .3 .result) (l .next) (w .1 .result) (w .2 .result) (omega arith) (l .inv .2) (w .1 .ensures) (w .2 .ensures) (w .3 .ensures))

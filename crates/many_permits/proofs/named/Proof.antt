@@ -26,13 +26,13 @@ loop-holds c =
     let t = permitAt (a .permits .now) in
     let p : ℕ → PermitRecord → Bool = names (members (a .readers)) (members (a .writers)) (a .writer) in
     let next = c .next-involving in (
-      next .ensures .to,
-      λ k. c .before .empty .ensures k ∙ any-none t (p k) ∙ any-skipped t (p k) 0 (next .result) (next .ensures .from)
-          (λ i h l. names-none (members (a .readers)) (members (a .writers)) (a .writer) k (t i) (next .ensures .skipped i h l)),
+      next .ensures .before .to,
+      λ k. c .before .empty .ensures k ∙ any-none t (p k) ∙ any-skipped t (p k) 0 (next .result) (next .ensures .before .from)
+          (λ i h l. names-none (members (a .readers)) (members (a .writers)) (a .writer) k (t i) (next .ensures .before .skipped i h l)),
     )
 
 loop-less : tie.Need-loop-less Inv-loop μ-loop
-loop-less c = omega (arith, c .next-involving2 .ensures .from)
+loop-less c = omega (arith, c .next-involving2 .ensures .before .from)
 
 loop-again : tie.Need-loop-again Inv-loop μ-loop
 loop-again c =
@@ -41,9 +41,9 @@ loop-again c =
     let t = permitAt (a .permits .now) in
     let p : ℕ → PermitRecord → Bool = names (members (a .readers)) (members (a .writers)) (a .writer) in
     let next = c .next-involving2 in (
-      next .ensures .to,
+      next .ensures .before .to,
       λ k. any-next t (p k) (l .j) (members (l .s) k) (members (c .before .add-named .result) k) (l .inv .1 k) (c .before .add-named .ensures k)
-          ∙ any-skipped t (p k) (l .j + 1) (next .result) (next .ensures .from) (λ i h m. names-none (members (a .readers)) (members (a .writers)) (a .writer) k (t i) (next .ensures .skipped i h m)),
+          ∙ any-skipped t (p k) (l .j + 1) (next .result) (next .ensures .before .from) (λ i h m. names-none (members (a .readers)) (members (a .writers)) (a .writer) k (t i) (next .ensures .before .skipped i h m)),
     )
 
 returns : tie.Need-returns Inv-loop μ-loop
