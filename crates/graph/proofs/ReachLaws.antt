@@ -66,7 +66,7 @@ pub leaders-next : (t : ℕ → TieRecord) (f s r : Set) (j : ℕ) → ((k : ℕ
 unfolding anyBelow
 leaders-next t f s r j h e k = e k ∙ rw (h k, add-one j)
 
--- a tie of another kind, or to no member, adds nothing; an arrow to a member adds its leader
+-- a tie of another kind, or to no member, adds nothing
 pub leader-none : (t : TieRecord) (f s : Set) → isArrow t.kind && f t.follower ≡ false → (k : ℕ) → s k ≡ s k || leadsTo f k t
 unfolding leadsTo
 leader-none t f s h k = sym (ap (λ (b : Bool). s k || b) (go (isArrow t.kind) (eqb t.leader k) (f t.follower) h) ∙ or-false (s k))

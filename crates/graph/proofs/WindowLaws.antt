@@ -5,7 +5,7 @@ use Prim.Native.Nat.{ℕ, suc}
 use lib.Dec.{eqb}
 use Rattle.rules.specs.Sets.{Set}
 use Rattle.rules.specs.Window.{Limits, Window}
-use Rattle.rules.specs.Effects.{commitBlockers, leadsTo, leadersOf}
+use Rattle.rules.specs.Effects.{leadersOf, commitBlockers}
 use Rattle.rules.proofs.SoundParts.{Sound, ends-below}
 use Rattle.layout.specs.Records.{endsBelow}
 

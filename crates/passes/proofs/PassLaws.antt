@@ -42,7 +42,7 @@ module _ (low : ℕ) (t : TieRecord) (s : Set) where
   unfolding pulled
   pulled-keeps k e = or-left (s k || eqb k t.follower && (follows low t.kind && s t.leader)) _ (or-left (s k) _ e)
 
-  -- the follower comes in with the leader, and a group tie's leader with the follower
+  -- the follower comes in with the leader
   pub pulled-follower : follows low t.kind ≡ true → s t.leader ≡ true → pulled low t s t.follower ≡ true
   unfolding pulled
   pulled-follower f e = or-left (s t.follower || eqb t.follower t.follower && (follows low t.kind && s t.leader)) _
@@ -63,7 +63,7 @@ module _ (low : ℕ) (t : TieRecord) (s : Set) where
       (λ q. let r = and-three (eqb k t.leader) (isGroup t.kind) (s t.follower) q in rw (eqb-eq k t.leader (r .0)) (g (r .1) (r .2)))
       (or-cases (s k || eqb k t.follower && (follows low t.kind && s t.leader)) _ e)
 
-  -- nothing to add; the follower added; the leader added
+  -- nothing to add
   pub pulled-none : (follows low t.kind ≡ true → s t.leader ≡ true → s t.follower ≡ true) → (isGroup t.kind ≡ true → s t.follower ≡ true → s t.leader ≡ true) → (k : ℕ) → s k ≡ pulled low t s k
   pulled-none f g k = both-ways (s k) (pulled low t s k) (pulled-keeps k) (pulled-within s (λ j e. e) f g k)
 

@@ -25,7 +25,7 @@ use Rattle.rows.proofs.TableLaws.{keep-map, added-all-map, length-least-all, ta
 use Rattle.permits.specs.PermitRows.{givenBy, handed, withGiver}
 use Rattle.permits.proofs.PermitLaws.{permitRow, permit-table, permit-united}
 
--- a permit that moves, and one that stays
+-- a permit that moves
 abbrev moves : ℕ → ℕ → Set → PermitRecord → Bool
 moves from to on p = eqb p.giver from && on p.entry && not (eqb p.taker to)
 

@@ -4,7 +4,7 @@ pub mod Computing
 pub mod Cases
 pub mod SoundCases
 pub mod ListCases
--- tests, numbers below a bound, walks that ask a test of one number after the other, lists, orders, sets, ties
+-- tests, numbers below a bound, walks that ask a test of one number after the other and what one test decides, lists, orders, sets, ties
 pub mod BaseLaws
 pub mod BoundLaws
 pub mod TurnLaws

@@ -1,4 +1,4 @@
--- A walk that asks the same test of 0, 1, 2, … and stops where it fails. Assumes nothing.
+-- A walk that asks the same test of 0, 1, 2, … and stops where it fails; what one test decides that failed or passed. Assumes nothing.
 use mathlib.Core.Path.{_≡_, refl, sym, _∙_, ap}
 use mathlib.Core.Logic.{_↔_}
 use mathlib.Core.Bool.{Bool, true, false, not, false≢true}

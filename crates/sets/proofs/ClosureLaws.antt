@@ -25,7 +25,7 @@ use Rattle.sets.specs.Closure.{relation, lowKind}
 use Rattle.sets.proofs.MemberLaws.{agree-all}
 
 -- KINDS
--- a group tie is gone along from leader to follower whatever the others
+-- the lowest kind is 1 to 3
 pub low-most : (along : Along) → lowKind along ≤ 3
 low-most Groups = omega arith
 low-most Falls = omega arith
@@ -83,7 +83,7 @@ module _ (ts : List TieRecord) where
   by-wait Falls l j h e = absurd (omega arith)
   by-wait Arrows l j h e = or-right (grouped ts (getD ts j noTie .leader) (getD ts j noTie .follower)) _ (tied-at ts isArrow j h (or-left (isWait (getD ts j noTie .kind)) (isFall (getD ts j noTie .kind)) e))
 
-  -- a tie that is gone along, and a group tie back
+  -- a tie that is gone along
   pub relation-on : (along : Along) (j : ℕ) → j < length ts → follows (lowKind along) (getD ts j noTie .kind) ≡ true → relation along ts (getD ts j noTie .leader) (getD ts j noTie .follower) ≡ true
   unfolding grouped
   relation-on along j h e = ⊎-elim (λ g. by-group along _ _ (or-left (tied ts isGroup (getD ts j noTie .leader) (getD ts j noTie .follower)) _ (tied-at ts isGroup j h g)))

@@ -43,7 +43,7 @@ module _ (s : ChangeSet) (len : length (s .words) ≡ 4) (fits : (i : ℕ) → g
       (λ e. let z = none-zero (not-true _ e) in
       eq-eqb (united (s .words)) 0 (rw (z 0 (omega arith), z 1 (omega arith), z 2 (omega arith), z 3 (omega arith))))
 
-  -- the first word that is not 0 holds the lowest member; where each is 0 the answer is 256
+  -- the first word that is not 0 holds the lowest member
   pub lowest-word : (i r : ℕ) → i < 4 → 0 < getD (s .words) i 0 → ((j : ℕ) → j < i → getD (s .words) j 0 ≡ 0) → 64 * i + trailingZeros 64 (getD (s .words) i 0) ≡ r → r ≡ lowestBelow 256 (members s)
   lowest-word i r h p z e =
       let l = low-at s i h (fits i) p z in
