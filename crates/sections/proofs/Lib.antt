@@ -3,8 +3,6 @@ pub mod ByteLaws
 pub mod PlaceLaws
 pub mod HeadLaws
 pub mod ChangeLaws
-pub mod RiseLaws
-pub mod TableLaws
 pub mod RowLaws
 pub mod LockLaws
 pub mod LogLaws

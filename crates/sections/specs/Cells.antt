@@ -1,15 +1,12 @@
 -- What is asked of one place of a section, in its bytes. Assumes nothing.
 use mathlib.Core.Bool.{Bool, not, _&&_, _||_}
 use mathlib.Core.List.{List}
-use Prim.Native.Nat.{ℕ, _+_, _-_, _*_}
+use Prim.Native.Nat.{ℕ, _+_, _*_}
 use lib.Dec.{ltb, eqb}
 use lib.ListN.{getD}
 use Rattle.rules.specs.Base.{outside, allBelow}
 use Rattle.rules.specs.Sets.{Set}
-use Rattle.rules.specs.Sound.{permitSound, tieSound}
-use Rattle.layout.specs.Records.{tieAt, permitAt}
 use Rattle.cells.specs.Bits.{bytesHave}
-use Rattle.rows.specs.Rows.{rank, rowAt}
 
 -- a change's place: a status from 1 to 5, a lower parent, and two bytes that are 0
 unfoldable pub changeFits : List ℕ → ℕ → Bool
@@ -33,16 +30,6 @@ lockFits bs lives e c = not (reads bs e c && writes bs e c || (reads bs e c || w
 -- so of all changes on an entry
 unfoldable pub rowFits : List ℕ → Set → ℕ → Bool
 rowFits bs lives e = allBelow 256 (lockFits bs lives e)
-
--- a row is above the one before it
-unfoldable pub inOrder : List ℕ → ℕ → Bool
-inOrder bs j = eqb j 0 || ltb (rank (rowAt bs (j - 1))) (rank (rowAt bs j))
-
-unfoldable pub permitFits : List ℕ → ℕ → Set → ℕ → Bool
-permitFits bs entries lives j = permitSound entries lives (permitAt bs j) && inOrder bs j
-
-unfoldable pub tieFits : List ℕ → Set → ℕ → Bool
-tieFits bs lives j = tieSound lives (tieAt bs j) && eqb (getD bs (j * 4 + 3) 0) 0 && inOrder bs j
 
 -- the owner's bit stands among the entry's writers
 unfoldable pub recordFits : List ℕ → List ℕ → ℕ → Bool

@@ -4,11 +4,11 @@ use mathlib.Core.Bool.{true}
 use mathlib.Core.List.{List, [], _∷_}
 use Prim.Native.Nat.{ℕ, _≤_}
 use lib.ListN.{length}
-use Rattle.rules.specs.Base.{all, rising}
+use Rattle.rules.specs.Base.{all}
 use Rattle.rules.specs.Sets.{Set}
-use Rattle.rules.specs.Window.{LogRecord, PermitRecord, TieRecord, permitKey, tieKey}
-use Rattle.rules.specs.Sound.{valueSound, statusSound, parentSound, heldSound, recordSound, permitSound, tieSound}
-use Rattle.layout.specs.Codec.{headSection, valueSection, changeSection, lockSection, permitSection, tieSection, logSection}
+use Rattle.rules.specs.Window.{LogRecord}
+use Rattle.rules.specs.Sound.{valueSound, statusSound, parentSound, heldSound, recordSound}
+use Rattle.layout.specs.Codec.{headSection, valueSection, changeSection, lockSection, logSection}
 
 -- header: "every figure is in its range", and the rest is 0
 pub record HeadSound (bs : List ℕ) : Type 0 where
@@ -51,19 +51,3 @@ pub record LogSound (bs : List ℕ) (count entries : ℕ) (lives : Set) (held : 
   pub size : length log ≡ count
   pub bytes : bs ≡ logSection log
   pub fine : all (recordSound entries lives held) log ≡ true
-
--- permits: givers and takers live, and in order
-pub record PermitsSound (bs : List ℕ) (count entries : ℕ) (lives : Set) : Type 0 where
-  pub permits : List PermitRecord
-  pub size : length permits ≡ count
-  pub bytes : bs ≡ permitSection permits
-  pub fine : all (permitSound entries lives) permits ≡ true
-  pub order : rising permitKey permits ≡ true
-
--- ties: both ends live, and in order
-pub record TiesSound (bs : List ℕ) (count : ℕ) (lives : Set) : Type 0 where
-  pub ties : List TieRecord
-  pub size : length ties ≡ count
-  pub bytes : bs ≡ tieSection ties
-  pub fine : all (tieSound lives) ties ≡ true
-  pub order : rising tieKey ties ≡ true

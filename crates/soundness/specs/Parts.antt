@@ -10,7 +10,8 @@ use Rattle.rules.specs.Window.{Window, isLive}
 use Rattle.layout.specs.Codec.{valuesAt, valuesSize, lineAt, lineSize, locksAt, locksSize, permitsAt, permitsSize, tiesAt, tiesSize, logAt, logSize, lineSection, tieSection}
 use Rattle.layout.specs.Records.{endsBelow}
 use Rattle.cells.specs.Part.{part}
-use Rattle.sections.specs.Sections.{ValuesSound, LocksSound, LogSound, PermitsSound, TiesSound}
+use Rattle.sections.specs.Sections.{ValuesSound, LocksSound, LogSound}
+use Rattle.row_sections.specs.Sections.{PermitsSound, TiesSound}
 use Rattle.clashes.specs.LocksAndPermits.{LocksAndPermits}
 
 -- the live changes, by the highest given and the statuses

@@ -77,10 +77,10 @@ fn back(
     requires { ⌜ (permits ≤ 1024) × (ties ≤ 512) × (records ≤ 2048) ⌝ }
     ensures { λ r. ⌜ ((z : LocksSound (part (now (w .entry)) locksAt locksSize) entries (members live)) → (r ≡ true ↔ BackSound (now (w .entry)) entries permits ties records (members live) (z .held))) ⌝ }
 {
-    if !sections::permits(&w[Permits::AT..Ties::AT], permits, entries, live) {
+    if !row_sections::permits(&w[Permits::AT..Ties::AT], permits, entries, live) {
         return false;
     }
-    if !sections::ties(&w[Ties::AT..Log::AT], ties, live) {
+    if !row_sections::ties(&w[Ties::AT..Log::AT], ties, live) {
         return false;
     }
     sections::log(

@@ -1,8 +1,8 @@
--- `sections::tie_at` meets its contract. Assumes nothing.
+-- `row_sections::tie_at` meets its contract. Assumes nothing.
 use Rattle.layout.specs.Records.{tieAt}
 use borrow.Author.Needs.{needs}
-use Rattle.sections.proofs.tie_at.Statement.{statement}
-use Rattle.sections.proofs.tie_at.Tie as tie
+use Rattle.row_sections.proofs.tie_at.Statement.{statement}
+use Rattle.row_sections.proofs.tie_at.Tie as tie
 
 returns : tie.Need-returns
 unfolding tieAt

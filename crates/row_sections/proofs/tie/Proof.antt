@@ -1,10 +1,10 @@
--- `sections::tie` meets its contract. Assumes nothing.
+-- `row_sections::tie` meets its contract. Assumes nothing.
 use Rattle.rules.specs.Base.{outside}
 use Rattle.rules.specs.Ties.{isGroup}
 use Rattle.rules.specs.Sound.{tieSound}
 use borrow.Author.Needs.{needs}
-use Rattle.sections.proofs.tie.Statement.{statement}
-use Rattle.sections.proofs.tie.Tie as tie
+use Rattle.row_sections.proofs.tie.Statement.{statement}
+use Rattle.row_sections.proofs.tie.Tie as tie
 
 returns : tie.Need-returns
 unfolding tieSound outside isGroup

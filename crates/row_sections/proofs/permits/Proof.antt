@@ -1,12 +1,12 @@
--- `sections::permits` meets its contract. Assumes nothing.
+-- `row_sections::permits` meets its contract. Assumes nothing.
 use mathlib.Core.Path.{_∙_, sym}
 use Rattle.words.specs.Members.{wordsHave}
 use Rattle.sets.specs.Members.{members}
 use Rattle.rules.proofs.TurnLaws.{failed, held, refused}
-use Rattle.sections.proofs.TableLaws.{permits-of, of-permits}
+use Rattle.row_sections.proofs.TableLaws.{permits-of, of-permits}
 use borrow.Author.Needs.{needs}
-use Rattle.sections.proofs.permits.Statement.{statement}
-use Rattle.sections.proofs.permits.Tie as tie
+use Rattle.row_sections.proofs.permits.Statement.{statement}
+use Rattle.row_sections.proofs.permits.Tie as tie
 
 returns : tie.Need-returns
 unfolding members wordsHave

@@ -1,12 +1,12 @@
--- `sections::ties` meets its contract. Assumes nothing.
+-- `row_sections::ties` meets its contract. Assumes nothing.
 use mathlib.Core.Path.{_∙_, sym}
 use Rattle.words.specs.Members.{wordsHave}
 use Rattle.sets.specs.Members.{members}
 use Rattle.rules.proofs.TurnLaws.{failed, held, refused}
-use Rattle.sections.proofs.TableLaws.{ties-of, of-ties}
+use Rattle.row_sections.proofs.TableLaws.{ties-of, of-ties}
 use borrow.Author.Needs.{needs}
-use Rattle.sections.proofs.ties.Statement.{statement}
-use Rattle.sections.proofs.ties.Tie as tie
+use Rattle.row_sections.proofs.ties.Statement.{statement}
+use Rattle.row_sections.proofs.ties.Tie as tie
 
 returns : tie.Need-returns
 unfolding members wordsHave

@@ -25,8 +25,8 @@ use Rattle.cells.specs.Part.{zeroAt}
 use Rattle.cells.proofs.ZeroLaws.{zeros-at, zeros-all}
 use Rattle.rows.specs.Rows.{rowKey, rank, rowAt}
 use Rattle.rows.proofs.OrderLaws.{small-at, rank-before, before-rank}
-use Rattle.sections.specs.Cells.{inOrder, permitFits, tieFits}
-use Rattle.sections.specs.Sections.{PermitsSound, TiesSound}
+use Rattle.row_sections.specs.Rows.{inOrder, permitFits, tieFits}
+use Rattle.row_sections.specs.Sections.{PermitsSound, TiesSound}
 
 -- a row above the one before it, by ranks
 in-order-at : (bs : List ℕ) (j : ℕ) → inOrder bs (suc j) ≡ true → rank (rowAt bs j) < rank (rowAt bs (suc j))

@@ -1,8 +1,8 @@
--- `sections::permit_at` meets its contract. Assumes nothing.
+-- `row_sections::permit_at` meets its contract. Assumes nothing.
 use Rattle.layout.specs.Records.{permitAt}
 use borrow.Author.Needs.{needs}
-use Rattle.sections.proofs.permit_at.Statement.{statement}
-use Rattle.sections.proofs.permit_at.Tie as tie
+use Rattle.row_sections.proofs.permit_at.Statement.{statement}
+use Rattle.row_sections.proofs.permit_at.Tie as tie
 
 returns : tie.Need-returns
 unfolding permitAt

@@ -1,14 +1,14 @@
--- `sections::standing_permits` meets its contract: the places passed fit, and the next key has its bound. Assumes nothing.
+-- `row_sections::standing_permits` meets its contract: the places passed fit, and the next key has its bound. Assumes nothing.
 use mathlib.Core.Path.{refl}
 use Prim.Native.Nat.{_≤_, _-_}
 use native.Mathlib.Omega.{arith}
 use borrow.Author.Needs.{needs}
 use Rattle.words.specs.Members.{wordsHave}
 use Rattle.rules.proofs.TurnLaws.{turns-done}
-use Rattle.sections.specs.Cells.{permitFits}
-use Rattle.sections.proofs.RiseLaws.{rank-small, Risen, none-risen, row-fails, row-low, row-rises}
-use Rattle.sections.proofs.standing_permits.Statement.{statement}
-use Rattle.sections.proofs.standing_permits.Tie as tie
+use Rattle.row_sections.specs.Rows.{permitFits}
+use Rattle.row_sections.proofs.RiseLaws.{rank-small, Risen, none-risen, row-fails, row-low, row-rises}
+use Rattle.row_sections.proofs.standing_permits.Statement.{statement}
+use Rattle.row_sections.proofs.standing_permits.Tie as tie
 
 abbrev Inv-loop : tie.InvT-loop
 Inv-loop permits count entries live next₀ j₀ next j = (j ≤ count) × Risen permits (permitFits permits entries (wordsHave live)) next j
