@@ -1,4 +1,4 @@
-// The calls for C programs: a name for each, on the memory lent as a window. docs/WINDOW.md and include/window.h say what they mean.
+// The calls for C programs: a name for each, on the memory lent as a window. include/window.h says what they mean, docs/WINDOW.md what the bytes are.
 use replies::Reply;
 ghost use Rattle.rules.specs.Calls.{Open, Initiate, Begin, Complete, Lock, Read, Write, Permit, Delegate, Depend, Commit, Abort, Status, Parent, Value};
 ghost use Rattle.layout.specs.Memory.{perform};
