@@ -11,7 +11,7 @@ use lib.Bits.{bitOr, or-add-and, and-le-l, and-le-r}
 use borrow.Author.Tests.{eq-eqb, ne-eqb, eqb-true, eqb-false}
 use Rattle.rules.specs.Base.{allBelow}
 use Rattle.rules.proofs.BaseLaws.{no-true, both-ways, Below, under, over, below, not-true, not-false, allBelow-intro, allBelow-at}
-use Rattle.cells.specs.Part.{zeroAt}
+use Rattle.cells.specs.Part.{byteIs}
 
 -- an or is zero where both are
 or-zero : (a b : ℕ) (s t : Bool) → eqb a 0 ≡ s → eqb b 0 ≡ t → eqb (bitOr a b) 0 ≡ s && t
@@ -20,51 +20,51 @@ or-zero a b true false p q = ne-eqb (bitOr a b) 0 (λ e. eqb-false b 0 q (omega 
 or-zero a b false t p q = ne-eqb (bitOr a b) 0 (λ e. eqb-false a 0 p (omega (arith, or-add-and a b, and-le-r a b, e)))
 
 -- one byte more
-pub zero-more : (l : List ℕ) (at i acc : ℕ) → eqb acc 0 ≡ allBelow i (zeroAt l at) → eqb (bitOr acc (getD l (at + i) 0)) 0 ≡ allBelow (i + 1) (zeroAt l at)
-unfolding allBelow zeroAt
-zero-more l at i acc e = rw add-one (or-zero acc (getD l (at + i) 0) (allBelow i (zeroAt l at)) (eqb (getD l (at + i) 0) 0) e refl)
+pub zero-more : (l : List ℕ) (at i acc : ℕ) → eqb acc 0 ≡ allBelow i (byteIs l at 0) → eqb (bitOr acc (getD l (at + i) 0)) 0 ≡ allBelow (i + 1) (byteIs l at 0)
+unfolding allBelow byteIs
+zero-more l at i acc e = rw add-one (or-zero acc (getD l (at + i) 0) (allBelow i (byteIs l at 0)) (eqb (getD l (at + i) 0) 0) e refl)
 
 -- the test, by elements: what it shows
-pub zeros-at : (l : List ℕ) (from to : ℕ) → allBelow (to - from) (zeroAt l from) ≡ true → (i : ℕ) → from ≤ i → i < to → getD l i 0 ≡ 0
-unfolding zeroAt
+pub zeros-at : (l : List ℕ) (from to : ℕ) → allBelow (to - from) (byteIs l from 0) ≡ true → (i : ℕ) → from ≤ i → i < to → getD l i 0 ≡ 0
+unfolding byteIs
 zeros-at l from to e i h k =
     let here : from + (i - from) ≡ i = omega arith in
-    eqb-true (getD l i 0) 0 (rw here at (allBelow-at (to - from) (zeroAt l from) e (i - from) (omega arith)))
+    eqb-true (getD l i 0) 0 (rw here at (allBelow-at (to - from) (byteIs l from 0) e (i - from) (omega arith)))
 
 -- and what shows it
-pub zeros-all : (l : List ℕ) (from to : ℕ) → ((i : ℕ) → from ≤ i → i < to → getD l i 0 ≡ 0) → allBelow (to - from) (zeroAt l from) ≡ true
-unfolding zeroAt
-zeros-all l from to f = allBelow-intro (to - from) (zeroAt l from) (λ i h. eq-eqb (getD l (from + i) 0) 0 (f (from + i) (omega arith) (omega arith)))
+pub zeros-all : (l : List ℕ) (from to : ℕ) → ((i : ℕ) → from ≤ i → i < to → getD l i 0 ≡ 0) → allBelow (to - from) (byteIs l from 0) ≡ true
+unfolding byteIs
+zeros-all l from to f = allBelow-intro (to - from) (byteIs l from 0) (λ i h. eq-eqb (getD l (from + i) 0) 0 (f (from + i) (omega arith) (omega arith)))
 
 -- after bytes that are zero up to mid: the test from a byte that is not past mid says what the whole one says
-zeros-rest : (l : List ℕ) (from last mid to : ℕ) → from ≤ last → last ≤ mid → mid ≤ to → allBelow (mid - from) (zeroAt l from) ≡ true
-    → allBelow (to - last) (zeroAt l last) ≡ allBelow (to - from) (zeroAt l from)
+zeros-rest : (l : List ℕ) (from last mid to : ℕ) → from ≤ last → last ≤ mid → mid ≤ to → allBelow (mid - from) (byteIs l from 0) ≡ true
+    → allBelow (to - last) (byteIs l last 0) ≡ allBelow (to - from) (byteIs l from 0)
 zeros-rest l from last mid to h k m e =
     both-ways _ _ (λ r. zeros-all l from to (λ i x y. go r i x y (below i mid))) (λ r. zeros-all l last to (λ i x y. zeros-at l from to r i (omega arith) y))
   where
-    go : allBelow (to - last) (zeroAt l last) ≡ true → (i : ℕ) → from ≤ i → i < to → {b : Bool} → Below i mid b → getD l i 0 ≡ 0
+    go : allBelow (to - last) (byteIs l last 0) ≡ true → (i : ℕ) → from ≤ i → i < to → {b : Bool} → Below i mid b → getD l i 0 ≡ 0
     go r i x y (under z) = zeros-at l from mid e i x z
     go r i x y (over z) = zeros-at l last to r i (omega arith) y
 
 -- what the code found of a block, r, by where the block begins and ends
-block : (l : List ℕ) (at n : ℕ) (r : Bool) → r ≡ allBelow n (zeroAt l at) → r ≡ allBelow (at + n - at) (zeroAt l at)
+block : (l : List ℕ) (at n : ℕ) (r : Bool) → r ≡ allBelow n (byteIs l at 0) → r ≡ allBelow (at + n - at) (byteIs l at 0)
 block l at n r f = let size : at + n - at ≡ n = omega arith in rw size f
 
 -- a block that passes
-pub block-passed : (l : List ℕ) (from mid n : ℕ) (r : Bool) → from ≤ mid → allBelow (mid - from) (zeroAt l from) ≡ true
-    → r ≡ allBelow n (zeroAt l mid) → not r ≡ false → allBelow (mid + n - from) (zeroAt l from) ≡ true
+pub block-passed : (l : List ℕ) (from mid n : ℕ) (r : Bool) → from ≤ mid → allBelow (mid - from) (byteIs l from 0) ≡ true
+    → r ≡ allBelow n (byteIs l mid 0) → not r ≡ false → allBelow (mid + n - from) (byteIs l from 0) ≡ true
 block-passed l from mid n r h e f t = sym (zeros-rest l from mid mid (mid + n) h (omega arith) (omega arith) e) ∙ sym (block l mid n r f) ∙ not-false r t
 
 -- one that does not
 pub block-failed : (l : List ℕ) (from mid n to : ℕ) (r : Bool) → from ≤ mid → mid + n ≤ to
-    → r ≡ allBelow n (zeroAt l mid) → not r ≡ true → false ≡ allBelow (to - from) (zeroAt l from)
+    → r ≡ allBelow n (byteIs l mid 0) → not r ≡ true → false ≡ allBelow (to - from) (byteIs l from 0)
 block-failed l from mid n to r h k f t =
-    sym (no-true (allBelow (to - from) (zeroAt l from)) (λ a.
+    sym (no-true (allBelow (to - from) (byteIs l from 0)) (λ a.
     false≢true (sym (not-true r t) ∙ block l mid n r f ∙ zeros-all l mid (mid + n) (λ i x y. zeros-at l from to a i (omega arith) (omega arith)))))
 
 -- the last one, which may begin among the bytes that are zero
-pub block-last : (l : List ℕ) (from mid n to : ℕ) (r : Bool) → from + n ≤ to → to ≤ mid + n → mid ≤ to → allBelow (mid - from) (zeroAt l from) ≡ true
-    → r ≡ allBelow n (zeroAt l (to - n)) → r ≡ allBelow (to - from) (zeroAt l from)
+pub block-last : (l : List ℕ) (from mid n to : ℕ) (r : Bool) → from + n ≤ to → to ≤ mid + n → mid ≤ to → allBelow (mid - from) (byteIs l from 0) ≡ true
+    → r ≡ allBelow n (byteIs l (to - n) 0) → r ≡ allBelow (to - from) (byteIs l from 0)
 block-last l from mid n to r h k m e f =
     let ends : to - n + n ≡ to = omega arith in
     rw ends at (block l (to - n) n r f) ∙ zeros-rest l from (to - n) mid to (omega arith) (omega arith) m e

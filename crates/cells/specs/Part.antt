@@ -1,4 +1,4 @@
--- A part of a list, a list with a part replaced, and a part that is zero. Assumes nothing.
+-- A part of a list, a list with a part replaced, and whether a byte of a part is a given one. Assumes nothing.
 use mathlib.Core.Bool.{Bool}
 use mathlib.Core.List.{List, _++_}
 use Prim.Native.Nat.{ℕ, _+_}
@@ -13,6 +13,6 @@ part l at n = take n (drop at l)
 unfoldable pub patch : List ℕ → ℕ → List ℕ → List ℕ
 patch l at xs = take at l ++ (xs ++ drop (length xs) (drop at l))
 
--- element i, counted from index at, is 0
-unfoldable pub zeroAt : List ℕ → ℕ → ℕ → Bool
-zeroAt l at i = eqb (getD l (at + i) 0) 0
+-- element i, counted from index at, is b
+unfoldable pub byteIs : List ℕ → ℕ → ℕ → ℕ → Bool
+byteIs l at b i = eqb (getD l (at + i) 0) b

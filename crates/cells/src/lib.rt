@@ -4,7 +4,7 @@ ghost use Prim.Native.Nat.{ℕ, _+_, _-_, _*_, _≤_, _<_};
 ghost use lib.ListN.{length, replicate};
 ghost use Rattle.rules.specs.Base.{allBelow};
 ghost use Rattle.layout.specs.Codec.{unpack};
-ghost use Rattle.cells.specs.Part.{part, patch, zeroAt};
+ghost use Rattle.cells.specs.Part.{part, patch, byteIs};
 ghost use Rattle.cells.specs.Num.{le, num};
 ghost use Rattle.cells.specs.Bits.{bytesHave};
 
@@ -129,7 +129,7 @@ pub fn copy_in(src: &[u8], dst: &mut [u8], at: usize)
 // Whether n bytes from an index on are 0. No early way out: the or of the bytes.
 fn run_zero(s: &[u8], at: usize, n: usize) -> bool
     requires { ⌜ at + n ≤ length (now s) ⌝ }
-    ensures { λ r. ⌜ r ≡ allBelow n (zeroAt (now (s .entry)) at) ⌝ }
+    ensures { λ r. ⌜ r ≡ allBelow n (byteIs (now (s .entry)) at 0) ⌝ }
 {
     let mut acc: u8 = 0;
     let mut i = 0;
@@ -145,7 +145,7 @@ fn few_zero(s: &[u8], from: usize, to: usize) -> bool
     requires { ⌜ from ≤ to ⌝ }
     requires { ⌜ to ≤ length (now s) ⌝ }
     requires { ⌜ to - from ≤ 1024 ⌝ }
-    ensures { λ r. ⌜ r ≡ allBelow (to - from) (zeroAt (now (s .entry)) from) ⌝ }
+    ensures { λ r. ⌜ r ≡ allBelow (to - from) (byteIs (now (s .entry)) from 0) ⌝ }
 {
     if to - from < HALF {
         return run_zero(s, from, to - from);
@@ -161,7 +161,7 @@ fn few_zero(s: &[u8], from: usize, to: usize) -> bool
 pub fn all_zero(s: &[u8], from: usize, to: usize) -> bool
     requires { ⌜ from ≤ to ⌝ }
     requires { ⌜ to ≤ length (now s) ⌝ }
-    ensures { λ r. ⌜ r ≡ allBelow (to - from) (zeroAt (now (s .entry)) from) ⌝ }
+    ensures { λ r. ⌜ r ≡ allBelow (to - from) (byteIs (now (s .entry)) from 0) ⌝ }
 {
     if to - from < BLOCK {
         return few_zero(s, from, to);

@@ -7,10 +7,10 @@ use native.Mathlib.Omega.{arith}
 use lib.Dec.{eqb}
 use lib.ListN.{getD}
 use Rattle.rules.specs.Base.{anyBelow, countBelow, lowestBelow}
-use Rattle.rules.specs.Sets.{Set, only}
+use Rattle.rules.specs.Sets.{Set, everything, only}
 use Rattle.rules.proofs.BaseLaws.{and-left, and-right, any-intro, not-true, not-false, eqb-same, eqb-eq}
 use Rattle.rules.proofs.BoundLaws.{count-ext, count-more, lowest-found, lowest-below}
-use Rattle.cycles.specs.Graph.{Graph, edge, noCycle, everyone, comes, leads, sources}
+use Rattle.cycles.specs.Graph.{Graph, edge, noCycle, comes, leads, sources}
 use Rattle.cycles.specs.Links.{Lists, Linked, Shows, Removable, Removed}
 use Rattle.cycles.proofs.CycleLaws.{Small, Clear, edge-at, edge-place, clear-none, clear-next, decided}
 use Rattle.cycles.proofs.CountLaws.{comes-last, last-most, last-again, comes-within, comes-parts, count-none, count-some}
@@ -29,8 +29,8 @@ module _ (G : Graph) (m : ℕ) (s : Lists) (p : Linked G m s) where
   lead j h a = p .leaders (G .from j) ∙ any-intro m (λ i. G .arrow i && eqb (G .from i) (G .from j)) j h (rw (a, eqb-same (G .from j)))
 
   -- so each is counted
-  from-all : (k : ℕ) → comes G everyone m k ≡ comes G (s .leaders) m k
-  unfolding comes everyone
+  from-all : (k : ℕ) → comes G everything m k ≡ comes G (s .leaders) m k
+  unfolding comes everything
   from-all k = count-ext _ _ m (λ j h. go j h (G .arrow j) refl)
     where
       go : (j : ℕ) → j < m → (a : Bool) → G .arrow j ≡ a → a && true && eqb (G .to j) k ≡ a && s .leaders (G .from j) && eqb (G .to j) k

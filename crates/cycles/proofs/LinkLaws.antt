@@ -10,13 +10,13 @@ use lib.Dec.{eqb}
 use lib.ListN.{length, getD, set, replicate, length-replicate, getD-replicate, List·getD-eq-default}
 use lib.Seq.{getD-set-same, getD-set-other}
 use Rattle.rules.specs.Base.{anyBelow, countBelow}
-use Rattle.rules.specs.Sets.{only}
+use Rattle.rules.specs.Sets.{everything, only}
 use Rattle.rules.proofs.BaseLaws.{count-le, Below, under, over, below, eqb-same, eqb-other, Same, same, other, same?}
 use Rattle.words.specs.Members.{wordsHave}
 use Rattle.sets.specs.Members.{members}
 use Rattle.sets.proofs.Words.{ofWords}
 use Rattle.sets.proofs.MemberLaws.{words-none}
-use Rattle.cycles.specs.Graph.{Graph, everyone, comes, leads, lastFrom}
+use Rattle.cycles.specs.Graph.{Graph, comes, leads, lastFrom}
 use Rattle.cycles.specs.Links.{Lists, Room, Ends, Blank, NoEnds, withArrow, withTie, Linked}
 use Rattle.cycles.proofs.CountLaws.{comes-none, comes-other, comes-one, last-none, last-other, last-one}
 
@@ -38,9 +38,9 @@ module _ (G : Graph) (m : ℕ) (s : Lists) (p : Linked G m s) where
   linked-skip e = record {
     heads = λ k q. p .heads k q ∙ sym (last-none G m k e);
     next = λ j q a. p .next j (before j q a) a;
-    incoming = λ k q. p .incoming k q ∙ sym (comes-none G everyone m k e);
+    incoming = λ k q. p .incoming k q ∙ sym (comes-none G everything m k e);
     leaders = λ k. p .leaders k ∙ sym (rw e (or-false (leads G m k)));
-    blocked = λ k. rw (comes-none G everyone m k e) (p .blocked k);
+    blocked = λ k. rw (comes-none G everything m k e) (p .blocked k);
   }
     where
       before : (j : ℕ) → j < suc m → G .arrow j ≡ true → j < m
@@ -53,7 +53,7 @@ module _ (G : Graph) (m : ℕ) (s : Lists) (p : Linked G m s) where
   module _ (lf : length (s .heads) ≡ 256) (ln : m < length (s .next)) (lw : length (s .incoming) ≡ 256) (sf : G .from m < 256) (st : G .to m < 256) (e : G .arrow m ≡ true) where
     -- a place with one
     linked-keep : Linked G (suc m) (withArrow m (G .from m) (G .to m) s)
-    unfolding withArrow leads anyBelow only everyone
+    unfolding withArrow leads anyBelow only everything
     linked-keep = record {
       heads = λ k q. heads k q (same? k (G .from m));
       next = λ j q a. next j q a (same? j m);
@@ -70,17 +70,17 @@ module _ (G : Graph) (m : ℕ) (s : Lists) (p : Linked G m s) where
         next j q a (same u) = rw u (getD-set-same (s .next) m (getD (s .heads) (G .from m) 0) 0 ln ∙ p .heads (G .from m) sf)
         next j q a (other u) = getD-set-other (s .next) m j (getD (s .heads) (G .from m) 0) 0 u ∙ p .next j (omega arith) a
 
-        incoming : (k : ℕ) → k < 256 → {b : Bool} → Same k (G .to m) b → getD (set (s .incoming) (G .to m) (getD (s .incoming) (G .to m) 0 + 1)) k 0 ≡ comes G everyone (suc m) k
-        incoming k q (same u) = rw u (getD-set-same (s .incoming) (G .to m) (getD (s .incoming) (G .to m) 0 + 1) 0 (omega arith) ∙ add-one _ ∙ ap suc (p .incoming (G .to m) st) ∙ sym (comes-one G everyone m (G .to m) e refl refl))
-        incoming k q (other u) = getD-set-other (s .incoming) (G .to m) k (getD (s .incoming) (G .to m) 0 + 1) 0 u ∙ p .incoming k q ∙ sym (comes-other G everyone m k (λ z. u (sym z)))
+        incoming : (k : ℕ) → k < 256 → {b : Bool} → Same k (G .to m) b → getD (set (s .incoming) (G .to m) (getD (s .incoming) (G .to m) 0 + 1)) k 0 ≡ comes G everything (suc m) k
+        incoming k q (same u) = rw u (getD-set-same (s .incoming) (G .to m) (getD (s .incoming) (G .to m) 0 + 1) 0 (omega arith) ∙ add-one _ ∙ ap suc (p .incoming (G .to m) st) ∙ sym (comes-one G everything m (G .to m) e refl refl))
+        incoming k q (other u) = getD-set-other (s .incoming) (G .to m) k (getD (s .incoming) (G .to m) 0 + 1) 0 u ∙ p .incoming k q ∙ sym (comes-other G everything m k (λ z. u (sym z)))
 
         leaders : (k : ℕ) → {b : Bool} → Same k (G .from m) b → b || s .leaders k ≡ leads G m k || (G .arrow m && eqb (G .from m) k)
         leaders k (same u) = sym (rw (e, u, eqb-same (G .from m)) (or-true (leads G m (G .from m))))
         leaders k (other u) = p .leaders k ∙ sym (rw (eqb-other (G .from m) k (λ z. u (sym z)), e) (or-false (leads G m k)))
 
-        blocked : (k : ℕ) → {b : Bool} → Same k (G .to m) b → b || s .blocked k ≡ not (eqb (comes G everyone (suc m) k) 0)
-        blocked k (same u) = sym (rw (comes-one G everyone m k e refl (sym u), eqb-other (suc (comes G everyone m k)) 0 (λ z. omega arith)))
-        blocked k (other u) = rw (comes-other G everyone m k (λ z. u (sym z))) (p .blocked k)
+        blocked : (k : ℕ) → {b : Bool} → Same k (G .to m) b → b || s .blocked k ≡ not (eqb (comes G everything (suc m) k) 0)
+        blocked k (same u) = sym (rw (comes-one G everything m k e refl (sym u), eqb-other (suc (comes G everything m k)) 0 (λ z. omega arith)))
+        blocked k (other u) = rw (comes-other G everything m k (λ z. u (sym z))) (p .blocked k)
 
   -- one place more
   pub linked-next : (r : Lists) → length (s .heads) ≡ 256 → m < length (s .next) → length (s .incoming) ≡ 256 → G .from m < 256 → G .to m < 256

@@ -1,5 +1,5 @@
 -- Arrows between groups (a directed graph): labels of groups, arrows by place, and what comes to a label. Assumes nothing.
-use mathlib.Core.Bool.{Bool, true, not, cond, _&&_, _||_}
+use mathlib.Core.Bool.{Bool, not, cond, _&&_, _||_}
 use mathlib.Core.List.{List, map}
 use Prim.Native.Nat.{ℕ, zero, suc}
 use lib.Dec.{eqb}
@@ -60,10 +60,6 @@ noCycle G m = allBelow m (λ j. not (G.arrow j) || not (reach 256 (edge G m) (G.
 -- how many of the first m arrows come to k from a set (its in-degree)
 unfoldable pub comes : Graph → Set → ℕ → ℕ → ℕ
 comes G s m k = countBelow m (λ j. G.arrow j && s (G.from j) && eqb (G.to j) k)
-
--- every label
-unfoldable pub everyone : Set
-everyone k = true
 
 -- one of the first m arrows goes from k
 unfoldable pub leads : Graph → ℕ → Set

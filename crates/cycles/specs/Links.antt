@@ -5,9 +5,9 @@ use mathlib.Core.List.{List}
 use Prim.Native.Nat.{ℕ, _+_, _*_, _≤_, _<_}
 use lib.Dec.{eqb}
 use lib.ListN.{length, getD, set, replicate}
-use Rattle.rules.specs.Sets.{Set, only}
+use Rattle.rules.specs.Sets.{Set, everything, only}
 use Rattle.words.specs.Members.{wordsHave}
-use Rattle.cycles.specs.Graph.{Graph, everyone, comes, leads, lastFrom}
+use Rattle.cycles.specs.Graph.{Graph, comes, leads, lastFrom}
 
 -- the lists, and the sets of labels at the ends of arrows
 pub record Lists : Type 0 where
@@ -83,11 +83,11 @@ pub record Linked (G : Graph) (m : ℕ) (s : Lists) : Type 0 where
   -- and goes on from an arrow to the one before
   pub next : (j : ℕ) → j < m → G .arrow j ≡ true → getD (s .next) j 0 ≡ lastFrom G (G .from j) j
   -- all that come to a label are counted
-  pub incoming : (k : ℕ) → k < 256 → getD (s .incoming) k 0 ≡ comes G everyone m k
+  pub incoming : (k : ℕ) → k < 256 → getD (s .incoming) k 0 ≡ comes G everything m k
   -- the set of labels that an arrow goes from
   pub leaders : (k : ℕ) → s .leaders k ≡ leads G m k
   -- the set of those that one comes to
-  pub blocked : (k : ℕ) → s .blocked k ≡ not (eqb (comes G everyone m k) 0)
+  pub blocked : (k : ℕ) → s .blocked k ≡ not (eqb (comes G everything m k) 0)
 
 -- a set shows the counts
 pub record Shows (incoming : List ℕ) (blocked : Set) : Type 0 where

@@ -6,10 +6,10 @@ use Prim.Native.Nat.{ℕ, _<_, _^_}
 use native.Mathlib.Omega.{arith}
 use lib.Dec.{ltb}
 use lib.ListN.{length, getD, take, drop, replicate}
-use Rattle.rules.specs.Sets.{Set}
+use Rattle.rules.specs.Sets.{Set, putAll}
 use Rattle.rules.specs.Window.{limits, LogRecord, Window, live, withValue, withStatus, withHeld, withLog, withPermits, withTies}
 use Rattle.rules.specs.Sound.{recordSound}
-use Rattle.rules.specs.Effects.{withStatuses, released, unowned, permitsLeft, tiesLeft, endAll, undo}
+use Rattle.rules.specs.Effects.{released, unowned, permitsLeft, tiesLeft, endAll, undo}
 use Rattle.rules.proofs.BaseLaws.{lt-of}
 use Rattle.rules.proofs.ListLaws.{all-weaken, all-getD}
 use Rattle.rules.proofs.SoundParts.{Sound, record-parts}
@@ -28,19 +28,19 @@ use Rattle.ended.proofs.BackLaws.{statuses-back, locks-back, values-bac
 
 -- the last two steps: statuses and locks
 abbrev withEnded : ℕ → Set → Window → Window
-withEnded how m W = withHeld (withStatus W (withStatuses m how (W .status))) (released m (W .held))
+withEnded how m W = withHeld (withStatus W (putAll m how (W .status))) (released m (W .held))
 
 pub statuses-and-locks : (W : Window) {bs : List ℕ} → bs ≡ encode W → (m : Set) (how entries : ℕ) {changes locks : List ℕ} → NoneFrom entries (W .held)
-    → ((st pa : ℕ → ℕ) → take changesSize (drop changesAt bs) ≡ changeSection st pa → changes ≡ changeSection (withStatuses m how st) pa)
+    → ((st pa : ℕ → ℕ) → take changesSize (drop changesAt bs) ≡ changeSection st pa → changes ≡ changeSection (putAll m how st) pa)
     → ((held : ℕ → ℕ → ℕ) → NoneFrom entries held → take locksSize (drop locksAt (laidAt bs changesAt changesSize changes)) ≡ lockSection held → locks ≡ lockSection (released m held))
     → laidAt (laidAt bs changesAt changesSize changes) locksAt locksSize locks ≡ encode (withEnded how m W)
 unfolding withStatus
 statuses-and-locks W e m how entries n f g =
-    locks-back (withStatus W (withStatuses m how (W .status))) (statuses-back W e (withStatuses m how (W .status)) (f (W .status) (W .parent))) (released m (W .held)) (g (W .held) n)
+    locks-back (withStatus W (putAll m how (W .status))) (statuses-back W e (putAll m how (W .status)) (f (W .status) (W .parent))) (released m (W .held)) (g (W .held) n)
 
 -- all steps are the rules'
 all-ended : (how : ℕ) (m : Set) (W : Window) → withEnded how m (withTies (withPermits (withLog W (unowned m (W .log))) (permitsLeft m (W .permits))) (tiesLeft m (W .ties))) ≡ endAll how m W
-unfolding endAll withHeld withStatus withTies withPermits withLog withStatuses released unowned permitsLeft tiesLeft
+unfolding endAll withHeld withStatus withTies withPermits withLog putAll released unowned permitsLeft tiesLeft
 all-ended how m W = refl
 
 module _ (bs : List ℕ) (s : soundBytes bs ≡ true) where

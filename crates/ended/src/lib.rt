@@ -14,8 +14,9 @@ ghost use mathlib.Core.Path.{_≡_};
 ghost use mathlib.Core.Bool.{true};
 ghost use Prim.Native.Nat.{_≤_};
 ghost use lib.ListN.{length};
+ghost use Rattle.rules.specs.Sets.{putAll};
 ghost use Rattle.rules.specs.Window.{Window, withValue, withStatus, withHeld, withLog, withPermits, withTies};
-ghost use Rattle.rules.specs.Effects.{withStatuses, released, unowned, permitsLeft, tiesLeft, endAll, undo as undone};
+ghost use Rattle.rules.specs.Effects.{released, unowned, permitsLeft, tiesLeft, endAll, undo as undone};
 ghost use Rattle.layout.specs.Codec.{windowSize, decode, encode};
 ghost use Rattle.layout.specs.Memory.{soundBytes};
 ghost use Rattle.sets.specs.Members.{members};
@@ -56,7 +57,7 @@ fn drop_ties(w: &mut [u8], count: usize, ended: ChangeSet)
 fn set_ended(w: &mut [u8], entries: usize, ended: ChangeSet, how: u8)
     requires { ⌜ length (now w) ≡ windowSize ⌝ }
     requires { ⌜ entries ≤ 256 ⌝ }
-    ensures { λ _. ⌜ ((W : Window) → NoneFrom entries (W .held) → now (w .entry) ≡ encode W → now (w .exit) ≡ encode (withHeld (withStatus W (withStatuses (members ended) how (W .status))) (released (members ended) (W .held)))) ⌝ }
+    ensures { λ _. ⌜ ((W : Window) → NoneFrom entries (W .held) → now (w .entry) ≡ encode W → now (w .exit) ≡ encode (withHeld (withStatus W (putAll (members ended) how (W .status))) (released (members ended) (W .held)))) ⌝ }
 {
     places::set_statuses(&mut w[Changes::AT..Line::AT], ended, how);
     locks::release(&mut w[Locks::AT..Permits::AT], entries, ended);

@@ -6,7 +6,7 @@ use Prim.Native.Nat.{ℕ}
 use native.Mathlib.Omega.{arith}
 use lib.ListN.{take, drop, drop-of-length-le}
 use lib.Seq.{take-at, take-all, drop-at}
-use Rattle.rules.specs.Sets.{Set, only}
+use Rattle.rules.specs.Sets.{Set, everything, only}
 use Rattle.rules.specs.Window.{PermitRecord, Window, withHeld, withPermits}
 use Rattle.rules.specs.Effects.{moveHeld, movePermits, handOver}
 use Rattle.layout.specs.Codec.{locksSize, permitsSize, lockSection, permitSection}
@@ -14,13 +14,12 @@ use Rattle.layout.specs.Records.{Tabled}
 use Rattle.layout.proofs.LengthLaws.{length-locks, length-permits}
 use Rattle.layout.proofs.PutLaws.{laidAt}
 use Rattle.sets.specs.Entries.{onEntries}
-use Rattle.locks.specs.Held.{everyEntry}
 use Rattle.clashes.specs.LocksAndPermits.{LocksAndPermits}
 use Rattle.handed.specs.Tables.{tablesOf, AreTables}
 
 -- the entries of which locks are handed over, by the flag
-pub on-every : (all : Bool) (entry : ℕ) → all ≡ true → everyEntry ≡ onEntries all entry
-unfolding everyEntry onEntries
+pub on-every : (all : Bool) (entry : ℕ) → all ≡ true → everything ≡ onEntries all entry
+unfolding everything onEntries
 on-every all entry e = rw e (fun-ext (λ x. refl))
 
 pub on-one : (all : Bool) (entry : ℕ) → all ≡ false → only entry ≡ onEntries all entry

@@ -5,9 +5,9 @@ use Prim.Native.Nat.{ℕ, _≤_, max}
 use native.Mathlib.Omega.{arith}
 use lib.Dec.{eqb}
 use Rattle.rules.specs.Base.{put, put2}
-use Rattle.rules.specs.Sets.{Set, only}
+use Rattle.rules.specs.Sets.{Set, only, putAll}
 use Rattle.rules.proofs.BaseLaws.{Same, same, other, same?}
-use Rattle.locks.specs.Held.{Modes, rowWithout, changedOn}
+use Rattle.locks.specs.Held.{Modes, changedOn}
 
 -- one change's lock on one entry
 pub put2-row : (held : ℕ → ℕ → ℕ) (e c m : ℕ) → put held e (put (held e) c m) ≡ put2 held e c m
@@ -42,8 +42,8 @@ moved-none from to row e = fun-ext λ c. go c (same? c to) (same? c from)
     go c (other p) (other q) = refl
 
 -- rows where nobody holds anything stay so
-pub without-empty : (s : Set) (row : ℕ → ℕ) → ((c : ℕ) → row c ≡ 0) → (c : ℕ) → rowWithout s row c ≡ 0
-unfolding rowWithout
+pub without-empty : (s : Set) (row : ℕ → ℕ) → ((c : ℕ) → row c ≡ 0) → (c : ℕ) → putAll s 0 row c ≡ 0
+unfolding putAll
 without-empty s row h c = go (s c)
   where
     go : (b : Bool) → cond b 0 (row c) ≡ 0

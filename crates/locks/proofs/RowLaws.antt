@@ -6,10 +6,10 @@ use Prim.Native.Nat.{ℕ, zero, suc, _≤_, _<_}
 use native.Mathlib.Omega.{arith}
 use lib.Dec.{ltb, eqb}
 use Rattle.rules.specs.Base.{put, anyBelow}
-use Rattle.rules.specs.Sets.{Set}
+use Rattle.rules.specs.Sets.{Set, putAll}
 use Rattle.rules.specs.Locks.{clash}
 use Rattle.rules.proofs.BaseLaws.{Same, same, other, same?, ltb-true, eqb-other, anyBelow-none, eqb-same, or-false-left, or-false-right}
-use Rattle.locks.specs.Held.{inMode, holding, clashesWith, rowWithout}
+use Rattle.locks.specs.Held.{inMode, holding, clashesWith}
 
 -- TESTS OF A MODE
 -- a lock that is not none is read or write
@@ -88,8 +88,8 @@ without-mode true x m = eqb-other 0 (suc m) (omega arith) ∙ sym (and-false (eq
 without-mode false x m = sym (and-true (eqb x (suc m)))
 
 -- a row's readers or writers without a set
-pub row-without : (row : ℕ → ℕ) (s t u : Set) (m : ℕ) → ((k : ℕ) → t k ≡ inMode (suc m) row k) → ((k : ℕ) → u k ≡ t k && not (s k)) → (k : ℕ) → u k ≡ inMode (suc m) (rowWithout s row) k
-unfolding inMode rowWithout
+pub row-without : (row : ℕ → ℕ) (s t u : Set) (m : ℕ) → ((k : ℕ) → t k ≡ inMode (suc m) row k) → ((k : ℕ) → u k ≡ t k && not (s k)) → (k : ℕ) → u k ≡ inMode (suc m) (putAll s 0 row) k
+unfolding inMode putAll
 row-without row s t u m old minus k = minus k ∙ rw (old k, without-mode (s k) (row k) m) (go (ltb k 256))
   where
     go : (b : Bool) → b && eqb (row k) (suc m) && not (s k) ≡ b && (eqb (row k) (suc m) && not (s k))
@@ -99,8 +99,8 @@ row-without row s t u m old minus k = minus k ∙ rw (old k, without-mode (s k) 
 -- where no reader or writer is in the set, the row says the same without it
 pub row-without-none : (row : ℕ → ℕ) (s readers writers taken : Set) → ((k : ℕ) → readers k ≡ inMode 1 row k) → ((k : ℕ) → writers k ≡ inMode 2 row k)
     → ((k : ℕ) → k < 256 → taken k ≡ (readers k || writers k) && s k) → anyBelow 256 taken ≡ false
-    → (m c : ℕ) → m < 2 → c < 256 → eqb (row c) (suc m) ≡ eqb (rowWithout s row c) (suc m)
-unfolding inMode rowWithout
+    → (m c : ℕ) → m < 2 → c < 256 → eqb (row c) (suc m) ≡ eqb (putAll s 0 row c) (suc m)
+unfolding inMode putAll
 row-without-none row s readers writers taken r w common none m c hm h =
     let e : taken c ≡ (eqb (row c) 1 || eqb (row c) 2) && s c = common c h ∙ rw (r c, w c, ltb-true c 256 h) in
     go m hm (s c) (sym e ∙ anyBelow-none 256 taken none c h)

@@ -8,13 +8,13 @@ use native.Mathlib.Omega.{arith}
 use lib.Bits.{bitAnd, bitOr, and-le-r, or-lt}
 use lib.ListN.{length, getD}
 use Rattle.rules.specs.Base.{anyBelow}
-use Rattle.rules.specs.Sets.{Set, only}
+use Rattle.rules.specs.Sets.{Set, only, putAll}
 use Rattle.layout.specs.Codec.{unpack, lockSection}
 use Rattle.cells.proofs.Digits.{unpack-or, unpack-and}
 use Rattle.sets.specs.Members.{loaded, stored}
 use Rattle.sets.proofs.Bytes.{loaded-full, stored-have}
 use Rattle.sets.proofs.GatherLaws.{Gathered, gathered-more}
-use Rattle.locks.specs.Held.{holdersAmong, rowWithout, changedOn}
+use Rattle.locks.specs.Held.{holdersAmong, changedOn}
 use Rattle.locks.proofs.SectionLaws.{row-loaded, row-same}
 use Rattle.locks.proofs.RowLaws.{row-without-none}
 use Rattle.locks.proofs.ChangeLaws.{on-entry}
@@ -45,9 +45,9 @@ stored-loaded s d out hd ho e k h = loaded-full out 0 (omega arith) k h ∙ stor
 
 -- an entry that no change of the set holds says the same without it
 pub untouched : (held : ℕ → ℕ → ℕ) (e : ℕ) (s : Set) (locks bytes : List ℕ) → e < 256 → ((k : ℕ) → k < 256 → loaded bytes 0 k ≡ s k) → locks ≡ lockSection held
-    → anyBelow 256 (holdersAmong locks (e * 64) bytes) ≡ false → lockSection held ≡ lockSection (changedOn (only e) (rowWithout s) held)
+    → anyBelow 256 (holdersAmong locks (e * 64) bytes) ≡ false → lockSection held ≡ lockSection (changedOn (only e) (putAll s 0) held)
 unfolding holdersAmong
 untouched held e s locks bytes h says q none =
-    row-same held e (rowWithout s (held e)) (row-without-none (held e) s (loaded locks (e * 64)) (loaded locks (e * 64 + 32)) (holdersAmong locks (e * 64) bytes)
+    row-same held e (putAll s 0 (held e)) (row-without-none (held e) s (loaded locks (e * 64)) (loaded locks (e * 64 + 32)) (holdersAmong locks (e * 64) bytes)
     (λ k. rw q (row-loaded held e 0 (e * 64) h (omega arith) (omega arith) k)) (λ k. rw q (row-loaded held e 1 (e * 64 + 32) h (omega arith) (omega arith) k)) (λ k l. rw (says k l)) none)
-    ∙ ap lockSection (on-entry (rowWithout s) held e)
+    ∙ ap lockSection (on-entry (putAll s 0) held e)

@@ -5,10 +5,10 @@ use mathlib.Core.List.{List}
 use Prim.Native.Nat.{ℕ, _+_}
 use native.Mathlib.Omega.{arith}
 use lib.Dec.{ltb}
-use Rattle.rules.specs.Sets.{Set, only}
+use Rattle.rules.specs.Sets.{Set, everything, only}
 use Rattle.rules.proofs.BaseLaws.{Below, under, over, below, Same, same, other, same?, ltb-false}
 use Rattle.layout.specs.Codec.{lockSection}
-use Rattle.locks.specs.Held.{NoneFrom, changedOn, everyEntry}
+use Rattle.locks.specs.Held.{NoneFrom, changedOn}
 
 -- the entries below a number
 unfoldable pub firstEntries : ℕ → Set
@@ -36,8 +36,8 @@ module _ (rule : (ℕ → ℕ) → ℕ → ℕ) (held : ℕ → ℕ → ℕ) whe
       go e c (other p) (over q) (over r) = refl
 
   -- all: past the last entry with a lock, a rule that leaves empty rows empty changes nothing
-  walk-all : (n : ℕ) → NoneFrom n held → ((row : ℕ → ℕ) → ((c : ℕ) → row c ≡ 0) → (c : ℕ) → rule row c ≡ 0) → changedOn (firstEntries n) rule held ≡ changedOn everyEntry rule held
-  unfolding changedOn firstEntries everyEntry NoneFrom
+  walk-all : (n : ℕ) → NoneFrom n held → ((row : ℕ → ℕ) → ((c : ℕ) → row c ≡ 0) → (c : ℕ) → rule row c ≡ 0) → changedOn (firstEntries n) rule held ≡ changedOn everything rule held
+  unfolding changedOn firstEntries everything NoneFrom
   walk-all n none empty = fun-ext λ e. fun-ext λ c. go e c (below e n)
     where
       go : (e c : ℕ) {b : Bool} → Below e n b → cond b (rule (held e) c) (held e c) ≡ rule (held e) c
@@ -58,5 +58,5 @@ module _ (ok : (ℕ → ℕ → ℕ) → Type 0) (rule : (ℕ → ℕ) → ℕ �
   walked-next now next i keeps turn w held g e = turn (changedOn (firstEntries i) rule held) (keeps held g) (w held g e) ∙ ap lockSection (walk-next rule held i)
 
   pub walked-all : (now : List ℕ) (i n : ℕ) → i ≡ n → ((row : ℕ → ℕ) → ((c : ℕ) → row c ≡ 0) → (c : ℕ) → rule row c ≡ 0) → Walked ok rule start now i
-      → (held : ℕ → ℕ → ℕ) → ok held → NoneFrom n held → start ≡ lockSection held → now ≡ lockSection (changedOn everyEntry rule held)
+      → (held : ℕ → ℕ → ℕ) → ok held → NoneFrom n held → start ≡ lockSection held → now ≡ lockSection (changedOn everything rule held)
   walked-all now i n last empty w held g none e = w held g e ∙ ap (λ m. lockSection (changedOn (firstEntries m) rule held)) last ∙ ap lockSection (walk-all rule held n none empty)

@@ -1,6 +1,6 @@
 -- One entry's locks as sets of changes, and the locks changed by entries. Assumes nothing.
 use mathlib.Core.Path.{_≡_}
-use mathlib.Core.Bool.{true, cond, _&&_, _||_}
+use mathlib.Core.Bool.{cond, _&&_, _||_}
 use mathlib.Core.List.{List}
 use Prim.Native.Nat.{ℕ, _+_, _≤_}
 use lib.Dec.{ltb, eqb}
@@ -32,14 +32,6 @@ clashesWith mode row c = ltb c 256 && clash (row c) mode
 unfoldable pub holdersAmong : List ℕ → ℕ → List ℕ → Set
 holdersAmong locks at bytes c = (loaded locks at c || loaded locks (at + 32) c) && loaded bytes 0 c
 
--- a row without the locks of a set of changes
-unfoldable pub rowWithout : Set → (ℕ → ℕ) → ℕ → ℕ
-rowWithout s row c = cond (s c) 0 (row c)
-
 -- the locks with the rows of a set of entries changed by one rule
 unfoldable pub changedOn : Set → ((ℕ → ℕ) → ℕ → ℕ) → (ℕ → ℕ → ℕ) → ℕ → ℕ → ℕ
 changedOn on rule held e c = cond (on e) (rule (held e) c) (held e c)
-
--- "65,535 is every entry"
-unfoldable pub everyEntry : Set
-everyEntry e = true

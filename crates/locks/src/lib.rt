@@ -6,11 +6,11 @@ ghost use mathlib.Core.Path.{_≡_};
 ghost use Prim.Native.Nat.{ℕ, _+_, _≤_, _<_, max};
 ghost use lib.ListN.{length};
 ghost use Rattle.rules.specs.Base.{anyBelow, put, put2};
-ghost use Rattle.rules.specs.Sets.{only};
+ghost use Rattle.rules.specs.Sets.{everything, only, putAll};
 ghost use Rattle.rules.specs.Effects.{moveHeld, released};
 ghost use Rattle.layout.specs.Codec.{lockSection, locksSize};
 ghost use Rattle.sets.specs.Members.{members, loaded};
-ghost use Rattle.locks.specs.Held.{Modes, NoneFrom, inMode, holding, clashesWith, holdersAmong, rowWithout, changedOn, everyEntry};
+ghost use Rattle.locks.specs.Held.{Modes, NoneFrom, inMode, holding, clashesWith, holdersAmong, changedOn};
 ghost use Rattle.locks.specs.Entry.{LocksOf};
 
 // The changes that hold an entry to read.
@@ -120,7 +120,7 @@ pub fn grant(locks: &mut [u8], entry: u8, change: u8, mode: u8)
 
 // Takes the locks of a set of changes from an entry.
 fn release_entry(locks: &mut [u8], entry: u8, ended: ChangeSet)
-    ensures { λ _. ⌜ ((held : ℕ → ℕ → ℕ) → now (locks .entry) ≡ lockSection held → now (locks .exit) ≡ lockSection (changedOn (only entry) (rowWithout (members ended)) held)) ⌝ }
+    ensures { λ _. ⌜ ((held : ℕ → ℕ → ℕ) → now (locks .entry) ≡ lockSection held → now (locks .exit) ≡ lockSection (changedOn (only entry) (putAll (members ended) 0) held)) ⌝ }
 {
     let before = EntryLocks::load(locks, entry);
     let r = before.readers;
@@ -151,7 +151,7 @@ fn touched(locks: &[u8], at: usize, ended: &[u8]) -> bool
 fn release_touched(locks: &mut [u8], entry: u8, bytes: &[u8], ended: ChangeSet)
     requires { ⌜ locksSize ≤ length (now locks) ⌝ }
     requires { ⌜ length (now bytes) ≡ 32 ⌝ }
-    ensures { λ _. ⌜ ((held : ℕ → ℕ → ℕ) → ((k : ℕ) → k < 256 → loaded (now (bytes .entry)) 0 k ≡ members ended k) → now (locks .entry) ≡ lockSection held → now (locks .exit) ≡ lockSection (changedOn (only entry) (rowWithout (members ended)) held)) ⌝ }
+    ensures { λ _. ⌜ ((held : ℕ → ℕ → ℕ) → ((k : ℕ) → k < 256 → loaded (now (bytes .entry)) 0 k ≡ members ended k) → now (locks .entry) ≡ lockSection held → now (locks .exit) ≡ lockSection (changedOn (only entry) (putAll (members ended) 0) held)) ⌝ }
 {
     if touched(locks, entry as usize * Locks::ENTRY, bytes) {
         release_entry(locks, entry, ended);
@@ -200,7 +200,7 @@ pub fn hand_over(locks: &mut [u8], entry: u8, from: u8, to: u8)
 // The same on every entry.
 pub fn hand_over_all(locks: &mut [u8], entries: usize, from: u8, to: u8)
     requires { ⌜ (length (now locks) ≡ locksSize) × (entries ≤ 256) ⌝ }
-    ensures { λ _. ⌜ ((held : ℕ → ℕ → ℕ) → Modes held → NoneFrom entries held → now (locks .entry) ≡ lockSection held → now (locks .exit) ≡ lockSection (moveHeld from to everyEntry held)) ⌝ }
+    ensures { λ _. ⌜ ((held : ℕ → ℕ → ℕ) → Modes held → NoneFrom entries held → now (locks .entry) ≡ lockSection held → now (locks .exit) ≡ lockSection (moveHeld from to everything held)) ⌝ }
 {
     let mut i: usize = 0;
     while i < entries {

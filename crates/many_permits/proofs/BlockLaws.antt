@@ -13,9 +13,10 @@ use Rattle.rules.specs.Window.{PermitRecord}
 use Rattle.rules.specs.Locks.{makePermit}
 use Rattle.rules.proofs.BaseLaws.{both-ways, any-intro, any-elim, anyBelow-none}
 use Rattle.layout.specs.Records.{permitAt}
+use Rattle.cells.specs.Part.{byteIs}
 use Rattle.beside.specs.Permits.{anyOf}
 use Rattle.beside.proofs.PlaceLaws.{Skipped}
-use Rattle.many_permits.specs.Blocks.{involves, byteIs}
+use Rattle.many_permits.specs.Named.{involves}
 
 -- ONE OF THE FIRST N
 module _ (t : ℕ → PermitRecord) (p : PermitRecord → Bool) where

@@ -13,8 +13,7 @@ use Rattle.beside.specs.Permits.{anyOf}
 use Rattle.beside.specs.Beside.{containsHeld, beside, otherHolder, othersFit, entryFits}
 use Rattle.beside.proofs.PlaceLaws.{any-same}
 use Rattle.beside.proofs.WriterLaws.{left-over}
-use Rattle.many_permits.specs.Blocks.{involves}
-use Rattle.many_permits.specs.Named.{permitsAnybody, names, unserved, writerFits, writersFit}
+use Rattle.many_permits.specs.Named.{involves, permitsAnybody, names, unserved, writerFits, writersFit}
 
 -- ADDED TO A SET
 -- a set where a test passed

@@ -1,3 +1,2 @@
 -- An entry with many permits: what the functions' contracts say.
-pub mod Blocks
 pub mod Named

@@ -11,6 +11,10 @@ use Rattle.beside.specs.Permits.{anyOf}
 use Rattle.beside.specs.Beside.{containsHeld, otherHolder}
 
 -- ONE PERMIT
+-- a change gives it or takes it
+unfoldable pub involves : ℕ → PermitRecord → Bool
+involves c p = eqb p.giver c || eqb p.taker c
+
 -- it is from g to anybody and contains a mode
 unfoldable pub permitsAnybody : ℕ → ℕ → PermitRecord → Bool
 permitsAnybody mode g p = eqb p.giver g && (eqb p.taker 0 && contains p.ops mode)

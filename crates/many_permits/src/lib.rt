@@ -9,11 +9,11 @@ ghost use lib.Dec.{eqb};
 ghost use lib.ListN.{length};
 ghost use Rattle.rules.specs.Base.{anyBelow};
 ghost use Rattle.layout.specs.Records.{permitAt};
+ghost use Rattle.cells.specs.Part.{byteIs};
 ghost use Rattle.sets.specs.Members.{members};
 ghost use Rattle.beside.specs.Permits.{anyOf, NoneBefore, FirstOf};
 ghost use Rattle.beside.specs.Beside.{entryFits};
-ghost use Rattle.many_permits.specs.Blocks.{involves, byteIs};
-ghost use Rattle.many_permits.specs.Named.{permitsAnybody, names, unserved, writerFits, writersFit};
+ghost use Rattle.many_permits.specs.Named.{involves, permitsAnybody, names, unserved, writerFits, writersFit};
 
 // The permits that are passed over at once. An entry with fewer has each looked at.
 pub const BLOCK: usize = 16;

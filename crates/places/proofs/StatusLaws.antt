@@ -11,8 +11,7 @@ use lib.Bits.{bitOr}
 use borrow.Author.Tests.{eq-eqb}
 use lib.ListN.{getD}
 use Rattle.rules.specs.Base.{put, outside}
-use Rattle.rules.specs.Sets.{Set}
-use Rattle.rules.specs.Effects.{withStatuses}
+use Rattle.rules.specs.Sets.{Set, putAll}
 use Rattle.rules.proofs.BaseLaws.{Same, same, other, same?, ltb-true, ltb-false, Below, under, over, below, and-right, both-ways, eqb-eq, lt-of}
 use Rattle.layout.specs.Codec.{changeSection, bit, unpack}
 use Rattle.cells.proofs.Digits.{unpack-zero, unpack-power, unpack-or, unpack-mod}
@@ -30,8 +29,8 @@ pub record Walk (s left : Set) (c : ℕ) : Type 0 where
   pub inside : (k : ℕ) → left k ≡ true → s k ≡ true
 
 -- none passed
-pub statuses-none : (s : Set) (how : ℕ) (st : ℕ → ℕ) → withStatuses (passed s s) how st ≡ st
-unfolding withStatuses passed
+pub statuses-none : (s : Set) (how : ℕ) (st : ℕ → ℕ) → putAll (passed s s) how st ≡ st
+unfolding putAll passed
 statuses-none s how st = fun-ext (λ k. go (s k) (st k))
   where
     go : (b : Bool) (x : ℕ) → cond (b && not b) how x ≡ x
@@ -48,8 +47,8 @@ module _ (s left : Set) (c : ℕ) (w : Walk s left c) (h : c < 256) (left′ : S
     walk-next = record { lowest = e; inside = λ k l. w .inside k (and-right (not (eqb k c)) (left k) (sym (without k) ∙ l)) }
 
   -- one more
-  statuses-more : (how : ℕ) (st : ℕ → ℕ) → put (withStatuses (passed s left) how st) c how ≡ withStatuses (passed s left′) how st
-  unfolding withStatuses put passed
+  statuses-more : (how : ℕ) (st : ℕ → ℕ) → put (putAll (passed s left) how st) c how ≡ putAll (passed s left′) how st
+  unfolding putAll put passed
   statuses-more how st = fun-ext (λ k. go k (same? k c) ∙ ap (λ (b : Bool). cond (s k && not b) how (st k)) (sym (without k)))
     where
       member : s c ≡ true
@@ -60,15 +59,15 @@ module _ (s left : Set) (c : ℕ) (w : Walk s left c) (h : c < 256) (left′ : S
       go k (other q) = refl
 
   -- from what was there and what the turn made of it
-  pub statuses-turn : (how : ℕ) (l l′ : List ℕ) (st pa : ℕ → ℕ) → l ≡ changeSection (withStatuses (passed s left) how st) pa
-      → ((st pa : ℕ → ℕ) → l ≡ changeSection st pa → l′ ≡ changeSection (put st c how) pa) → l′ ≡ changeSection (withStatuses (passed s left′) how st) pa
-  statuses-turn how l l′ st pa e f = f (withStatuses (passed s left) how st) pa e ∙ ap (λ (x : ℕ → ℕ). changeSection x pa) (statuses-more how st)
+  pub statuses-turn : (how : ℕ) (l l′ : List ℕ) (st pa : ℕ → ℕ) → l ≡ changeSection (putAll (passed s left) how st) pa
+      → ((st pa : ℕ → ℕ) → l ≡ changeSection st pa → l′ ≡ changeSection (put st c how) pa) → l′ ≡ changeSection (putAll (passed s left′) how st) pa
+  statuses-turn how l l′ st pa e f = f (putAll (passed s left) how st) pa e ∙ ap (λ (x : ℕ → ℕ). changeSection x pa) (statuses-more how st)
 
 -- all
 pub statuses-all : (s left : Set) (c : ℕ) → Walk s left c → 256 ≤ c → (how : ℕ) (st pa : ℕ → ℕ)
-    → changeSection (withStatuses (passed s left) how st) pa ≡ changeSection (withStatuses s how st) pa
-unfolding withStatuses passed
-statuses-all s left c w h how st pa = change-ext (withStatuses (passed s left) how st) (withStatuses s how st) pa
+    → changeSection (putAll (passed s left) how st) pa ≡ changeSection (putAll s how st) pa
+unfolding putAll passed
+statuses-all s left c w h how st pa = change-ext (putAll (passed s left) how st) (putAll s how st) pa
     (λ k l. ap (λ (b : Bool). cond b how (st k)) (go (s k) (left k) (w .lowest .before k (omega arith))))
   where
     go : (a b : Bool) → b ≡ false → a && not b ≡ a

@@ -11,8 +11,8 @@ ghost use Prim.Native.Nat.{ℕ, suc, min, _+_, _<_, _≤_, _^_};
 ghost use lib.Dec.{ltb, eqb};
 ghost use lib.ListN.{length, getD, set};
 ghost use Rattle.rules.specs.Base.{put, outside};
+ghost use Rattle.rules.specs.Sets.{putAll};
 ghost use Rattle.rules.specs.Window.{isLive};
-ghost use Rattle.rules.specs.Effects.{withStatuses};
 ghost use Rattle.layout.specs.Codec.{headSize, valuesSize, changesSize, headSection, valueSection, changeSection, bit, unpack};
 ghost use Rattle.sets.specs.Members.{members};
 ghost use Rattle.places.specs.Statuses.{firsts, inRange};
@@ -86,7 +86,7 @@ pub fn store_parent(changes: &mut [u8], c: u8, p: u8)
 // The status of every member becomes s.
 pub fn set_statuses(changes: &mut [u8], ended: ChangeSet, s: u8)
     requires { ⌜ length (now changes) ≡ changesSize ⌝ }
-    ensures { λ _. ⌜ ((st pa : ℕ → ℕ) → now (changes .entry) ≡ changeSection st pa → now (changes .exit) ≡ changeSection (withStatuses (members ended) s st) pa) ⌝ }
+    ensures { λ _. ⌜ ((st pa : ℕ → ℕ) → now (changes .entry) ≡ changeSection st pa → now (changes .exit) ≡ changeSection (putAll (members ended) s st) pa) ⌝ }
 {
     let mut left = ended;
     let mut member = left.lowest();

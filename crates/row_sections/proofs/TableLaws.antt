@@ -21,7 +21,7 @@ use Rattle.layout.specs.Records.{tieAt, permitAt}
 use Rattle.layout.proofs.RecordLaws.{placeByte, place-at, places-again, places-rest, first-byte}
 use Rattle.layout.proofs.SectionLaws.{Bytes, length-table}
 use Rattle.layout.proofs.ReadLaws.{tie-again, permit-again}
-use Rattle.cells.specs.Part.{zeroAt}
+use Rattle.cells.specs.Part.{byteIs}
 use Rattle.cells.proofs.ZeroLaws.{zeros-at, zeros-all}
 use Rattle.rows.specs.Rows.{rowKey, rank, rowAt}
 use Rattle.rows.proofs.OrderLaws.{small-at, rank-before, before-rank}
@@ -138,7 +138,7 @@ module _ (bs : List ℕ) (b : Bytes bs) (size : length bs ≡ 4096) (n entries :
   -- both tests
   pub record PermitTests : Type 0 where
     pub fine : allBelow n (permitFits bs entries lives) ≡ true
-    pub rest : allBelow (4096 - n * 4) (zeroAt bs (n * 4)) ≡ true
+    pub rest : allBelow (4096 - n * 4) (byteIs bs (n * 4) 0) ≡ true
 
   pub permits-of : PermitTests → PermitsSound bs n entries lives
   unfolding permitSection permitByte placeByte permitRows
@@ -185,7 +185,7 @@ module _ (bs : List ℕ) (b : Bytes bs) (size : length bs ≡ 2048) (n : ℕ) (l
   -- both tests
   pub record TieTests : Type 0 where
     pub fine : allBelow n (tieFits bs lives) ≡ true
-    pub rest : allBelow (2048 - n * 4) (zeroAt bs (n * 4)) ≡ true
+    pub rest : allBelow (2048 - n * 4) (byteIs bs (n * 4) 0) ≡ true
 
   pub ties-of : TieTests → TiesSound bs n lives
   unfolding tieSection tieByte placeByte tieRows

@@ -6,7 +6,7 @@ use mathlib.Core.List.{List, [], _∷_}
 use Prim.Native.Nat.{ℕ}
 use lib.Dec.{leb, ltb, eqb}
 use Rattle.rules.specs.Base.{all, keep}
-use Rattle.rules.specs.Sets.{Set}
+use Rattle.rules.specs.Sets.{Set, putAll}
 use Rattle.rules.specs.Window.{Limits, PermitRecord, Window, withValue, withHeld, withPermits, withTies, isEnded, live, noChange}
 use Rattle.rules.specs.Locks.{clash, permitted, pairPermitted}
 use Rattle.rules.specs.Ties.{groupOf, endSet}
@@ -53,7 +53,7 @@ same-parties m s a b f z p h = ap₂ (λ x y. not (x || y)) (f (p .giver) (permi
 -- striking out the ended ones of a window changes nothing
 module _ (L : Limits) (X : Window) (z : Sound L X) (st : ℕ → ℕ) (shows : (c : ℕ) → st c ≡ shownStatus X c) where
   pub strike-same : strike st (bookOf X) ≡ bookOf X
-  unfolding strike released permitsLeft permitStays bookOf
+  unfolding strike released putAll permitsLeft permitStays bookOf
   strike-same = λ i. record { held = fun-ext (λ e. fun-ext (λ c. helds e c (sound-held L X z e c))) i; permits = permits i }
     where
       helds : (e c : ℕ) → (X .held e c ≡ 0) ⊎ (live X c ≡ true) → cond (isEnded (st c)) 0 (X .held e c) ≡ X .held e c
@@ -93,7 +93,7 @@ module _ (L : Limits) (W X : Window) (s : Set) (how : ℕ) (P : Ending W X s how
   struck-permits = keep-same _ _ _ (same-parties (W .entries) (live W) (λ c. isEnded (st c)) s told (untold (s 0) refl)) (W .permits) (z .permits)
 
   pub strike-ended : strike st (bookOf W) ≡ bookOf (endAll how s W)
-  unfolding strike released permitsLeft permitStays bookOf endAll
+  unfolding strike released putAll permitsLeft permitStays bookOf endAll
   strike-ended = λ i. record { held = fun-ext (λ e. fun-ext (λ c. struck-held e c)) i; permits = struck-permits i }
 
 -- the book after a call

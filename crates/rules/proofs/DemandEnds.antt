@@ -7,10 +7,10 @@ use Prim.Native.Nat.{ℕ, suc, _<_, min, max, Ordering}
 use native.Mathlib.Omega.{arith}
 use lib.Dec.{eqb}
 use Rattle.rules.specs.Base.{Key, put, anyBelow, any, insert, byOrder, outside}
-use Rattle.rules.specs.Sets.{Set, reach}
+use Rattle.rules.specs.Sets.{Set, putAll, reach}
 use Rattle.rules.specs.Window.{Limits, PermitRecord, TieRecord, Window, tieKey, withValue, withHeld, withPermits, withTies, isEnded, live, noChange}
 use Rattle.rules.specs.Ties.{isGroup, isFall, isArrow, tied, grouped, falling, makeTie, addTie, groupOf, endSet}
-use Rattle.rules.specs.Effects.{commitBlockers, entriesNamed, withStatuses, tieStays, tiesLeft, endAll, addChange, handOver, leadsTo, leadersOf}
+use Rattle.rules.specs.Effects.{commitBlockers, entriesNamed, tieStays, tiesLeft, endAll, addChange, handOver, leadsTo, leadersOf}
 use Rattle.rules.specs.Events.{Action, isTying, isOpening}
 use Rattle.rules.proofs.BaseLaws.{or-left, or-right, and-left, and-right, eqb-eq, eqb-same, eqb-other, Same, same, other, same?, Below, under, over, below, ltb-true, any-intro}
 use Rattle.rules.proofs.DemandMoves.{shownStatus, Calm, Move, opened, started, calm, locked, granted, handed, tied as tieing, committed, aborted, live-status}
@@ -80,15 +80,15 @@ module _ (L : Limits) (W : Window) (z : Sound L W) where
   -- a set of live changes ends
   module _ (how : ℕ) (s : Set) (inside : (c : ℕ) → s c ≡ true → live W c ≡ true) where
     end-ends : (c : ℕ) → s c ≡ true → (live W c ≡ true) × (shownStatus (endAll how s W) c ≡ how)
-    unfolding shownStatus endAll withStatuses noChange
+    unfolding shownStatus endAll putAll noChange
     end-ends c e = (inside c e, rw (live-change L W z c (inside c e), e))
 
     end-stays : (c : ℕ) → s c ≡ false → shownStatus (endAll how s W) c ≡ shownStatus W c
-    unfolding shownStatus endAll withStatuses noChange
+    unfolding shownStatus endAll putAll noChange
     end-stays c e = rw e
 
     end-on : (c : ℕ) → s c ≡ false → live W c ≡ true → live (endAll how s W) c ≡ true
-    unfolding live endAll withStatuses
+    unfolding live endAll putAll
     end-on c e h = rw e h
 
     end-ties : (k : ℕ → Bool) (l f : ℕ) → s l ≡ false → s f ≡ false → tied (W .ties) k l f ≡ true → tied (endAll how s W .ties) k l f ≡ true
@@ -133,7 +133,7 @@ module _ (L : Limits) (W : Window) (z : Sound L W) where
       four q = omega arith
 
   pub abort-ending : (c : ℕ) (v : ℕ → ℕ) → live W c ≡ true → Ending W (endAll 5 (endSet W c) (withValue W v)) (endSet W c) 5
-  unfolding endSet endAll withStatuses withValue shownStatus live noChange falling isFall
+  unfolding endSet endAll putAll withValue shownStatus live noChange falling isFall
   abort-ending c v lc = record {
     way = inr refl;
     ends = end-ends 5 g inside;

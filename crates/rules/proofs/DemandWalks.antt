@@ -8,12 +8,12 @@ use native.Mathlib.Nat.{eq-or-lt-of-le}
 use native.Mathlib.Omega.{arith}
 use lib.Dec.{ltb, eqb}
 use Rattle.rules.specs.Base.{anyBelow, countBelow, all, any, table, outside}
-use Rattle.rules.specs.Sets.{Set, reach}
+use Rattle.rules.specs.Sets.{Set, putAll, reach}
 use Rattle.rules.specs.Window.{Limits, TieRecord, Window, isEnded, noChange, live}
 use Rattle.rules.specs.Ties.{isGroup, isArrow, tied, grouped, leading, acyclic, groupOf}
 use Rattle.rules.specs.Sound.{tieSound}
 use Rattle.rules.specs.Calls.{Call, Commit, done, unchanged}
-use Rattle.rules.specs.Effects.{effect, commitChange, commitBlockers, commitGroup, withStatuses, tiesLeft, endAll, leadsTo, leadersOf}
+use Rattle.rules.specs.Effects.{effect, commitChange, commitBlockers, commitGroup, tiesLeft, endAll, leadsTo, leadersOf}
 use Rattle.rules.specs.Refusals.{step, settle, checks, firstFailed, _if_}
 use Rattle.rules.specs.Lists.{final, walks}
 use Rattle.rules.proofs.BaseLaws.{not-true, never, none-below, or-none, or-left, or-right, or-cases, and-both, and-left, and-right, Same, same, other, same?, ltb-true, any-intro, any-elim, Within, count-within, count-same}
@@ -82,7 +82,7 @@ module _ (L : Limits) (W : Window) (z : Sound L W) where
     P = commit-ending L W z c lc clear
 
     out : (d : ℕ) → live X d ≡ true → (groupOf W c d ≡ false) × (live W d ≡ true)
-    unfolding X live endAll withStatuses outside
+    unfolding X live endAll putAll outside
     out d h = go (groupOf W c d) refl h
       where
         dead : (a : Bool) → a && false ≡ true → ⊥
@@ -248,7 +248,7 @@ module _ (L : Limits) (W : Window) (z : Sound L W) where
 
   done-fits : (c : ℕ) → ((d : ℕ) → live W d ≡ true → W .status d ≡ 3) → live W c ≡ true → anyBelow (suc (W .given)) (commitBlockers W (groupOf W c)) ≡ false
       → Sound L (endAll 4 (groupOf W c) W) → Fit L W (endAll 4 (groupOf W c) W)
-  unfolding X withStatuses
+  unfolding X putAll
   done-fits c r l e y = record {
     sound = y;
     given = given-same;

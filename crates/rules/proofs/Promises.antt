@@ -9,12 +9,12 @@ use native.Mathlib.Omega.{arith}
 use lib.Dec.{ltb, eqb}
 use lib.ListN.{length}
 use Rattle.rules.specs.Base.{put, exceeds, anyBelow, any}
-use Rattle.rules.specs.Sets.{Set}
+use Rattle.rules.specs.Sets.{Set, putAll}
 use Rattle.rules.specs.Window.{Limits, LogRecord, TieRecord, Window, tieKey, withValue, live, isEnded}
 use Rattle.rules.specs.Locks.{clash, permitted}
 use Rattle.rules.specs.Ties.{makeTie, addTie, acyclic, isArrow, tied, grouped, falling, groupOf, endSet}
 use Rattle.rules.specs.Calls.{Lock, Commit, Abort, done, unchanged}
-use Rattle.rules.specs.Effects.{covers, lockBlockers, grantable, lockEntry, commitBlockers, commitGroup, commitChange, undo, withStatuses, endAll, abortAll, abortChange, effect, leadsTo, leadersOf}
+use Rattle.rules.specs.Effects.{covers, lockBlockers, grantable, lockEntry, commitBlockers, commitGroup, commitChange, undo, endAll, abortAll, abortChange, effect, leadsTo, leadersOf}
 use Rattle.rules.specs.Refusals.{checks, firstFailed, _if_, settle, step}
 use Rattle.rules.proofs.BaseLaws.{lt-of, or-cases, or-none, and-both, and-left, and-right, not-true, not-false, ne-of, eqb-eq, none-below, anyBelow-none}
 use Rattle.rules.proofs.DemandMoves.{live-status, not-ended}
@@ -158,10 +158,10 @@ module _ (L : Limits) (W : Window) (z : Sound L W) (c : ℕ) (lc : live W c ≡ 
   abort-after = let u = or-none (eqb (W .status c) 4) (eqb (W .status c) 5) (not-ended (W .status c) (live-status W c lc)) in rw (live-change L W z c lc, u .0, u .1)
 
   pub abort-restores : (e : ℕ) → step L W (Abort c) .after .value e ≡ oldestBefore (endSet W c) e W.log (W .value e)
-  unfolding endAll withStatuses withValue
+  unfolding endAll putAll withValue
   abort-restores e = ap (λ X. X .value e) abort-after ∙ undo-oldest (endSet W c) W.log W.value e
 
   -- and those are the changes that it ends
   pub abort-ends : (d : ℕ) → step L W (Abort c) .after .status d ≡ cond (endSet W c d) 5 (W .status d)
-  unfolding endAll withStatuses withValue
+  unfolding endAll putAll withValue
   abort-ends d = ap (λ X. X .status d) abort-after

@@ -5,11 +5,11 @@ use mathlib.Core.Bool.{Bool, true, false, not, cond, _&&_, _||_, false≢true, o
 use Prim.Native.Nat.{ℕ, suc}
 use lib.Dec.{leb, ltb, eqb}
 use Rattle.rules.specs.Base.{all, outside}
-use Rattle.rules.specs.Sets.{Set}
+use Rattle.rules.specs.Sets.{Set, putAll}
 use Rattle.rules.specs.Window.{Limits, LogRecord, PermitRecord, TieRecord, Window, permitKey, tieKey, live, noChange}
 use Rattle.rules.specs.Locks.{pairPermitted, permitted, contains, clash}
 use Rattle.rules.specs.Sound.{statusSound, heldSound, recordSound, permitSound, tieSound}
-use Rattle.rules.specs.Effects.{withStatuses, released, isUnowned, unowned, permitStays, permitsLeft, tieStays, tiesLeft, endAll}
+use Rattle.rules.specs.Effects.{released, isUnowned, unowned, permitStays, permitsLeft, tieStays, tiesLeft, endAll}
 use Rattle.rules.proofs.BaseLaws.{or-cases, or-map, and-left, and-right, not-true, no-true, or-false-left, or-false-right, eqb-eq, ltb-true}
 use Rattle.rules.proofs.ListLaws.{all-weaken, all-keep, any-keep-up, fewer}
 use Rattle.rules.proofs.SortLaws.{rising-keep}
@@ -26,7 +26,7 @@ module _ (L : Limits) (W : Window) (how : ℕ) (s : Set) (ended : outside 1 3 ho
   left c = not (s c) && live W c
 
   live-end : live (endAll how s W) ≡ left
-  unfolding live endAll withStatuses left
+  unfolding live endAll putAll left
   live-end = fun-ext (λ c. go c (s c))
     where
       go : (c : ℕ) (b : Bool) → ltb c (suc W.given) && not (outside 1 3 (cond b how (W .status c))) ≡ not b && (ltb c (suc W.given) && not (outside 1 3 (W .status c)))
@@ -42,7 +42,7 @@ module _ (L : Limits) (W : Window) (how : ℕ) (s : Set) (ended : outside 1 3 ho
       go false f = k .statuses c
 
   end-helds : (e c : ℕ) → heldSound W.entries left (released s W.held) e c ≡ true
-  unfolding heldSound left released
+  unfolding heldSound left released putAll
   end-helds e c = go (s c)
     where
       go : (b : Bool) → leb (cond b 0 (W .held e c)) 2 && (eqb (cond b 0 (W .held e c)) 0 || (ltb e W.entries && (not b && live W c))) ≡ true
@@ -50,7 +50,7 @@ module _ (L : Limits) (W : Window) (how : ℕ) (s : Set) (ended : outside 1 3 ho
       go false = k .helds e c
 
   end-record : (r : LogRecord) → recordSound W.entries (live W) W.held r ≡ true → isUnowned s r ≡ true → recordSound W.entries left (released s W.held) r ≡ true
-  unfolding recordSound left released isUnowned
+  unfolding recordSound left released putAll isUnowned
   end-record r h q = rw (not-true (s r.owner) q) h
 
   end-permit : (p : PermitRecord) → permitSound W.entries (live W) p ≡ true → permitStays s p ≡ true → permitSound W.entries left p ≡ true
@@ -75,7 +75,7 @@ module _ (L : Limits) (W : Window) (how : ℕ) (s : Set) (ended : outside 1 3 ho
           (⊎-elim (λ z. ap not (ap s (eqb-eq p.taker b z) ∙ hb)) (λ z. ap not (ap s (eqb-eq p.taker 0 z) ∙ none)) (or-cases (eqb p.taker b) (eqb p.taker 0) (and-right (eqb p.giver a) (eqb p.taker b || eqb p.taker 0) x)))
 
   end-pair : (e a b : ℕ) → pairPermitted (endAll how s W) e a b ≡ true
-  unfolding pairPermitted endAll released permitsLeft
+  unfolding pairPermitted endAll released putAll permitsLeft
   end-pair e a b = go (s a) (s b) refl refl
     where
       go : (x y : Bool) → s a ≡ x → s b ≡ y
@@ -87,7 +87,7 @@ module _ (L : Limits) (W : Window) (how : ℕ) (s : Set) (ended : outside 1 3 ho
           (end-permitted b a e (W .held e a) q p) (k .locks e a b)
 
   pub end-sound : Sound L (endAll how s W)
-  unfolding endAll withStatuses unowned permitsLeft tiesLeft
+  unfolding endAll putAll unowned permitsLeft tiesLeft
   end-sound = record {
     some = k .some;
     entries = k .entries;

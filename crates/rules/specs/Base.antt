@@ -64,19 +64,23 @@ pub record Key : Type 0 where
   pub k2 : ℕ
   pub k3 : ℕ
 
+-- one order and, where it says equal, a second
 unfoldable pub andThen : Ordering → Ordering → Ordering
 andThen Ordering·lt o = Ordering·lt
 andThen Ordering·eq o = o
 andThen Ordering·gt o = Ordering·gt
 
+-- how two keys stand to each other
 unfoldable pub order : Key → Key → Ordering
 order a b = andThen (compare a.k1 b.k1) (andThen (compare a.k2 b.k2) (compare a.k3 b.k3))
 
+-- below
 unfoldable pub isLt : Ordering → Bool
 isLt Ordering·lt = true
 isLt Ordering·eq = false
 isLt Ordering·gt = false
 
+-- one of three: below, equal, above
 unfoldable pub byOrder {ℓ} : {A : Type ℓ} → Ordering → A → A → A → A
 byOrder Ordering·lt x y z = x
 byOrder Ordering·eq x y z = y

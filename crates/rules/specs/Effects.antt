@@ -4,7 +4,7 @@ use mathlib.Core.List.{List, [], _∷_, _++_, map, foldr}
 use Prim.Native.Nat.{ℕ, suc, max}
 use lib.Dec.{leb, eqb}
 use Rattle.rules.specs.Base.{put, put2, anyBelow, countBelow, lowestBelow, any, keep}
-use Rattle.rules.specs.Sets.{Set}
+use Rattle.rules.specs.Sets.{Set, putAll}
 use Rattle.rules.specs.Window.{LogRecord, PermitRecord, TieRecord, Window, fresh, withValue, withStatus, withHeld, withLog, withPermits, withTies}
 use Rattle.rules.specs.Locks.{clash, permitted, makePermit, addPermit}
 use Rattle.rules.specs.Ties.{isArrow, makeTie, addTie, groupOf, endSet}
@@ -38,6 +38,7 @@ lockBlockers W c e m d = not (eqb d c) && clash (W .held e d) m && not (permitte
 unfoldable pub grantable : Window → ℕ → ℕ → ℕ → Bool
 grantable W c e m = not (anyBelow (suc W.given) (lockBlockers W c e m))
 
+-- a lock on an entry, in the place of the one held
 unfoldable pub putHeld : Window → ℕ → ℕ → ℕ → Window
 putHeld W e c m = withHeld W (put2 W.held e c m)
 
@@ -96,14 +97,10 @@ handOver W from to on = record {
 }
 
 -- COMMIT AND ABORT
--- the statuses when the changes of a set end
-unfoldable pub withStatuses : Set → ℕ → (ℕ → ℕ) → ℕ → ℕ
-withStatuses s how status c = cond (s c) how (status c)
-
 -- "An ended change loses its locks, log records, ties, and permits given and received. Remaining records close up in order":
 -- what is left of each when the changes of a set end
 unfoldable pub released : Set → (ℕ → ℕ → ℕ) → ℕ → ℕ → ℕ
-released s held e c = cond (s c) 0 (held e c)
+released s held e = putAll s 0 (held e)
 
 unfoldable pub isUnowned : Set → LogRecord → Bool
 isUnowned s r = not (s r.owner)
@@ -129,7 +126,7 @@ endAll how s W = record {
   entries = W.entries;
   value = W.value;
   given = W.given;
-  status = withStatuses s how W.status;
+  status = putAll s how W.status;
   parent = W.parent;
   held = released s W.held;
   log = unowned s W.log;

@@ -1,5 +1,5 @@
 -- Sets of numbers, and the least set that holds a set and is closed under a relation. Assumes nothing.
-use mathlib.Core.Bool.{Bool, _&&_, _||_}
+use mathlib.Core.Bool.{Bool, true, cond, _&&_, _||_}
 use Prim.Native.Nat.{ℕ, zero, suc}
 use lib.Dec.{eqb}
 use Rattle.rules.specs.Base.{anyBelow}
@@ -12,14 +12,23 @@ Set = ℕ → Bool
 abbrev pub Rel : Type 0
 Rel = ℕ → ℕ → Bool
 
+-- every number
+unfoldable pub everything : Set
+everything c = true
+
 -- the set of one
 unfoldable pub only : ℕ → Set
 only c d = eqb d c
+
+-- a function with the places of a set changed to one value
+unfoldable pub putAll : Set → ℕ → (ℕ → ℕ) → ℕ → ℕ
+putAll s v f c = cond (s c) v (f c)
 
 -- the members, and what one step of the relation leads to from them
 unfoldable pub grow : ℕ → Rel → Set → Set
 grow n r s c = s c || anyBelow n (λ d. s d && r d c)
 
+-- k times over
 unfoldable pub times : ℕ → (Set → Set) → Set → Set
 times zero f s = s
 times (suc k) f s = times k f (f s)

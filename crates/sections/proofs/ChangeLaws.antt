@@ -14,7 +14,7 @@ use Rattle.rules.specs.Sound.{statusSound, parentSound}
 use Rattle.rules.proofs.BaseLaws.{and-four, eqb-eq, eqb-other, ltb-true, ltb-false, or-right, allBelow-at, allBelow-intro, Same, same, other, same?, Below, under, over, below}
 use Rattle.layout.specs.Codec.{changeByte, changeSection}
 use Rattle.layout.proofs.SectionLaws.{length-table, getD-table0}
-use Rattle.cells.specs.Part.{zeroAt}
+use Rattle.cells.specs.Part.{byteIs}
 use Rattle.cells.proofs.ZeroLaws.{zeros-at, zeros-all}
 use Rattle.sections.specs.Cells.{changeFits, nextFits}
 use Rattle.sections.specs.Sections.{ChangesSound}
@@ -34,9 +34,9 @@ module _ (bs : List ℕ) (size : length bs ≡ 1024) (given : ℕ) (most : given
 
   -- the three tests
   pub record Tests : Type 0 where
-    pub first : allBelow (4 - 0) (zeroAt bs 0) ≡ true
+    pub first : allBelow (4 - 0) (byteIs bs 0 0) ≡ true
     pub fits : allBelow given (nextFits bs) ≡ true
-    pub rest : allBelow (1024 - (given * 4 + 4)) (zeroAt bs (given * 4 + 4)) ≡ true
+    pub rest : allBelow (1024 - (given * 4 + 4)) (byteIs bs (given * 4 + 4) 0) ≡ true
 
   -- what they say of a place: that of no change is 0
   data Place (c : ℕ) : Bool → Type 0 where

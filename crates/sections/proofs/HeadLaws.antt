@@ -11,7 +11,7 @@ use Rattle.rules.proofs.BaseLaws.{Below, under, over, below}
 use Rattle.layout.specs.Codec.{byte, join2, headByte, headSection}
 use Rattle.layout.proofs.CodecLaws.{join2-byte, byte-zero}
 use Rattle.layout.proofs.SectionLaws.{Bytes, length-table, getD-table0}
-use Rattle.cells.specs.Part.{part, zeroAt}
+use Rattle.cells.specs.Part.{part, byteIs}
 use Rattle.cells.specs.Num.{num}
 use Rattle.cells.proofs.NumLaws.{part2}
 use Rattle.cells.proofs.ZeroLaws.{zeros-at, zeros-all}
@@ -37,7 +37,7 @@ module _ (bs : List ℕ) (size : length bs ≡ 64) where
       go (suc (suc r)) e = absurd (omega arith)
 
   -- five figures and zeros
-  pub head-bytes : Bytes bs → allBelow (64 - 10) (zeroAt bs 10) ≡ true → bs ≡ headSection (table 5 0 (figureAt bs))
+  pub head-bytes : Bytes bs → allBelow (64 - 10) (byteIs bs 10 0) ≡ true → bs ≡ headSection (table 5 0 (figureAt bs))
   unfolding headSection headByte
   head-bytes b z = ext-getD 0 bs (table 64 0 (headByte (table 5 0 (figureAt bs)))) (size ∙ sym (length-table 64 0 (headByte (table 5 0 (figureAt bs)))))
       (λ i h. let m : i < 64 = rw size at h in sym (getD-table0 64 (headByte (table 5 0 (figureAt bs))) i 0 m ∙ go i m (below (i / 2) 5)))
@@ -71,13 +71,13 @@ module _ (bs : List ℕ) (size : length bs ≡ 64) where
     pub ties-again : figureAt bs 4 ≡ s .ties
     ties-again = figure-again _ (s .bytes) 4 (omega arith) (omega (arith, s .ties-most))
 
-    pub head-zeros : allBelow (64 - 10) (zeroAt bs 10) ≡ true
+    pub head-zeros : allBelow (64 - 10) (byteIs bs 10 0) ≡ true
     unfolding headSection headByte
     head-zeros = zeros-all bs 10 64 (λ i h t. ap (λ l. getD l i 0) (s .bytes) ∙ getD-table0 64 (headByte (s .entries ∷ s .given ∷ s .records ∷ s .permits ∷ s .ties ∷ [])) i 0 t
         ∙ ap (byte (i % 2)) (List·getD-eq-default (s .entries ∷ s .given ∷ s .records ∷ s .permits ∷ s .ties ∷ []) 0 {n = i / 2} (omega arith)) ∙ byte-zero (i % 2))
 
 -- the header of five figures in their ranges
-pub head-sound : (bs : List ℕ) (size : length bs ≡ 64) → Bytes bs → allBelow (64 - 10) (zeroAt bs 10) ≡ true
+pub head-sound : (bs : List ℕ) (size : length bs ≡ 64) → Bytes bs → allBelow (64 - 10) (byteIs bs 10 0) ≡ true
     → 1 ≤ figureAt bs 0 → figureAt bs 0 ≤ 256 → figureAt bs 1 ≤ 255 → figureAt bs 2 ≤ 2048 → figureAt bs 3 ≤ 1024 → figureAt bs 4 ≤ 512 → HeadSound bs
 unfolding table
 head-sound bs size b z o e g l p t = record {

@@ -16,7 +16,7 @@ use Rattle.layout.specs.Codec.{bit, pack, unpack, lockByte, lockSection}
 use Rattle.layout.proofs.CodecLaws.{pack-most, pack-same, pack-none, unpack-pack}
 use Rattle.layout.proofs.SectionLaws.{Bytes, length-table, getD-table0}
 use Rattle.cells.specs.Bits.{bytesHave}
-use Rattle.cells.specs.Part.{zeroAt}
+use Rattle.cells.specs.Part.{byteIs}
 use Rattle.cells.proofs.Digits.{unpack-zero, unpack-ext}
 use Rattle.cells.proofs.ZeroLaws.{zeros-at, zeros-all}
 use Rattle.locks.proofs.BitLaws.{lockBits, lock-bits, bits-read}
@@ -37,7 +37,7 @@ module _ (bs : List ℕ) (b : Bytes bs) (size : length bs ≡ 16384) (entries : 
   -- both tests
   pub record LockTests : Type 0 where
     pub fine : allBelow entries (rowFits bs lives) ≡ true
-    pub rest : allBelow (16384 - entries * 64) (zeroAt bs (entries * 64)) ≡ true
+    pub rest : allBelow (16384 - entries * 64) (byteIs bs (entries * 64) 0) ≡ true
 
   heldAt : ℕ → ℕ → ℕ
   heldAt e c = cond (ltb e 256 && ltb c 256) (cond (writes bs e c) 2 (bit (reads bs e c))) 0

@@ -16,7 +16,7 @@ use Rattle.layout.specs.Codec.{byte, join4, noRecord, recordBytes, logByte, log
 use Rattle.layout.specs.Records.{recordAt}
 use Rattle.layout.proofs.RecordLaws.{placeByte, place-at, places-again, places-rest, first-byte}
 use Rattle.layout.proofs.SectionLaws.{Bytes, length-table}
-use Rattle.cells.specs.Part.{zeroAt}
+use Rattle.cells.specs.Part.{byteIs}
 use Rattle.cells.specs.Bits.{bytesHave}
 use Rattle.cells.proofs.ZeroLaws.{zeros-at, zeros-all}
 use Rattle.locks.proofs.BitLaws.{lockBits, lock-bits, bits-read}
@@ -41,7 +41,7 @@ module _ (bs : List ℕ) (b : Bytes bs) (size : length bs ≡ 12288) (n : ℕ) (
   -- both tests
   pub record LogTests : Type 0 where
     pub fine : allBelow n (recordFits bs locks) ≡ true
-    pub rest : allBelow (12288 - n * 6) (zeroAt bs (n * 6)) ≡ true
+    pub rest : allBelow (12288 - n * 6) (byteIs bs (n * 6) 0) ≡ true
 
   -- the record at a place has the bytes of the place
   whole : (j k : ℕ) → k < 6 → getD (recordBytes (recordAt bs j)) k 0 ≡ getD bs (j * 6 + k) 0

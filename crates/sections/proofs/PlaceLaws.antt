@@ -14,7 +14,7 @@ use Rattle.rules.proofs.BaseLaws.{and-right, or-cases, lt-of, ltb-true, eqb-eq,
 use Rattle.layout.specs.Codec.{byte, join4, valueByte, lineByte, valueSection, lineSection}
 use Rattle.layout.proofs.CodecLaws.{byte-zero}
 use Rattle.layout.proofs.SectionLaws.{Bytes, length-table, getD-table0}
-use Rattle.cells.specs.Part.{zeroAt}
+use Rattle.cells.specs.Part.{byteIs}
 use Rattle.cells.proofs.ZeroLaws.{zeros-at, zeros-all}
 use Rattle.sections.specs.Sections.{ValuesSound}
 use Rattle.sections.proofs.ByteLaws.{join4-below, byte-join4, join4-zero}
@@ -33,7 +33,7 @@ module _ (bs : List ℕ) (b : Bytes bs) (size : length bs ≡ 1024) (entries : �
       go i m = let q : i / 4 * 4 + i % 4 ≡ i = omega arith in
           rw (ltb-true (i / 4) 256 (omega arith)) (byte-join4 (λ k. getD bs (i / 4 * 4 + k) 0) (λ k. b (i / 4 * 4 + k)) (i % 4) (omega arith) ∙ ap (λ x. getD bs x 0) q)
 
-  values-fine : allBelow (1024 - entries * 4) (zeroAt bs (entries * 4)) ≡ true → (e : ℕ) → valueSound entries valueAt e ≡ true
+  values-fine : allBelow (1024 - entries * 4) (byteIs bs (entries * 4) 0) ≡ true → (e : ℕ) → valueSound entries valueAt e ≡ true
   unfolding valueSound valueAt
   values-fine z e = go (below e 256) (below e entries)
     where
@@ -47,18 +47,18 @@ module _ (bs : List ℕ) (b : Bytes bs) (size : length bs ≡ 1024) (entries : �
       go (under h) (under t) = rw (ltb-true (join4 (λ k. getD bs (e * 4 + k) 0)) 4294967296 (join4-below (λ k. getD bs (e * 4 + k) 0) (λ k. b (e * 4 + k))))
       go (under h) (over t) = rw (rest e t h)
 
-  values-zero : ValuesSound bs entries → allBelow (1024 - entries * 4) (zeroAt bs (entries * 4)) ≡ true
+  values-zero : ValuesSound bs entries → allBelow (1024 - entries * 4) (byteIs bs (entries * 4) 0) ≡ true
   unfolding valueSection valueByte valueSound
   values-zero s = zeros-all bs (entries * 4) 1024 (λ i h t. ap (λ l. getD l i 0) (s .bytes) ∙ getD-table0 1024 (valueByte (s .value)) i 0 t ∙ ap (byte (i % 4)) (none (i / 4) (omega arith)) ∙ byte-zero (i % 4))
     where
       none : (e : ℕ) → entries ≤ e → s .value e ≡ 0
       none e h = ⊎-elim (λ q. let l = lt-of e entries q in absurd (omega arith)) (eqb-eq (s .value e) 0) (or-cases (ltb e entries) _ (and-right (ltb (s .value e) 4294967296) _ (s .fine e)))
 
-  pub values-sound : allBelow (1024 - entries * 4) (zeroAt bs (entries * 4)) ≡ true ↔ ValuesSound bs entries
+  pub values-sound : allBelow (1024 - entries * 4) (byteIs bs (entries * 4) 0) ≡ true ↔ ValuesSound bs entries
   values-sound = (λ z. record { value = valueAt; bytes = values-bytes; fine = values-fine z }, values-zero)
 
 -- THE LINE
-pub line-sound : (bs : List ℕ) → length bs ≡ 1024 → allBelow (1024 - 0) (zeroAt bs 0) ≡ true ↔ bs ≡ lineSection
+pub line-sound : (bs : List ℕ) → length bs ≡ 1024 → allBelow (1024 - 0) (byteIs bs 0 0) ≡ true ↔ bs ≡ lineSection
 unfolding lineSection lineByte
 line-sound bs size = (
   λ z. ext-getD 0 bs (table 1024 0 lineByte) (size ∙ sym (length-table 1024 0 lineByte))

@@ -6,13 +6,13 @@ use native.Mathlib.Nat.{sub-self}
 use native.Mathlib.Omega.{arith}
 use borrow.Author.Needs.{needs}
 use Rattle.rules.specs.Base.{allBelow}
-use Rattle.cells.specs.Part.{zeroAt}
+use Rattle.cells.specs.Part.{byteIs}
 use Rattle.cells.proofs.ZeroLaws.{block-passed, block-failed, block-last}
 use Rattle.cells.proofs.all_zero.Statement.{statement}
 use Rattle.cells.proofs.all_zero.Tie as tie
 
 abbrev Inv-loop : tie.InvT-loop
-Inv-loop s from to i₀ i = (from ≤ i) × (i ≤ to) × (allBelow (i - from) (zeroAt s from) ≡ true)
+Inv-loop s from to i₀ i = (from ≤ i) × (i ≤ to) × (allBelow (i - from) (byteIs s from 0) ≡ true)
 
 abbrev μ-loop : tie.MeasureT-loop
 μ-loop s from to i₀ i = to - i

@@ -5,13 +5,13 @@ use native.Mathlib.Omega.{arith}
 use lib.Dec.{eqb}
 use borrow.Author.Needs.{needs}
 use Rattle.rules.specs.Base.{allBelow}
-use Rattle.cells.specs.Part.{zeroAt}
+use Rattle.cells.specs.Part.{byteIs}
 use Rattle.cells.proofs.ZeroLaws.{zero-more}
 use Rattle.cells.proofs.run_zero.Statement.{statement}
 use Rattle.cells.proofs.run_zero.Tie as tie
 
 abbrev Inv-loop : tie.InvT-loop
-Inv-loop s at n acc₀ i₀ acc i = (i ≤ n) × (eqb acc 0 ≡ allBelow i (zeroAt s at))
+Inv-loop s at n acc₀ i₀ acc i = (i ≤ n) × (eqb acc 0 ≡ allBelow i (byteIs s at 0))
 
 abbrev μ-loop : tie.MeasureT-loop
 μ-loop s at n acc₀ i₀ acc i = n - i

@@ -4,10 +4,11 @@ use Prim.Native.Nat.{ℕ, _-_, _≤_}
 use native.Mathlib.Omega.{arith}
 use borrow.Author.Needs.{needs}
 use lib.ListN.{length}
+use Rattle.rules.specs.Sets.{everything, putAll}
 use Rattle.rules.specs.Effects.{released}
 use Rattle.layout.proofs.LengthLaws.{length-locks}
 use Rattle.sets.specs.Members.{members}
-use Rattle.locks.specs.Held.{rowWithout, changedOn, everyEntry}
+use Rattle.locks.specs.Held.{changedOn}
 use Rattle.locks.proofs.ChangeLaws.{without-empty}
 use Rattle.locks.proofs.TouchLaws.{stored-loaded}
 use Rattle.locks.proofs.WalkLaws.{Walked, walked-none, walked-next, walked-all}
@@ -19,7 +20,7 @@ abbrev Any : (ℕ → ℕ → ℕ) → Type 0
 Any held = Unit
 
 abbrev Inv-loop : tie.InvT-loop
-Inv-loop locks₀ entries ended bytes entry₀ locks entry = (entry ≤ entries) × (length locks ≡ length locks₀) × Walked Any (rowWithout (members ended)) locks₀ locks entry
+Inv-loop locks₀ entries ended bytes entry₀ locks entry = (entry ≤ entries) × (length locks ≡ length locks₀) × Walked Any (putAll (members ended) 0) locks₀ locks entry
 
 abbrev μ-loop : tie.MeasureT-loop
 μ-loop locks₀ entries ended bytes entry₀ locks entry = entries - entry
@@ -30,7 +31,7 @@ returns c held none e = absurd (omega (arith, ap length e, length-locks held))
 loop-holds : tie.Need-loop-holds Inv-loop μ-loop
 loop-holds c =
     let a = c .before .before .before .before .before .args in
-    (omega arith, refl, walked-none Any (rowWithout (members (a .ended))) (a .locks .now))
+    (omega arith, refl, walked-none Any (putAll (members (a .ended)) 0) (a .locks .now))
 
 loop-again : tie.Need-loop-again Inv-loop μ-loop
 loop-again c =
@@ -38,17 +39,17 @@ loop-again c =
     let a = c .before .before .before .before .before .before .before .before .before .before .before .before .args in
     let call = c .before .before .release-touched in
     let says = stored-loaded (members (a .ended)) _ _ (search needs) (search needs) (c .before .before .before .before .before .before .before .before .store .ensures) in
-    (omega arith, call .kept .0 ∙ l .inv .1, walked-next Any (rowWithout (members (a .ended))) (a .locks .now) _ _ (l .entry) (λ held g. tt) (λ held g. call .ensures held says) (l .inv .2))
+    (omega arith, call .kept .0 ∙ l .inv .1, walked-next Any (putAll (members (a .ended)) 0) (a .locks .now) _ _ (l .entry) (λ held g. tt) (λ held g. call .ensures held says) (l .inv .2))
 
 same-length : tie.Need-same-length Inv-loop μ-loop
 same-length c = c .before .loop .inv .1
 
 returns-2 : tie.Need-returns-2 Inv-loop μ-loop
-unfolding released changedOn everyEntry rowWithout
+unfolding released changedOn everything putAll
 returns-2 c held none e =
     let l = c .before .loop in
     let a = c .before .before .before .before .before .before .before .args in
-    walked-all Any (rowWithout (members (a .ended))) (a .locks .now) _ (l .entry) (a .entries) (omega arith) (without-empty (members (a .ended))) (l .inv .2) held tt none e
+    walked-all Any (putAll (members (a .ended)) 0) (a .locks .now) _ (l .entry) (a .entries) (omega arith) (without-empty (members (a .ended))) (l .inv .2) held tt none e
 
 pub release-spec : {M : Type 1} → statement M
 release-spec =

@@ -1,8 +1,8 @@
 -- `locks::release_entry` meets its contract: both sets without the ended. Assumes nothing.
 use mathlib.Core.Path.{_∙_, ap}
+use Rattle.rules.specs.Sets.{putAll}
 use Rattle.layout.specs.Codec.{lockSection}
 use Rattle.sets.specs.Members.{members}
-use Rattle.locks.specs.Held.{rowWithout}
 use Rattle.locks.proofs.RowLaws.{row-without}
 use Rattle.locks.proofs.ChangeLaws.{on-entry}
 use borrow.Author.Needs.{needs}
@@ -13,12 +13,12 @@ returns : tie.Need-returns
 returns c held e =
     let a = c .before .before .before .before .before .before .before .before .before .before .before .args in
     let l = c .before .before .before .before .before .before .before .before .load .ensures held e in
-    c .before .before .store .ensures held (rowWithout (members (a .ended)) (held (a .entry))) e
+    c .before .before .store .ensures held (putAll (members (a .ended)) 0 (held (a .entry))) e
     (record {
       readers = row-without (held (a .entry)) (members (a .ended)) _ _ 0 (l .readers) (c .before .before .before .before .before .minus .ensures);
       writers = row-without (held (a .entry)) (members (a .ended)) _ _ 1 (l .writers) (c .before .before .before .before .minus2 .ensures);
     })
-    ∙ ap lockSection (on-entry (rowWithout (members (a .ended))) held (a .entry))
+    ∙ ap lockSection (on-entry (putAll (members (a .ended)) 0) held (a .entry))
 
 pub release-entry-spec : {M : Type 1} → statement M
 release-entry-spec =

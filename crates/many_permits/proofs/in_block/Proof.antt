@@ -4,7 +4,7 @@ use Prim.Native.Nat.{_≤_, _-_}
 use native.Mathlib.Omega.{arith}
 use borrow.Author.Needs.{needs}
 use Rattle.rules.specs.Base.{anyBelow}
-use Rattle.many_permits.specs.Blocks.{byteIs}
+use Rattle.cells.specs.Part.{byteIs}
 use Rattle.many_permits.proofs.BlockLaws.{byte-next}
 use Rattle.many_permits.proofs.in_block.Statement.{statement}
 use Rattle.many_permits.proofs.in_block.Tie as tie

@@ -5,7 +5,7 @@ use borrow.Author.Needs.{needs}
 use Rattle.rules.specs.Locks.{makePermit}
 use Rattle.layout.specs.Records.{permitAt}
 use Rattle.beside.proofs.PlaceLaws.{Skipped, skipped-more, first-found, first-nothing}
-use Rattle.many_permits.specs.Blocks.{involves}
+use Rattle.many_permits.specs.Named.{involves}
 use Rattle.many_permits.proofs.next_involving.Statement.{statement}
 use Rattle.many_permits.proofs.next_involving.Tie as tie
 

@@ -4,7 +4,7 @@ use Prim.Native.Nat.{ℕ, _-_}
 use native.Mathlib.Omega.{arith}
 use lib.ListN.{length}
 use borrow.Author.Needs.{needs}
-use Rattle.rules.specs.Effects.{withStatuses}
+use Rattle.rules.specs.Sets.{putAll}
 use Rattle.layout.specs.Codec.{changeSection}
 use Rattle.sets.specs.Members.{members}
 use Rattle.sets.proofs.WalkLaws.{lowest-of, rest-without}
@@ -15,7 +15,7 @@ use Rattle.places.proofs.set_statuses.Tie as tie
 abbrev Inv-loop : tie.InvT-loop
 Inv-loop changes₀ s ended member₀ changes left member =
     (length changes ≡ 1024) × Walk (members ended) (members left) member
-    × ((st pa : ℕ → ℕ) → changes₀ ≡ changeSection st pa → changes ≡ changeSection (withStatuses (passed (members ended) (members left)) s st) pa)
+    × ((st pa : ℕ → ℕ) → changes₀ ≡ changeSection st pa → changes ≡ changeSection (putAll (passed (members ended) (members left)) s st) pa)
 
 abbrev μ-loop : tie.MeasureT-loop
 μ-loop changes₀ s ended member₀ changes left member = 256 - member
