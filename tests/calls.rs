@@ -74,10 +74,14 @@ impl Tally {
 /// A list worked out by hand: the model and the library both give what it says.
 fn follow((name, lines): &tries::Try) {
     let mut trial = Trial::new(Start::garbage());
+    let fail = |trial: &Trial, error| {
+        eprintln!("worked out by hand: {name}");
+        trial.fail(error)
+    };
     for (call, answer, number) in lines {
-        let reply = trial.make(*call).unwrap_or_else(|error| trial.fail(format!("{name}: {error}")));
+        let reply = trial.make(*call).unwrap_or_else(|error| fail(&trial, error));
         if reply != (*answer, *number) {
-            trial.fail(format!("{name}: {call} gives {reply:?}, document 01 {answer}, {number}"));
+            fail(&trial, format!("{call} gives {reply:?}, document 01 {answer}, {number}"));
         }
     }
 }
@@ -164,7 +168,7 @@ fn damaged(r: &mut Random, kind: &Kind, trial: &Trial, tally: &mut Tally) {
     let mut trial = trial.clone();
     let (at, byte) = random::damage(r, trial.now(), trial.memory());
     trial.damage(at, byte);
-    for name in (1..15).chain([0]) {
+    for name in (1..NAMES.len()).chain([0]) {
         let call = random::named(r, kind, trial.now(), name);
         tally.make(&mut trial, call);
     }

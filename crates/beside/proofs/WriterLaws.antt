@@ -1,22 +1,19 @@
 -- The writers of an entry, one after the other, the lowest first. Assumes nothing.
 use mathlib.Core.Path.{_≡_, refl, sym, _∙_, ap}
-use mathlib.Core.Bool.{Bool, true, false, not, _&&_, _||_, Bool·not-not, or-true}
+use mathlib.Core.Bool.{Bool, true, false, not, _&&_, _||_, Bool·not-not}
 use Prim.Native.Nat.{ℕ, _≤_, _<_}
 use native.Mathlib.Decide.{decLt}
 use native.Mathlib.Omega.{arith}
 use lib.Dec.{eqb}
 use Rattle.rules.specs.Base.{allBelow}
 use Rattle.rules.specs.Sets.{Set}
-use Rattle.rules.proofs.BaseLaws.{Same, same, other, same?, eqb-other, allBelow-intro, allBelow-at}
+use Rattle.rules.proofs.BaseLaws.{or-right, Same, same, other, same?, eqb-other, allBelow-intro, allBelow-at}
 use Rattle.rules.proofs.TurnLaws.{turn-failed, turns-done}
 use Rattle.sets.proofs.WalkLaws.{Lowest, lowest-rises}
 
 -- a test of every writer
 cell-none : (x q : Bool) → x ≡ false → not x || q ≡ true
 cell-none x q e = rw e
-
-cell-passed : (x q : Bool) → q ≡ true → not x || q ≡ true
-cell-passed x q e = rw (e, or-true)
 
 -- a walk over the writers x with the test q: `left` are those not yet looked at, a the lowest of them
 pub record Walked (x : Set) (q : ℕ → Bool) (left : Set) (a : ℕ) : Type 0 where
@@ -50,7 +47,7 @@ module _ (x : Set) (q : ℕ → Bool) where
         where
           go : (k : ℕ) → k < a′ → Dec (k < a) → {b : Bool} → Same k a b → not (x k) || q k ≡ true
           go k h (yes l) s = allBelow-at a _ (w .passed) k l
-          go k h (no l) (same p) = cell-passed (x k) (q k) (rw p (sym e ∙ f))
+          go k h (no l) (same p) = or-right (not (x k)) (q k) (rw p (sym e ∙ f))
           go k h (no l) (other n) = cell-none (x k) (q k) (sym (kept k (omega arith)) ∙ next .before k h)
 
   -- no writer is left

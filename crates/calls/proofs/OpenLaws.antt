@@ -1,6 +1,6 @@
 -- What open does on lent memory. Assumes nothing.
 use mathlib.Core.Path.{_≡_, refl, sym, _∙_, ap}
-use mathlib.Core.Bool.{Bool, true, false, not, cond, _||_, false≢true}
+use mathlib.Core.Bool.{Bool, true, false, cond, _||_, false≢true}
 use mathlib.Core.List.{List, _++_}
 use Prim.Native.Nat.{ℕ, _<_, _≤_}
 use native.Mathlib.Omega.{arith}
@@ -11,7 +11,7 @@ use Rattle.rules.specs.Window.{limits, fresh}
 use Rattle.rules.specs.Calls.{Open, done, unchanged}
 use Rattle.rules.specs.Effects.{effect}
 use Rattle.rules.specs.Refusals.{_if_, checks, firstFailed, settle, step}
-use Rattle.rules.proofs.BaseLaws.{Below, under, over, below, no-true, both-ways, le-of, leb-true, lt-of, within-of, over-false}
+use Rattle.rules.proofs.BaseLaws.{Below, under, over, below, no-true, both-ways, le-of, leb-true, lt-of, over-false, over-true}
 use Rattle.layout.specs.Codec.{windowSize, encode}
 use Rattle.layout.specs.Memory.{long, handBack, perform}
 use Rattle.layout.proofs.MemoryLaws.{perform-short, perform-still, open-answered, open-numbered, opened-bytes}
@@ -20,15 +20,11 @@ use Rattle.replies.specs.Gives.{Gives}
 
 -- a figure above a bound, by clauses and as a comparison
 exceeds-ltb : (m n : ℕ) → exceeds m n ≡ ltb n m
-exceeds-ltb m n = both-ways _ _ (up (below n m)) (λ e. down (exceeds m n) refl (lt-of n m e))
+exceeds-ltb m n = both-ways _ _ (up (below n m)) (λ e. over-true m n (lt-of n m e))
   where
     up : {b : Bool} → Below n m b → exceeds m n ≡ true → b ≡ true
     up (under h) e = refl
     up (over h) e = absurd (false≢true (sym (over-false m n h) ∙ e))
-
-    down : (b : Bool) → exceeds m n ≡ b → n < m → b ≡ true
-    down true q h = refl
-    down false q h = absurd (omega (arith, within-of m n (ap not q)))
 
 module _ (mem : List ℕ) (n : ℕ) where
   -- what the rules answer

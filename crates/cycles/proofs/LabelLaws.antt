@@ -12,7 +12,7 @@ use Rattle.rules.specs.Base.{table}
 use Rattle.rules.specs.Sets.{Rel}
 use Rattle.rules.specs.Window.{TieRecord}
 use Rattle.rules.specs.Ties.{isGroup}
-use Rattle.rules.proofs.BaseLaws.{Same, same, other, same?, eqb-other, Below, under, over, below}
+use Rattle.rules.proofs.BaseLaws.{cond-same, Same, same, other, same?, eqb-other, Below, under, over, below}
 use Rattle.rules.proofs.PathLaws.{Way, stay, on, way-join}
 use Rattle.rules.proofs.TieLaws.{group-is}
 use Rattle.layout.specs.Records.{tieOf}
@@ -32,11 +32,7 @@ instead-self a x = go (same? x a)
 -- what was new stays
 instead-new : (a b : ℕ) → instead b a a ≡ a
 unfolding instead
-instead-new a b = go (eqb a b)
-  where
-    go : (x : Bool) → cond x a a ≡ a
-    go true = refl
-    go false = refl
+instead-new a b = cond-same (eqb a b) a
 
 -- what was old is new
 instead-old : (a b : ℕ) → instead b a b ≡ a

@@ -12,13 +12,13 @@ use Rattle.rules.specs.Window.{limits, Window, fresh}
 use Rattle.rules.specs.Calls.{Call, Open, fits, Reply, Outcome}
 use Rattle.rules.specs.Refusals.{step}
 use Rattle.rules.specs.Events.{isOpen}
-use Rattle.rules.specs.Lists.{answers, final}
+use Rattle.rules.specs.Lists.{answers}
 use Rattle.rules.proofs.BaseLaws.{and-left, and-right, leb-true}
 use Rattle.rules.proofs.RuleLaws.{open-number}
 use Rattle.rules.proofs.SoundStep.{opened-fresh}
 use Rattle.layout.specs.Codec.{windowSize}
 use Rattle.layout.specs.Memory.{long, soundMemory, windowOf, layInto, handBack, anew, memoryRefused, perform}
-use Rattle.layout.proofs.MemoryLaws.{Holds, perform-answer, perform-number, perform-holds, open-answered, open-numbered, opened-holds}
+use Rattle.layout.proofs.MemoryLaws.{perform-answer, perform-number, perform-holds, open-answered, open-numbered, opened-holds}
 
 -- from a sound window
 answers-sound : (l : List Call) (mem : List ℕ) → all fits l ≡ true → soundMemory mem ≡ true → answers perform mem l ≡ answers (step limits) (windowOf mem) l
@@ -28,13 +28,6 @@ answers-sound (c ∷ l) mem a h =
     let k = perform-holds mem c (and-left (fits c) (all fits l) a) h in
     λ i. (perform-answer mem c h i, perform-number mem c h i)
     ∷ (answers-sound l (perform mem c .after) (and-right (fits c) (all fits l) a) (k .sound) ∙ ap (λ X. answers (step limits) X l) (k .window)) i
-
-final-sound : (l : List Call) (mem : List ℕ) → all fits l ≡ true → soundMemory mem ≡ true → Holds (final perform mem l) (final (step limits) (windowOf mem) l)
-unfolding all final
-final-sound [] mem a h = record { sound = h; window = refl }
-final-sound (c ∷ l) mem a h =
-    let k = perform-holds mem c (and-left (fits c) (all fits l) a) h in
-    rw (k .window) at (final-sound l (perform mem c .after) (and-right (fits c) (all fits l) a) (k .sound))
 
 -- from whatever memory an open answered 0
 answers-opened : (mem : List ℕ) (n : ℕ) (l : List Call) → all fits l ≡ true → perform mem (Open n) .answer ≡ 0

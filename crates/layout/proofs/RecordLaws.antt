@@ -3,11 +3,11 @@ use mathlib.Core.Path.{_≡_, refl, sym, _∙_, ap, fun-ext}
 use mathlib.Core.Bool.{Bool}
 use mathlib.Core.List.{List, [], _∷_, _++_, append-assoc}
 use Prim.Native.Nat.{ℕ, zero, suc, _+_, _-_, _*_, _/_, _%_, _≤_, _<_}
-use native.Mathlib.Nat.{div-add-mod', div-lt-iff-lt-mul, mul-le-mul-right, le-div-iff-mul-le, add-zero, add-div-right, add-mod-right, div-eq-of-lt, mod-eq-of-lt, mod-lt, zero-mul, suc-mul, add-comm, zero-add, suc-add, sub-zero, suc-sub-suc, le-of-suc-le-suc, not-suc-le-zero}
+use native.Mathlib.Nat.{div-add-mod', div-lt-iff-lt-mul, mul-le-mul-right, le-div-iff-mul-le, add-zero, add-div-right, add-mod-right, div-eq-of-lt, mod-eq-of-lt, mod-lt, suc-mul, add-comm, zero-add, suc-add, sub-zero, suc-sub-suc, le-of-suc-le-suc, not-suc-le-zero}
 use native.Mathlib.Numerals.{add-one}
 use native.Mathlib.Omega.{arith}
 use lib.Arith.{digits-lt, digits-div, digits-mod}
-use lib.ListN.{getD, length, replicate, getD-replicate, length-append, List·getD-eq-default}
+use lib.ListN.{getD, length, replicate, getD-replicate, List·getD-eq-default}
 use lib.Seq.{ext-getD}
 use Rattle.rules.specs.Base.{table}
 use Rattle.rules.specs.Window.{LogRecord, PermitRecord, TieRecord}
@@ -41,11 +41,6 @@ unfoldable pub placeByte {ℓ} : {A : Type ℓ} → ℕ → (A → List ℕ) →
 placeByte w bytes none l i = getD (bytes (getD l (i / w) none)) (i % w) 0
 
 module _ {ℓ} {A : Type ℓ} (w : ℕ) (pos : 0 < w) (bytes : A → List ℕ) (none : A) (size : (x : A) → length (bytes x) ≡ w) (blank : bytes none ≡ replicate w 0) where
-  pub length-flat : (l : List A) → length (flat bytes l) ≡ length l * w
-  unfolding flat
-  length-flat [] = sym (zero-mul w)
-  length-flat (x ∷ l) = length-append (bytes x) (flat bytes l) ∙ rw (size x, length-flat l, suc-mul (length l) w) (add-comm w (length l * w))
-
   no-place : (i : ℕ) → placeByte w bytes none [] i ≡ 0
   unfolding placeByte
   no-place i = rw blank (getD-replicate w (i % w) 0 0 (mod-lt i pos))

@@ -177,12 +177,14 @@ encode W = lay (figures W) W
 unfoldable pub inside : ℕ → List ℕ → ℕ → ℕ
 inside start bs i = getD bs (start + i) 0
 
+-- a number of two bytes and one of four, the lowest first
 unfoldable pub join2 : ℕ → ℕ → ℕ
 join2 a b = a + b * 256
 
 unfoldable pub join4 : (ℕ → ℕ) → ℕ
 join4 f = f 0 + f 1 * 256 + f 2 * 65536 + f 3 * 16777216
 
+-- bit b of x is set
 unfoldable pub unpack : ℕ → ℕ → Bool
 unpack x b = eqb (x / 2 ^ b % 2) 1
 

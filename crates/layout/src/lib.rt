@@ -108,6 +108,7 @@ pub struct Largest {
     pub ties: usize,
 }
 
+// They are those of the rules.
 pub fn most() -> Largest
     ensures { λ r. ⌜ AreLargest r ⌝ }
 {
@@ -132,6 +133,7 @@ pub struct Sections {
     pub log: usize,
 }
 
+// Where each section begins.
 pub fn begins() -> Sections
     ensures { λ r. ⌜ (r .head ≡ headAt) × (r .values ≡ valuesAt) × (r .changes ≡ changesAt) × (r .line ≡ lineAt) × (r .locks ≡ locksAt) × (r .permits ≡ permitsAt) × (r .ties ≡ tiesAt) × (r .log ≡ logAt) ⌝ }
 {
@@ -147,6 +149,7 @@ pub fn begins() -> Sections
     }
 }
 
+// How many bytes it has.
 pub fn sizes() -> Sections
     ensures { λ r. ⌜ (r .head ≡ headSize) × (r .values ≡ valuesSize) × (r .changes ≡ changesSize) × (r .line ≡ lineSize) × (r .locks ≡ locksSize) × (r .permits ≡ permitsSize) × (r .ties ≡ tiesSize) × (r .log ≡ logSize) ⌝ }
 {
@@ -162,6 +165,7 @@ pub fn sizes() -> Sections
     }
 }
 
+// How many bytes a window has.
 pub fn size() -> usize
     ensures { λ r. ⌜ r ≡ windowSize ⌝ }
 {

@@ -9,7 +9,7 @@ use lib.Dec.{ltb, eqb}
 use Rattle.rules.specs.Base.{exceeds}
 use Rattle.rules.specs.Window.{Window, noChange}
 use Rattle.rules.specs.Refusals.{Check, _if_, checks, firstFailed}
-use Rattle.rules.proofs.BaseLaws.{eqb-same, eqb-other, ltb-true, ltb-false, over-false, within-of, no-true, not-false}
+use Rattle.rules.proofs.BaseLaws.{eqb-same, eqb-other, ltb-true, ltb-false, over-false, over-true}
 use Rattle.refusals.specs.Shared.{ChangeRefusal}
 
 -- checks made in order give a number: t is the code's test
@@ -46,7 +46,7 @@ module _ {x y : ℕ} (e : x ≡ y) (n : ℕ) where
 
   -- one more exceeds a largest figure, or does not
   pub full : n ≤ x → exceeds (suc y) n ≡ true
-  full h = not-false _ (no-true _ (λ q. let l = within-of (suc y) n q in omega arith))
+  full h = over-true (suc y) n (omega arith)
 
   pub room : x < n → exceeds (suc y) n ≡ false
   room h = over-false (suc y) n (omega arith)

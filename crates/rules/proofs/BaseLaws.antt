@@ -158,6 +158,11 @@ allBelow-at (suc n) p e c h = go (same? c n) (allBelow-at n p (and-left (allBelo
     go (same q) ih = rw q (and-right (allBelow n p) (p n) e)
     go (other q) ih = ih (omega arith)
 
+-- both cases alike
+pub cond-same : (b : Bool) (a : ℕ) → cond b a a ≡ a
+cond-same true a = refl
+cond-same false a = refl
+
 -- a largest figure
 pub over-false : (m n : ℕ) → m ≤ n → exceeds m n ≡ false
 unfolding exceeds

@@ -14,7 +14,7 @@ use Rattle.rules.specs.Sound.{permitSound, heldSound}
 use Rattle.rules.specs.Effects.{released, permitStays, permitsLeft, endAll, addChange, handOver}
 use Rattle.rules.specs.Events.{Action, isOpening}
 use Rattle.rules.specs.Lists.{Book, enter, strike}
-use Rattle.rules.proofs.BaseLaws.{or-cases, and-left, and-right, eqb-eq, eqb-other}
+use Rattle.rules.proofs.BaseLaws.{or-cases, and-left, and-right, cond-same, eqb-eq, eqb-other}
 use Rattle.rules.proofs.DemandEnds.{how-ended, Ending, commit-ending, abort-ending}
 use Rattle.rules.proofs.DemandMoves.{shownStatus, Calm, Move, opened, started, calm, locked, granted, handed, tied, committed, aborted, live-unended}
 use Rattle.rules.proofs.SoundParts.{Sound, permit-parts}
@@ -26,10 +26,6 @@ bookOf W = record { held = W .held; permits = W .permits }
 sound-held : (L : Limits) (W : Window) → Sound L W → (e c : ℕ) → (W .held e c ≡ 0) ⊎ (live W c ≡ true)
 unfolding heldSound
 sound-held L W z e c = ⊎-elim (λ q. inl (eqb-eq (W .held e c) 0 q)) (λ q. inr (and-right (ltb e (W .entries)) _ q)) (or-cases (eqb (W .held e c) 0) _ (and-right (leb (W .held e c) 2) _ (z .helds e c)))
-
-cond-zero : (b : Bool) → _≡_ {A = ℕ} (cond b 0 0) 0
-cond-zero true = refl
-cond-zero false = refl
 
 keep-same {ℓ} : {A : Type ℓ} (p q r : A → Bool) → ((x : A) → r x ≡ true → p x ≡ q x) → (l : List A) → all r l ≡ true → keep p l ≡ keep q l
 unfolding keep all
@@ -57,7 +53,7 @@ module _ (L : Limits) (X : Window) (z : Sound L X) (st : ℕ → ℕ) (shows : (
   strike-same = λ i. record { held = fun-ext (λ e. fun-ext (λ c. helds e c (sound-held L X z e c))) i; permits = permits i }
     where
       helds : (e c : ℕ) → (X .held e c ≡ 0) ⊎ (live X c ≡ true) → cond (isEnded (st c)) 0 (X .held e c) ≡ X .held e c
-      helds e c (inl q) = rw q (cond-zero (isEnded (st c)))
+      helds e c (inl q) = rw q (cond-same (isEnded (st c)) 0)
       helds e c (inr q) = rw (shows c, live-unended X c q)
 
       permits : keep (λ p. not (isEnded (st (p .giver)) || isEnded (st (p .taker)))) (X .permits) ≡ X .permits

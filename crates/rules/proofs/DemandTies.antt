@@ -13,7 +13,7 @@ use Rattle.rules.specs.Window.{Window, fresh, isEnded, live, noChange}
 use Rattle.rules.specs.Ties.{isWait, isFall, isArrow, isGroup, tied, grouped}
 use Rattle.rules.specs.Events.{Event, action, isTying}
 use Rattle.rules.specs.Lists.{status, endedAs, endedAt, tieMade, Grouped, itself, along, against}
-use Rattle.rules.proofs.BaseLaws.{or-left, or-right, or-cases, and-left, and-right, eqb-eq, eqb-other, Same, same, other, same?}
+use Rattle.rules.proofs.BaseLaws.{or-left, or-right, or-cases, and-left, and-right, cond-same, eqb-eq, eqb-other, Same, same, other, same?}
 use Rattle.rules.proofs.DemandEnds.{how-ended, Ending, New, ofKind}
 use Rattle.rules.proofs.DemandMoves.{shownStatus, live-unended, live-not}
 use Rattle.rules.proofs.SourceLaws.{grouped-both}
@@ -220,11 +220,7 @@ story-fresh n e shows un = record {
 }
   where
     nobody : (c : ℕ) → shownStatus (fresh n) c ≡ 0
-    nobody c = go (noChange (fresh n) c)
-      where
-        go : (b : Bool) → _≡_ {A = ℕ} (cond b 0 0) 0
-        go true = refl
-        go false = refl
+    nobody c = cond-same (noChange (fresh n) c) 0
 
     none : (k l f : ℕ) → isTying k l f (action e) || false ≡ true → ⊥
     none k l f h = false≢true (rw (un k l f) at h)

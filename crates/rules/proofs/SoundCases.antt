@@ -5,7 +5,8 @@ use mathlib.Core.List.{List, [], _∷_, map}
 use Prim.Native.Nat.{ℕ}
 use lib.ListN.{replicate}
 use Rattle.rules.specs.Base.{put, put2}
-use Rattle.rules.specs.Window.{Limits, LogRecord, PermitRecord, TieRecord, Window, withValue, withStatus, withHeld, withLog, withPermits, withTies}
+use Rattle.rules.specs.Window.{Limits, LogRecord, TieRecord, Window, withValue, withStatus, withHeld, withLog, withPermits, withTies}
+use Rattle.rules.specs.Locks.{makePermit}
 use Rattle.rules.specs.Sound.{valueSound, statusSound, parentSound, heldSound, recordSound, permitSound, tieSound, parts, sound}
 use Rattle.rules.proofs.Computing.{rules}
 
@@ -14,9 +15,6 @@ small = record { entries = 2; changes = 4; records = 2; permits = 3; ties = 3 }
 
 abbrev log1 : ℕ → ℕ → ℕ → LogRecord
 log1 o e b = record { owner = o; entry = e; before = b }
-
-abbrev permit1 : ℕ → ℕ → ℕ → ℕ → PermitRecord
-permit1 g t e o = record { giver = g; taker = t; entry = e; ops = o }
 
 abbrev tie1 : ℕ → ℕ → ℕ → TieRecord
 tie1 k l f = record { kind = k; leader = l; follower = f }
@@ -31,7 +29,7 @@ good = record {
   parent = put (λ c. 0) 2 1;
   held = put2 (put2 (λ e c. 0) 0 1 2) 0 2 1;
   log = log1 1 0 0 ∷ [];
-  permits = permit1 1 0 0 2 ∷ permit1 1 2 0 1 ∷ [];
+  permits = makePermit 1 0 0 2 ∷ makePermit 1 2 0 1 ∷ [];
   ties = tie1 1 1 2 ∷ tie1 3 2 3 ∷ [];
 }
 
@@ -51,9 +49,9 @@ faults =
     ∷ withHeld good (put2 good.held 0 1 1) ∷ withHeld good (put2 good.held 0 3 1)
     ∷ withStatus good (put good.status 1 4) ∷ withStatus good (put good.status 2 5) ∷ withStatus good (put good.status 3 5)
     ∷ withLog good (log1 2 0 0 ∷ []) ∷ withLog good (log1 1 1 0 ∷ []) ∷ withLog good (log1 1 0 4294967296 ∷ []) ∷ withLog good (log1 1 0 0 ∷ log1 1 0 0 ∷ log1 1 0 0 ∷ [])
-    ∷ withPermits good [] ∷ withPermits good (permit1 2 1 0 1 ∷ []) ∷ withPermits good (permit1 1 2 0 2 ∷ []) ∷ withPermits good (permit1 1 2 0 1 ∷ permit1 1 0 0 2 ∷ [])
-    ∷ withPermits good (permit1 1 2 0 1 ∷ permit1 1 2 0 2 ∷ []) ∷ withPermits good (permit1 1 1 0 1 ∷ permit1 1 2 0 1 ∷ []) ∷ withPermits good (permit1 1 2 0 1 ∷ permit1 1 3 0 4 ∷ [])
-    ∷ withPermits good (permit1 1 2 0 1 ∷ permit1 1 3 0 0 ∷ []) ∷ withPermits good (permit1 1 2 0 1 ∷ permit1 1 2 1 1 ∷ []) ∷ withPermits good (permit1 1 2 0 1 ∷ permit1 1 4 0 1 ∷ []) ∷ withPermits good (permit1 0 2 0 1 ∷ permit1 1 2 0 1 ∷ [])
+    ∷ withPermits good [] ∷ withPermits good (makePermit 2 1 0 1 ∷ []) ∷ withPermits good (makePermit 1 2 0 2 ∷ []) ∷ withPermits good (makePermit 1 2 0 1 ∷ makePermit 1 0 0 2 ∷ [])
+    ∷ withPermits good (makePermit 1 2 0 1 ∷ makePermit 1 2 0 2 ∷ []) ∷ withPermits good (makePermit 1 1 0 1 ∷ makePermit 1 2 0 1 ∷ []) ∷ withPermits good (makePermit 1 2 0 1 ∷ makePermit 1 3 0 4 ∷ [])
+    ∷ withPermits good (makePermit 1 2 0 1 ∷ makePermit 1 3 0 0 ∷ []) ∷ withPermits good (makePermit 1 2 0 1 ∷ makePermit 1 2 1 1 ∷ []) ∷ withPermits good (makePermit 1 2 0 1 ∷ makePermit 1 4 0 1 ∷ []) ∷ withPermits good (makePermit 0 2 0 1 ∷ makePermit 1 2 0 1 ∷ [])
     ∷ withTies good (tie1 3 2 3 ∷ tie1 1 1 2 ∷ []) ∷ withTies good (tie1 1 1 2 ∷ tie1 1 1 2 ∷ []) ∷ withTies good (tie1 3 3 2 ∷ []) ∷ withTies good (tie1 1 2 2 ∷ [])
     ∷ withTies good (tie1 0 1 2 ∷ []) ∷ withTies good (tie1 4 1 2 ∷ []) ∷ withTies good (tie1 1 0 2 ∷ []) ∷ withTies good (tie1 1 1 4 ∷ [])
     ∷ withTies good (tie1 1 1 2 ∷ tie1 2 2 1 ∷ []) ∷ withTies good (tie1 1 1 2 ∷ tie1 2 3 1 ∷ tie1 3 2 3 ∷ []) ∷ withTies good (tie1 1 2 3 ∷ tie1 3 2 3 ∷ [])

@@ -1,7 +1,7 @@
 -- Where no path of arrows returns, some group has no arrow to it: what lets a commit go on. Assumes nothing.
 use mathlib.Core.Path.{_≡_, refl}
 use mathlib.Core.Logic.{⊎-elim}
-use mathlib.Core.Bool.{Bool, true, false, not, _&&_, _||_, false≢true}
+use mathlib.Core.Bool.{Bool, true, false, not, _&&_, _||_}
 use mathlib.Core.List.{List}
 use Prim.Native.Nat.{ℕ, zero, suc, _+_, _≤_, _<_}
 use native.Mathlib.Nat.{eq-or-lt-of-le}
@@ -11,7 +11,7 @@ use Rattle.rules.specs.Base.{all, any, countBelow}
 use Rattle.rules.specs.Sets.{Rel, reach}
 use Rattle.rules.specs.Window.{TieRecord}
 use Rattle.rules.specs.Ties.{isGroup, isArrow, tied, grouped, leading}
-use Rattle.rules.proofs.BaseLaws.{or-left, or-right, or-cases, and-left, and-right, to-T, Within, count-le, count-within, count-same}
+use Rattle.rules.proofs.BaseLaws.{or-left, or-right, or-cases, and-left, and-right, never, to-T, Within, count-le, count-within, count-same}
 use Rattle.rules.proofs.ListLaws.{find}
 use Rattle.rules.proofs.SetLaws.{Closed, reach-seed, reach-closed, reach-least}
 
@@ -64,13 +64,10 @@ module _ (n : ℕ) (ts : List TieRecord) where
       let w : Within n (reach n (leading ts) c) (reach n (leading ts) t.leader) =
       λ x hx p. reach-through n (leading ts) t.leader t.follower lf x hx (reach-through n (leading ts) t.follower c fc x hx p) in (
         hl,
-        ⊎-elim (λ q. absurd (never t (reach-through n (leading ts) t.follower c fc t.leader hl
+        ⊎-elim (λ q. absurd (never _ (reach-through n (leading ts) t.follower c fc t.leader hl
             (count-same n (reach n (leading ts) c) (reach n (leading ts) t.leader) w (omega arith) t.leader hl (reach-seed n (leading ts) t.leader))) no-way))
             (λ l. l) (eq-or-lt-of-le (count-within n _ _ w)),
       )
-    where
-      never : (t : TieRecord) → reach n (leading ts) t.follower t.leader ≡ true → not (reach n (leading ts) t.follower t.leader) ≡ true → ⊥
-      never t p q = false≢true (rw p at q)
 
   -- and of a test that all leaders pass: the change found passes it too
   module _ (q : ℕ → Bool) (fine : all (λ t. q t.leader && fineTie t) ts ≡ true) where
