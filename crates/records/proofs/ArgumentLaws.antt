@@ -2,7 +2,7 @@
 use mathlib.Core.Path.{_≡_, ap}
 use mathlib.Core.Bool.{true, false, not}
 use mathlib.Core.List.{List}
-use Prim.Native.Nat.{ℕ, suc, _+_, _≤_, _<_}
+use Prim.Native.Nat.{ℕ, suc, _≤_, _<_}
 use native.Mathlib.Omega.{arith}
 use lib.ListN.{length}
 use Rattle.rules.specs.Base.{exceeds}
@@ -24,8 +24,8 @@ pub ends-within : {n m : ℕ} → n ≤ windowSize → m ≡ windowSize → n �
 ends-within h e = rw e h
 
 -- a log that has room for a record, by the count that is read
-pub room-counted : {n m : ℕ} → n ≡ m → m < 2048 → (n < 2048) × (n + 1 ≤ 2048)
-room-counted e h = (omega arith, omega arith)
+pub room-counted : {n m : ℕ} → n ≡ m → m < 2048 → n < 2048
+room-counted e h = omega arith
 
 module _ (bs : List ℕ) (s : soundBytes bs ≡ true) where
   pub write-known : (c e v : ℕ) → firstFailed (checks limits (decode bs) (Write c e v)) ≡ 0 → (c < 256) × (e < 256) × (length (decode bs .log) < 2048)

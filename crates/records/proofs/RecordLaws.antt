@@ -9,7 +9,7 @@ use Rattle.rules.specs.Base.{put, exceeds, rising}
 use Rattle.rules.specs.Window.{limits, LogRecord, PermitRecord, TieRecord, Window, withValue, withLog, withPermits, withTies, permitKey, tieKey}
 use Rattle.rules.specs.Locks.{makePermit, addPermit}
 use Rattle.rules.specs.Ties.{makeTie, addTie}
-use Rattle.rules.specs.Calls.{Write, Permit, Depend, done}
+use Rattle.rules.specs.Calls.{Write, Permit, Depend}
 use Rattle.rules.specs.Effects.{effect, writeEntry, addRecord}
 use Rattle.layout.specs.Codec.{valuesAt, valuesSize, permitsAt, permitsSize, tiesAt, tiesSize, logAt, logSize, figures, valueSection, permitSection, tieSection, logSection, lay, decode, encode}
 use Rattle.layout.specs.Memory.{soundBytes}
@@ -54,39 +54,46 @@ module _ (bs : List ℕ) (s : soundBytes bs ≡ true) where
       let W = decode bs in
       figure-stored W (withRecord W c e before) (log-lent (figures W) W (laid-known bs s) _ (f W.log (sym u))) 2 (m + 1) (omega arith) h (one-logged W m c e before u)
 
-  pub write-given : (r : Reply) (c e v before : ℕ) → before ≡ decode bs .value e → (b1 : List ℕ) → b1 ≡ encode (withRecord (decode bs) c e before) → (o1 : List ℕ)
-      → ((x : ℕ → ℕ) → take valuesSize (drop valuesAt b1) ≡ valueSection x → o1 ≡ valueSection (put x e v))
-      → (r .answer ≡ 0) × (r .number ≡ 0) → Gives (written (effect (decode bs) (Write c e v))) r (laidAt b1 valuesAt valuesSize o1)
-  unfolding effect
-  write-given r c e v before q b1 b o1 g a = given-done 0 (writeEntry (decode bs) c e v) r _ a (with-value (decode bs) c e v before q b g)
-
-module _ (bs : List ℕ) (s : soundBytes bs ≡ true) (r : Reply) where
   -- a record entered in a table that has room for it, and the table's figure stored
-  table-given : {A : Type 0} {section : List A → List ℕ} (most : ℕ) (new old : List A) (n : ℕ) (o1 : List ℕ) → exceeds (length new) most ≡ false → Tabled section (unlessOver most new old) n o1
+  table-entered : {A : Type 0} {section : List A → List ℕ} (most : ℕ) (new old : List A) (n : ℕ) (o1 : List ℕ) → exceeds (length new) most ≡ false → Tabled section (unlessOver most new old) n o1
       → (k : ℕ) → k < 5 → (W′ : Window) {b1 : List ℕ} → (o1 ≡ section new → b1 ≡ lay (figures (decode bs)) W′) → (n ≡ length new → set (figures (decode bs)) k n ≡ figures W′)
-      → (o2 : List ℕ) → FigureStored b1 k n o2 → (r .answer ≡ 0) × (r .number ≡ 0) → Gives (written (done 0 W′)) r (headLaid b1 o2)
+      → (o2 : List ℕ) → FigureStored b1 k n o2 → headLaid b1 o2 ≡ encode W′
   unfolding unlessOver
-  table-given most new old n o1 room h k five W′ f g o2 i a =
-      let t = rw room at h in given-done 0 W′ r _ a (figure-stored (decode bs) W′ (f (t .bytes)) k n five i (g (t .count)))
+  table-entered most new old n o1 room h k five W′ f g o2 i =
+      let t = rw room at h in figure-stored (decode bs) W′ (f (t .bytes)) k n five i (g (t .count))
 
-  pub permit-given : (g t e o m n : ℕ) → exceeds (length (addPermit (makePermit g t e o) (decode bs .permits))) (limits .permits) ≡ false → m ≡ length (decode bs .permits) → (o1 o2 : List ℕ)
+  pub permit-entered : (g t e o m n : ℕ) → exceeds (length (addPermit (makePermit g t e o) (decode bs .permits))) (limits .permits) ≡ false → m ≡ length (decode bs .permits) → (o1 o2 : List ℕ)
       → ((ps : List PermitRecord) → length ps ≡ m → take permitsSize (drop permitsAt bs) ≡ permitSection ps → rising permitKey ps ≡ true → Tabled permitSection (unlessOver (limits .permits) (addPermit (makePermit g t e o) ps) ps) n o1)
       → FigureStored (laidAt bs permitsAt permitsSize o1) 3 n o2
-      → (r .answer ≡ 0) × (r .number ≡ 0) → Gives (written (effect (decode bs) (Permit g t e o))) r (headLaid (laidAt bs permitsAt permitsSize o1) o2)
-  unfolding effect
-  permit-given g t e o m n room u o1 o2 f h a =
+      → headLaid (laidAt bs permitsAt permitsSize o1) o2 ≡ encode (withPermits (decode bs) (addPermit (makePermit g t e o) (decode bs .permits)))
+  permit-entered g t e o m n room u o1 o2 f h =
       let W = decode bs in
       let new = addPermit (makePermit g t e o) W.permits in
-      table-given (limits .permits) new W.permits n o1 room (f W.permits (sym u) (permits-known bs s) (bytes-sound bs s .permit-order))
-      3 (omega arith) (withPermits W new) (λ q. permits-lent (figures W) W (laid-known bs s) new (λ _. q)) (permits-counted W n new) o2 h a
+      table-entered (limits .permits) new W.permits n o1 room (f W.permits (sym u) (permits-known bs s) (bytes-sound bs s .permit-order))
+      3 (omega arith) (withPermits W new) (λ q. permits-lent (figures W) W (laid-known bs s) new (λ _. q)) (permits-counted W n new) o2 h
 
-  pub depend-given : (k l f m n : ℕ) → exceeds (length (addTie (makeTie k l f) (decode bs .ties))) (limits .ties) ≡ false → m ≡ length (decode bs .ties) → (o1 o2 : List ℕ)
+  pub tie-entered : (k l f m n : ℕ) → exceeds (length (addTie (makeTie k l f) (decode bs .ties))) (limits .ties) ≡ false → m ≡ length (decode bs .ties) → (o1 o2 : List ℕ)
       → ((ts : List TieRecord) → length ts ≡ m → take tiesSize (drop tiesAt bs) ≡ tieSection ts → rising tieKey ts ≡ true → Tabled tieSection (unlessOver (limits .ties) (addTie (makeTie k l f) ts) ts) n o1)
       → FigureStored (laidAt bs tiesAt tiesSize o1) 4 n o2
-      → (r .answer ≡ 0) × (r .number ≡ 0) → Gives (written (effect (decode bs) (Depend k l f))) r (headLaid (laidAt bs tiesAt tiesSize o1) o2)
-  unfolding effect
-  depend-given k l f m n room u o1 o2 g h a =
+      → headLaid (laidAt bs tiesAt tiesSize o1) o2 ≡ encode (withTies (decode bs) (addTie (makeTie k l f) (decode bs .ties)))
+  tie-entered k l f m n room u o1 o2 g h =
       let W = decode bs in
       let new = addTie (makeTie k l f) W.ties in
-      table-given (limits .ties) new W.ties n o1 room (g W.ties (sym u) (ties-known bs s) (bytes-sound bs s .tie-order))
-      4 (omega arith) (withTies W new) (λ q. ties-lent (figures W) W (laid-known bs s) new (λ _. q)) (ties-counted W n new) o2 h a
+      table-entered (limits .ties) new W.ties n o1 room (g W.ties (sym u) (ties-known bs s) (bytes-sound bs s .tie-order))
+      4 (omega arith) (withTies W new) (λ q. ties-lent (figures W) W (laid-known bs s) new (λ _. q)) (ties-counted W n new) o2 h
+
+-- each call, from the bytes of the window with its record entered
+module _ (W : Window) (r : Reply) {bs : List ℕ} where
+  pub write-given : (c e v before : ℕ) → before ≡ W .value e → bs ≡ encode (withRecord W c e before) → (out : List ℕ)
+      → ((x : ℕ → ℕ) → take valuesSize (drop valuesAt bs) ≡ valueSection x → out ≡ valueSection (put x e v))
+      → (r .answer ≡ 0) × (r .number ≡ 0) → Gives (written (effect W (Write c e v))) r (laidAt bs valuesAt valuesSize out)
+  unfolding effect
+  write-given c e v before q b out g a = given-done 0 (writeEntry W c e v) r _ a (with-value W c e v before q b g)
+
+  pub permit-given : (g t e o : ℕ) → bs ≡ encode (withPermits W (addPermit (makePermit g t e o) (W .permits))) → (r .answer ≡ 0) × (r .number ≡ 0) → Gives (written (effect W (Permit g t e o))) r bs
+  unfolding effect
+  permit-given g t e o b a = given-done 0 _ r bs a b
+
+  pub depend-given : (k l f : ℕ) → bs ≡ encode (withTies W (addTie (makeTie k l f) (W .ties))) → (r .answer ≡ 0) × (r .number ≡ 0) → Gives (written (effect W (Depend k l f))) r bs
+  unfolding effect
+  depend-given k l f b a = given-done 0 _ r bs a b
