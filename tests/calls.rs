@@ -123,7 +123,7 @@ fn picture() {
     assert_eq!(differs, None, "the first byte that docs/WINDOW.md has otherwise");
 }
 
-/// A call of each name that does something on the typical window.
+/// A call of each name that is not refused on the typical window.
 const ONE_OF_EACH: [Call; 15] = [
     Initiate(1),
     Begin(11),

@@ -1,11 +1,10 @@
 -- The two tables copied over a window's, its log handed over and its figure of permits stored: the window handed over. Assumes nothing.
 use mathlib.Core.Path.{_≡_, refl, sym, _∙_, ap}
-use mathlib.Core.List.{List, _++_, append-assoc}
+use mathlib.Core.List.{List, _++_}
 use Prim.Native.Nat.{ℕ, _+_, _≤_, _<_}
 use native.Mathlib.Omega.{arith}
 use lib.Dec.{lit≤}
-use lib.ListN.{length, take, drop, set, length-append, length-map}
-use lib.Seq.{drop-drop}
+use lib.ListN.{length, take, drop, set, length-map}
 use Rattle.rules.specs.Sets.{Set}
 use Rattle.rules.specs.Window.{PermitRecord, Window, withHeld, withLog, withPermits}
 use Rattle.rules.specs.Effects.{moveLog, handOver}
@@ -15,25 +14,14 @@ use Rattle.layout.proofs.LengthLaws.{length-locks, length-permits}
 use Rattle.layout.proofs.PartLaws.{head-part, log-part}
 use Rattle.layout.proofs.PutLaws.{laidAt, head-put, locks-put, permits-put, log-put}
 use Rattle.cells.specs.Part.{patch}
-use Rattle.cells.proofs.PartLaws.{take-patch-end, drop-patch}
+use Rattle.cells.proofs.PartLaws.{patch-append}
 use Rattle.handed.specs.Tables.{tablesSize, tablesOf, AreTables}
-
--- TWO LISTS written one after the other
-patch-both : (l : List ℕ) (at : ℕ) (xs ys : List ℕ) → at ≤ length l → patch l at (xs ++ ys) ≡ patch (patch l at xs) (at + length xs) ys
-unfolding patch
-patch-both l at xs ys h =
-    ap (λ n. take at l ++ ((xs ++ ys) ++ drop n (drop at l))) (length-append xs ys)
-    ∙ ap (λ r. take at l ++ ((xs ++ ys) ++ r)) (sym (drop-drop (length ys) (length xs) (drop at l)))
-    ∙ ap (λ r. take at l ++ r) (append-assoc xs ys (drop (length ys) (drop (length xs) (drop at l))))
-    ∙ sym (append-assoc (take at l) xs (ys ++ drop (length ys) (drop (length xs) (drop at l))))
-    ∙ ap (λ r. (take at l ++ xs) ++ (ys ++ drop (length ys) r)) (drop-drop (length xs) at l ∙ sym (drop-patch l at xs (at + length xs) (omega arith) h))
-    ∙ ap (λ r. r ++ (ys ++ drop (length ys) (drop (at + length xs) (patch l at xs)))) (sym (take-patch-end l at xs (at + length xs) refl h))
 
 -- the two tables of a window, of which the second begins where the first ends
 tables-put : (W : Window) (held : ℕ → ℕ → ℕ) (ps : List PermitRecord) → patch (encode W) locksAt (lockSection held ++ permitSection ps) ≡ lay (figures W) (withPermits (withHeld W held) ps)
 unfolding patch encode
 tables-put W held ps =
-    patch-both (encode W) locksAt (lockSection held) (permitSection ps) (omega (arith, length-encode W))
+    sym (patch-append (encode W) locksAt (lockSection held) (permitSection ps) (locksAt + length (lockSection held)) refl (rw (length-locks held, length-permits ps, length-encode W) (lit≤ tt)))
     ∙ ap (λ n. laidAt (laidAt (encode W) locksAt n (lockSection held)) (locksAt + n) (length (permitSection ps)) (permitSection ps)) (length-locks held)
     ∙ ap (λ n. laidAt (laidAt (encode W) locksAt locksSize (lockSection held)) permitsAt n (permitSection ps)) (length-permits ps)
     ∙ ap (λ l. laidAt l permitsAt permitsSize (permitSection ps)) (locks-put (figures W) W held)

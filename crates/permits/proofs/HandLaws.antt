@@ -1,6 +1,6 @@
 -- What a hand-over of permits comes to: the rows that move, those that stay, and the first added to the second. Assumes nothing.
 use mathlib.Core.Path.{_≡_, refl, sym, ap, ap₂, _∙_}
-use mathlib.Core.Bool.{Bool, true, false, not, _&&_, false≢true}
+use mathlib.Core.Bool.{true, false, not, false≢true}
 use mathlib.Core.List.{List, [], _∷_, _++_, append-nil, map, foldr}
 use Prim.Native.Nat.{ℕ, _+_, _≤_}
 use native.Mathlib.Omega.{arith}
@@ -10,7 +10,7 @@ use Rattle.rules.specs.Base.{insert, keep, rising}
 use Rattle.rules.specs.Sets.{Set}
 use Rattle.rules.specs.Window.{PermitRecord, permitKey}
 use Rattle.rules.specs.Locks.{unitePermits, addPermit}
-use Rattle.rules.specs.Effects.{movePermits}
+use Rattle.rules.specs.Effects.{permitGiven, permitMoves, permitKept, movedPermit, movePermits}
 use Rattle.rules.proofs.BaseLaws.{and-left, not-true}
 use Rattle.rules.proofs.ListLaws.{length-parts}
 use Rattle.rules.proofs.SortLaws.{rising-keep, length-inserts}
@@ -25,23 +25,11 @@ use Rattle.rows.proofs.TableLaws.{keep-map, added-all-map, length-least-all, ta
 use Rattle.permits.specs.PermitRows.{givenBy, handed, withGiver}
 use Rattle.permits.proofs.PermitLaws.{permitRow, permit-table, permit-united}
 
--- a permit that moves
-abbrev moves : ℕ → ℕ → Set → PermitRecord → Bool
-moves from to on p = eqb p.giver from && on p.entry && not (eqb p.taker to)
-
--- one that stays
-abbrev stays : ℕ → Set → PermitRecord → Bool
-stays from on p = not (eqb p.giver from && on p.entry)
-
--- the permit as it stands when `to` gives it
-abbrev regiven : ℕ → PermitRecord → PermitRecord
-regiven to p = record { giver = to; taker = p.taker; entry = p.entry; ops = p.ops }
-
 -- its row is the row with another giver
-regiven-rows : (to : ℕ) (ps : List PermitRecord) → map (withGiver to) (map permitRow ps) ≡ map permitRow (map (regiven to) ps)
-unfolding withGiver permitRow
-regiven-rows to [] = refl
-regiven-rows to (p ∷ ps) = ap (λ (t : List Row). permitRow (regiven to p) ∷ t) (regiven-rows to ps)
+moved-rows : (to : ℕ) (ps : List PermitRecord) → map (withGiver to) (map permitRow ps) ≡ map permitRow (map (movedPermit to) ps)
+unfolding withGiver permitRow movedPermit
+moved-rows to [] = refl
+moved-rows to (p ∷ ps) = ap (λ (t : List Row). permitRow (movedPermit to p) ∷ t) (moved-rows to ps)
 
 -- a copy in a fresh array of the same size
 pub copied : (size : ℕ) (s c : List ℕ) → length s ≡ size → c ≡ patch (replicate size 0) 0 s → c ≡ s
@@ -58,43 +46,44 @@ pub record Parted (bytes : List ℕ) (n from to : ℕ) (on : Set) (moved : List 
 module _ (ps : List PermitRecord) (n : ℕ) (bytes : List ℕ) (len : length ps ≡ n) (is : bytes ≡ permitSection ps) (few : n ≤ 1024)
     (from to : ℕ) (on : Set) (moved : List ℕ) (m : ℕ) (rest : List ℕ) (left : ℕ) (p : Parted bytes n from to on moved m rest left) where
   -- the permits that stay are what is left
-  here : Tabled permitSection (keep (stays from on) ps) left rest
-  unfolding handed givenBy permitRow
-  here = table-closed permitRow permitKey permitSection 1024 permit-table ps n bytes len is few (handed from to on false) (stays from on) (λ q. refl) left rest (p .kept)
+  here : Tabled permitSection (keep (permitKept from on) ps) left rest
+  unfolding handed givenBy permitRow permitGiven permitKept
+  here = table-closed permitRow permitKey permitSection 1024 permit-table ps n bytes len is few (handed from to on false) (permitKept from on) (λ q. refl) left rest (p .kept)
 
   -- the permits that move are what was taken
-  gone : rows m moved ≡ map permitRow (keep (moves from to on) ps)
-  unfolding handed givenBy permitRow
+  gone : rows m moved ≡ map permitRow (keep (permitMoves from to on) ps)
+  unfolding handed givenBy permitRow permitGiven permitMoves
   gone = closed-rows (handed from to on true) n bytes m moved (p .taken)
       ∙ ap (keep (handed from to on true)) (table-rows permitRow permitKey permitSection 1024 permit-table ps n bytes len is few)
-      ∙ keep-map permitRow (handed from to on true) (moves from to on) (λ q. refl) ps
+      ∙ keep-map permitRow (handed from to on true) (permitMoves from to on) (λ q. refl) ps
 
   -- as many as were taken
-  how-many : m ≡ length (keep (moves from to on) ps)
-  how-many = sym (length-rows m moved) ∙ ap length gone ∙ length-map (keep (moves from to on) ps) permitRow
+  how-many : m ≡ length (keep (permitMoves from to on) ps)
+  how-many = sym (length-rows m moved) ∙ ap length gone ∙ length-map (keep (permitMoves from to on) ps) permitRow
 
   -- together they are no more than there were
   pub hand-fits : left + m ≤ 1024
+  unfolding permitMoves permitKept
   hand-fits =
-      omega (arith, here .count, how-many, length-parts (moves from to on) (stays from on) (λ q a b. false≢true (sym (not-true (eqb q.giver from && on q.entry) b) ∙ and-left (eqb q.giver from && on q.entry) (not (eqb q.taker to)) a)) ps)
+      omega (arith, here .count, how-many, length-parts (permitMoves from to on) (permitKept from on) (λ q a b. false≢true (sym (not-true (permitGiven from on q) b) ∙ and-left (permitGiven from on q) (not (eqb q.taker to)) a)) ps)
 
   -- what is left is in order
   pub hand-rising : rising permitKey ps ≡ true → rising rowKey (rows left rest) ≡ true
-  hand-rising r = table-rising permitRow permitKey permitSection 1024 permit-table (keep (stays from on) ps) left rest (sym (here .count)) (here .bytes) (omega (arith, hand-fits)) (rising-keep permitKey (stays from on) ps r)
+  hand-rising r = table-rising permitRow permitKey permitSection 1024 permit-table (keep (permitKept from on) ps) left rest (sym (here .count)) (here .bytes) (omega (arith, hand-fits)) (rising-keep permitKey (permitKept from on) ps r)
 
   -- those that move, given by another, with those that stay: the rules' hand-over
   pub hand-over : (r : ℕ) (after : List ℕ) → Stored (foldr addRow (rows left rest) (map (withGiver to) (rows m moved))) rest r after → Tabled permitSection (movePermits from to on ps) r after
   unfolding movePermits addPermit
   hand-over r after s =
-      table-stored permitRow permitKey permitSection 1024 permit-table (keep (stays from on) ps) left rest (sym (here .count)) (here .bytes) (omega (arith, hand-fits))
-      (foldr (insert permitKey unitePermits) (keep (stays from on) ps) (map (regiven to) (keep (moves from to on) ps))) r after
-      (omega (arith, here .count, length-least-all permitKey unitePermits (map (regiven to) (keep (moves from to on) ps)) (keep (stays from on) ps)))
-      (omega (arith, hand-fits, here .count, how-many, length-inserts permitKey unitePermits unite-key (map (regiven to) (keep (moves from to on) ps)) (keep (stays from on) ps), length-map (keep (moves from to on) ps) (regiven to)))
+      table-stored permitRow permitKey permitSection 1024 permit-table (keep (permitKept from on) ps) left rest (sym (here .count)) (here .bytes) (omega (arith, hand-fits))
+      (foldr (insert permitKey unitePermits) (keep (permitKept from on) ps) (map (movedPermit to) (keep (permitMoves from to on) ps))) r after
+      (omega (arith, here .count, length-least-all permitKey unitePermits (map (movedPermit to) (keep (permitMoves from to on) ps)) (keep (permitKept from on) ps)))
+      (omega (arith, hand-fits, here .count, how-many, length-inserts permitKey unitePermits unite-key (map (movedPermit to) (keep (permitMoves from to on) ps)) (keep (permitKept from on) ps), length-map (keep (permitMoves from to on) ps) (movedPermit to)))
       (rw all at s)
     where
-      all : foldr addRow (rows left rest) (map (withGiver to) (rows m moved)) ≡ map permitRow (foldr (insert permitKey unitePermits) (keep (stays from on) ps) (map (regiven to) (keep (moves from to on) ps)))
+      all : foldr addRow (rows left rest) (map (withGiver to) (rows m moved)) ≡ map permitRow (foldr (insert permitKey unitePermits) (keep (permitKept from on) ps) (map (movedPermit to) (keep (permitMoves from to on) ps)))
       all =
           ap₂ (λ (a b : List Row). foldr addRow a b)
-          (table-rows permitRow permitKey permitSection 1024 permit-table (keep (stays from on) ps) left rest (sym (here .count)) (here .bytes) (omega (arith, hand-fits)))
-          (ap (map (withGiver to)) gone ∙ regiven-rows to (keep (moves from to on) ps))
-          ∙ added-all-map permitRow permitKey (permit-table .keyed) unitePermits permit-united (map (regiven to) (keep (moves from to on) ps)) (keep (stays from on) ps)
+          (table-rows permitRow permitKey permitSection 1024 permit-table (keep (permitKept from on) ps) left rest (sym (here .count)) (here .bytes) (omega (arith, hand-fits)))
+          (ap (map (withGiver to)) gone ∙ moved-rows to (keep (permitMoves from to on) ps))
+          ∙ added-all-map permitRow permitKey (permit-table .keyed) unitePermits permit-united (map (movedPermit to) (keep (permitMoves from to on) ps)) (keep (permitKept from on) ps)

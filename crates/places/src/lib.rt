@@ -12,7 +12,7 @@ ghost use lib.Dec.{ltb, eqb};
 ghost use lib.ListN.{length, getD, set};
 ghost use Rattle.rules.specs.Base.{put, outside};
 ghost use Rattle.rules.specs.Sets.{putAll};
-ghost use Rattle.rules.specs.Window.{isLive};
+ghost use Rattle.rules.specs.Window.{lives};
 ghost use Rattle.layout.specs.Codec.{headSize, valuesSize, changesSize, headSection, valueSection, changeSection, bit, unpack};
 ghost use Rattle.sets.specs.Members.{members};
 ghost use Rattle.places.specs.Statuses.{firsts, inRange};
@@ -159,7 +159,7 @@ fn within(changes: &[u8], given: usize, low: u8, high: u8) -> ChangeSet
 pub fn live_set(changes: &[u8], given: usize) -> ChangeSet
     requires { ⌜ length (now changes) ≡ changesSize ⌝ }
     requires { ⌜ given < 256 ⌝ }
-    ensures { λ r. ⌜ ((st pa : ℕ → ℕ) → now (changes .entry) ≡ changeSection st pa → (k : ℕ) → members r k ≡ ltb k (suc given) && isLive (st k)) ⌝ }
+    ensures { λ r. ⌜ ((st pa : ℕ → ℕ) → now (changes .entry) ≡ changeSection st pa → (k : ℕ) → members r k ≡ lives given st k) ⌝ }
 {
     within(changes, given, 1, 3)
 }

@@ -81,7 +81,7 @@ module _ (p : ℕ → Bool) where
       go false true h = omega arith
       go false false h = omega arith
 
-  -- where one passes, the lowest passes, and none below it
+  -- where one passes, the lowest is below the bound and passes
   pub lowest-hit : (n : ℕ) → anyBelow n p ≡ true → (lowestBelow n p < n) × (p (lowestBelow n p) ≡ true)
   unfolding anyBelow lowestBelow
   lowest-hit zero e = absurd (false≢true e)
@@ -141,7 +141,7 @@ module _ (p : ℕ → Bool) where
   pub count-bound : (n m : ℕ) → n ≤ m → ((k : ℕ) → n ≤ k → p k ≡ false) → countBelow m p ≡ countBelow n p
   count-bound n m le past = let e : n + (m - n) ≡ m = omega arith in ap (λ x. countBelow x p) (sym e) ∙ count-from n (m - n) past
 
-  -- counted in two parts, and the first apart
+  -- counted in two parts
   pub count-add : (n m : ℕ) → countBelow (n + m) p ≡ countBelow n p + countBelow m (λ k. p (n + k))
   unfolding countBelow
   count-add n zero = rw (add-zero n, add-zero (countBelow n p))

@@ -45,7 +45,7 @@ lowest p (suc n) c h e = go (anyBelow c p) refl (lowest p n)
     go false q ih = (c, omega arith, e, λ x l k. true≢false (sym (any-intro c p x l k) ∙ q))
 
 module _ (L : Limits) (W : Window) (z : Sound L W) where
-  -- a group is within the live ones, and is what is reached either way
+  -- a group is what is reached from any of its members
   group-back : (c d : ℕ) → live W c ≡ true → live W d ≡ true → groupOf W c d ≡ true → groupOf W d c ≡ true
   unfolding groupOf
   group-back c d lc ld = reach-back (suc (W .given)) (grouped (W .ties)) (grouped-both (W .ties)) c d (live-below W c lc) (live-below W d ld)

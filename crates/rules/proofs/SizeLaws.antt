@@ -20,7 +20,7 @@ unfolding answers step checks firstFailed _if_ settle effect done unchanged addC
 fill L zero W e = rw (leb·suc-zero W.given, over-true (suc W.given) L.changes (omega arith))
 fill L (suc m) W e = rw (leb·suc-zero W.given, over-false (suc W.given) L.changes (omega arith)) (ap (λ l. (0, suc W.given) ∷ l) (fill L m (addChange W 0) (omega arith)))
 
--- the smallest and the largest number of entries, and one more
+-- no entries, the largest number of them, and one more
 pub open-any : (L : Limits) (W : Window) → 1 ≤ L .entries
     → answers (step L) W (Open 0 ∷ Open L.entries ∷ Open (suc L.entries) ∷ []) ≡ (2, 0) ∷ (0, 0) ∷ (2, 0) ∷ []
 unfolding answers step checks firstFailed _if_ settle effect done unchanged

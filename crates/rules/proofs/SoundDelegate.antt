@@ -12,7 +12,7 @@ use Rattle.rules.specs.Sets.{Set}
 use Rattle.rules.specs.Window.{Limits, LogRecord, PermitRecord, Window, permitKey, live}
 use Rattle.rules.specs.Locks.{clashesPermitted, unitePermits, addPermit}
 use Rattle.rules.specs.Sound.{heldSound, recordSound, permitSound}
-use Rattle.rules.specs.Effects.{moveHeld, movedRecord, moveLog, movePermits, handOver}
+use Rattle.rules.specs.Effects.{moveHeld, movedRecord, moveLog, permitGiven, permitMoves, permitKept, movedPermit, movePermits, handOver}
 use Rattle.rules.proofs.BaseLaws.{Same, same, other, same?, or-right, or-cases, and-both, and-left, and-right, not-true, eqb-eq, eqb-same, eqb-other, ne-of, leb-true, le-of, over-less}
 use Rattle.rules.proofs.ListLaws.{all-map, all-keep, length-parts}
 use Rattle.rules.proofs.SortLaws.{rising-keep, all-inserts, inserts-rising, length-inserts}
@@ -40,12 +40,8 @@ module _ (L : Limits) (W : Window) (from to : ℕ) (on : Set) (k : Sound L W) (l
       go true (other n) (same j) = refl
       go true (other n) (other o) = k .helds e c
 
-  -- a record, moved where it is from's on the entry
-  moved : LogRecord → LogRecord
-  moved r = cond (eqb r.owner from && on r.entry) (record { owner = to; entry = r.entry; before = r.before }) r
-
-  hand-record : (r : LogRecord) → recordSound W.entries (live W) W.held r ≡ true → recordSound W.entries (live W) (handOver W from to on .held) (moved r) ≡ true
-  unfolding recordSound handOver moveHeld moved
+  hand-record : (r : LogRecord) → recordSound W.entries (live W) W.held r ≡ true → recordSound W.entries (live W) (handOver W from to on .held) (movedRecord from to on r) ≡ true
+  unfolding recordSound handOver moveHeld movedRecord
   hand-record r h = go (same? r.owner from) (same? r.owner to) (on r.entry) refl
     where
       x : (live W r.owner ≡ true) × (ltb r.entry W.entries ≡ true) × (ltb r.before 4294967296 ≡ true) × (eqb (W .held r.entry r.owner) 2 ≡ true)
@@ -66,54 +62,42 @@ module _ (L : Limits) (W : Window) (from to : ℕ) (on : Set) (k : Sound L W) (l
       go (other n) (other o) true q = rw (q, eqb-other r.owner to o, eqb-other r.owner from n, x .0, x .1, x .2, x .3)
       go (other n) (other o) false q = rw (q, x .0, x .1, x .2, x .3)
 
-  given : PermitRecord → Bool
-  given p = eqb p.giver from && on p.entry
-
-  goes : PermitRecord → Bool
-  goes p = given p && not (eqb p.taker to)
-
-  stays : PermitRecord → Bool
-  stays p = not (given p)
-
-  handed : PermitRecord → PermitRecord
-  handed p = record { giver = to; taker = p.taker; entry = p.entry; ops = p.ops }
-
-  hand-permit : (p : PermitRecord) → permitSound W.entries (live W) p ≡ true → goes p ≡ true → permitSound W.entries (live W) (handed p) ≡ true
-  unfolding goes handed permitSound
+  hand-permit : (p : PermitRecord) → permitSound W.entries (live W) p ≡ true → permitMoves from to on p ≡ true → permitSound W.entries (live W) (movedPermit to p) ≡ true
+  unfolding permitMoves movedPermit permitSound
   hand-permit p h g = let x = permit-parts W.entries (live W) p h in
-      let n : to ≢ p .taker = λ q. ne-of p.taker to (not-true (eqb p.taker to) (and-right (given p) (not (eqb p.taker to)) g)) (sym q) in
+      let n : to ≢ p .taker = λ q. ne-of p.taker to (not-true (eqb p.taker to) (and-right (permitGiven from on p) (not (eqb p.taker to)) g)) (sym q) in
       rw (lives, x .1, x .2, x .3, eqb-other to p.taker n)
 
   hand-room : length (movePermits from to (on) W.permits) ≤ length W.permits
-  unfolding movePermits addPermit given goes stays handed
+  unfolding movePermits addPermit permitMoves permitKept
   hand-room = omega (
     arith,
-    length-inserts permitKey unitePermits unite-key (map handed (keep goes W.permits)) (keep stays W.permits),
-    length-map (keep goes W.permits) handed,
-    length-parts goes stays (λ p a b. false≢true (sym (not-true (given p) b) ∙ and-left (given p) (not (eqb p.taker to)) a)) W.permits,
+    length-inserts permitKey unitePermits unite-key (map (movedPermit to) (keep (permitMoves from to on) W.permits)) (keep (permitKept from on) W.permits),
+    length-map (keep (permitMoves from to on) W.permits) (movedPermit to),
+    length-parts (permitMoves from to on) (permitKept from on) (λ p a b. false≢true (sym (not-true (permitGiven from on p) b) ∙ and-left (permitGiven from on p) (not (eqb p.taker to)) a)) W.permits,
   )
 
   pub hand-order : rising permitKey (movePermits from to (on) W.permits) ≡ true
-  unfolding movePermits addPermit given goes stays handed
-  hand-order = inserts-rising permitKey unitePermits unite-key (map handed (keep goes W.permits)) (keep stays W.permits) (rising-keep permitKey stays W.permits (k .permit-order))
+  unfolding movePermits addPermit
+  hand-order = inserts-rising permitKey unitePermits unite-key (map (movedPermit to) (keep (permitMoves from to on) W.permits)) (keep (permitKept from on) W.permits) (rising-keep permitKey (permitKept from on) W.permits (k .permit-order))
 
   pub hand-sound : clashesPermitted (handOver W from to on) ≡ true → Sound L (handOver W from to on)
-  unfolding handOver moveLog movedRecord live moved movePermits addPermit given goes stays handed
+  unfolding handOver moveLog live movePermits addPermit
   hand-sound fit = record {
     some = k .some;
     entries = k .entries;
     changes = k .changes;
-    room-log = rw (length-map W.log moved) (k .room-log);
+    room-log = rw (length-map W.log (movedRecord from to on)) (k .room-log);
     room-permits = over-less (length W.permits) (length (movePermits from to (on) W.permits)) L.permits hand-room (k .room-permits);
     room-ties = k .room-ties;
     values = k .values;
     statuses = k .statuses;
     parents = k .parents;
     helds = hand-held;
-    records = all-map _ (recordSound W.entries (live W) W.held) moved hand-record W.log (k .records);
-    permits = all-inserts permitKey unitePermits unite-key (permitSound W.entries (live W)) (λ p q a b. unite-sound W.entries (live W) p q b) (map handed (keep goes W.permits)) (keep stays W.permits)
-        (all-map (permitSound W.entries (live W)) (λ p. permitSound W.entries (live W) (handed p)) handed (λ p h. h) (keep goes W.permits) (all-keep (permitSound W.entries (live W)) goes _ hand-permit W.permits (k .permits)))
-        (all-keep (permitSound W.entries (live W)) stays _ (λ p a b. a) W.permits (k .permits));
+    records = all-map _ (recordSound W.entries (live W) W.held) (movedRecord from to on) hand-record W.log (k .records);
+    permits = all-inserts permitKey unitePermits unite-key (permitSound W.entries (live W)) (λ p q a b. unite-sound W.entries (live W) p q b) (map (movedPermit to) (keep (permitMoves from to on) W.permits)) (keep (permitKept from on) W.permits)
+        (all-map (permitSound W.entries (live W)) (λ p. permitSound W.entries (live W) (movedPermit to p)) (movedPermit to) (λ p h. h) (keep (permitMoves from to on) W.permits) (all-keep (permitSound W.entries (live W)) (permitMoves from to on) _ hand-permit W.permits (k .permits)))
+        (all-keep (permitSound W.entries (live W)) (permitKept from on) _ (λ p a b. a) W.permits (k .permits));
     ties = k .ties;
     permit-order = hand-order;
     tie-order = k .tie-order;

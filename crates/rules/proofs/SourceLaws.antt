@@ -14,6 +14,7 @@ use Rattle.rules.specs.Ties.{isGroup, isArrow, tied, grouped, leading}
 use Rattle.rules.proofs.BaseLaws.{or-left, or-right, or-cases, and-left, and-right, never, to-T, Within, count-le, count-within, count-same}
 use Rattle.rules.proofs.ListLaws.{find}
 use Rattle.rules.proofs.SetLaws.{Closed, reach-seed, reach-closed, reach-least}
+use Rattle.rules.proofs.TieLaws.{reach-fewer}
 
 -- a relation that goes both ways is reached both ways
 module _ (n : ℕ) (r : Rel) (both : (a b : ℕ) → r a b ≡ true → r b a ≡ true) where
@@ -36,10 +37,9 @@ module _ (n : ℕ) (ts : List TieRecord) where
   unfoldable pub blocked : ℕ → Bool
   blocked c = any (λ t. isArrow t.kind && reach n (grouped ts) c t.follower) ts
 
-  inGroup : (c d : ℕ) → c < n → d < n → reach n (grouped ts) c d ≡ true → reach n (leading ts) c d ≡ true
+  inGroup : (c : ℕ) → Within n (reach n (grouped ts) c) (reach n (leading ts) c)
   unfolding leading
-  inGroup c d hc hd e = reach-least n (grouped ts) c (reach n (leading ts) c) (reach-seed n (leading ts) c)
-      (λ x y hx hy p q. reach-closed n (leading ts) c x y hx hy p (or-left (grouped ts x y) (tied ts isArrow x y) q)) d hd e
+  inGroup = reach-fewer n (grouped ts) (leading ts) (λ a b. or-left (grouped ts a b) (tied ts isArrow a b))
 
   -- what soundness says of a tie
   unfoldable pub fineTie : TieRecord → Bool
@@ -58,7 +58,7 @@ module _ (n : ℕ) (ts : List TieRecord) where
       let ar : tied ts isArrow t.leader t.follower ≡ true = rw is at (and-left (not (isArrow t.kind) || tied ts isArrow t.leader t.follower) _ rest) in
       let no-way : not (reach n (leading ts) t.follower t.leader) ≡ true = rw is at (and-right (not (isArrow t.kind) || tied ts isArrow t.leader t.follower) _ rest) in
       let fc : reach n (leading ts) t.follower c ≡ true =
-      inGroup t.follower c hf hc (reach-back n (grouped ts) (grouped-both ts) c t.follower hc hf (and-right (isArrow t.kind) _ h)) in
+      inGroup t.follower c hc (reach-back n (grouped ts) (grouped-both ts) c t.follower hc hf (and-right (isArrow t.kind) _ h)) in
       let lf : reach n (leading ts) t.leader t.follower ≡ true =
       reach-closed n (leading ts) t.leader t.leader t.follower hl hf (reach-seed n (leading ts) t.leader) (or-right (grouped ts t.leader t.follower) (tied ts isArrow t.leader t.follower) ar) in
       let w : Within n (reach n (leading ts) c) (reach n (leading ts) t.leader) =

@@ -64,7 +64,7 @@ leading-keep : (q : TieRecord → Bool) (ts : List TieRecord) (a b : ℕ) → le
 unfolding leading grouped tied
 leading-keep q ts a b = or-map _ _ _ _ (or-map _ _ _ _ (any-keep _ q ts) (any-keep _ q ts)) (any-keep _ q ts)
 
-reach-fewer : (n : ℕ) (r s : Rel) → ((a b : ℕ) → r a b ≡ true → s a b ≡ true) → (c : ℕ) → Within n (reach n r c) (reach n s c)
+pub reach-fewer : (n : ℕ) (r s : Rel) → ((a b : ℕ) → r a b ≡ true → s a b ≡ true) → (c : ℕ) → Within n (reach n r c) (reach n s c)
 reach-fewer n r s f c = reach-least n r c (reach n s c) (reach-seed n s c) (λ d e hd he p q. reach-closed n s c d e hd he p (f d e q))
 
 not-both : (a b : Bool) → (b ≡ true → a ≡ true) → not a ≡ true → not b ≡ true

@@ -75,12 +75,24 @@ movedRecord from to on r = cond (eqb r.owner from && on r.entry) (record { owner
 unfoldable pub moveLog : ℕ → ℕ → Set → List LogRecord → List LogRecord
 moveLog from to on = map (movedRecord from to on)
 
--- "moves … the permits that *from* has given. … A permit that would be from *to* to itself is dropped. Permits received do not move"
+-- "the permits that *from* has given", on a set of entries
+unfoldable pub permitGiven : ℕ → Set → PermitRecord → Bool
+permitGiven from on p = eqb p.giver from && on p.entry
+
+-- "A permit that would be from *to* to itself is dropped"
+unfoldable pub permitMoves : ℕ → ℕ → Set → PermitRecord → Bool
+permitMoves from to on p = permitGiven from on p && not (eqb p.taker to)
+
+-- "Permits received do not move", nor those that others have given
+unfoldable pub permitKept : ℕ → Set → PermitRecord → Bool
+permitKept from on p = not (permitGiven from on p)
+
+unfoldable pub movedPermit : ℕ → PermitRecord → PermitRecord
+movedPermit to p = record { giver = to; taker = p.taker; entry = p.entry; ops = p.ops }
+
+-- "moves … the permits that *from* has given", each entered as if *to* gave it
 unfoldable pub movePermits : ℕ → ℕ → Set → List PermitRecord → List PermitRecord
-movePermits from to on ps =
-    foldr addPermit (keep (λ p. not (eqb p.giver from && on p.entry)) ps)
-    (map (λ p. record { giver = to; taker = p.taker; entry = p.entry; ops = p.ops })
-    (keep (λ p. eqb p.giver from && on p.entry && not (eqb p.taker to)) ps))
+movePermits from to on ps = foldr addPermit (keep (permitKept from on) ps) (map (movedPermit to) (keep (permitMoves from to on) ps))
 
 -- "moves log ownership, locks and the permits that from has given", on a set of entries
 unfoldable pub handOver : Window → ℕ → ℕ → Set → Window

@@ -70,9 +70,12 @@ noChange W c = notGiven W.given c
 unfoldable pub noEntry : Window → ℕ → Bool
 noEntry W e = leb W.entries e
 
--- a live change of the window
+-- a live change, by the highest given and the statuses
+abbrev pub lives : ℕ → (ℕ → ℕ) → ℕ → Bool
+lives given status c = ltb c (suc given) && isLive (status c)
+
 unfoldable pub live : Window → ℕ → Bool
-live W c = ltb c (suc W.given) && isLive (W .status c)
+live W c = lives W.given W.status c
 
 -- "2 running"
 unfoldable pub running : Window → ℕ → Bool

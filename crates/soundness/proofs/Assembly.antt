@@ -6,7 +6,7 @@ use Prim.Native.Nat.{ℕ, suc}
 use native.Mathlib.Omega.{arith}
 use lib.ListN.{length, take, drop}
 use Rattle.rules.specs.Base.{all}
-use Rattle.rules.specs.Window.{limits, Window, live}
+use Rattle.rules.specs.Window.{limits, Window, live, lives}
 use Rattle.rules.specs.Sound.{heldSound, tieSound}
 use Rattle.rules.specs.Locks.{clashesPermitted}
 use Rattle.rules.specs.Ties.{acyclic}
@@ -20,7 +20,7 @@ use Rattle.layout.proofs.PartLaws.{head-part, values-part, changes-part, line-p
 use Rattle.cells.specs.Part.{part}
 use Rattle.locks.specs.Held.{Modes}
 use Rattle.sections.specs.Sections.{HeadSound, ChangesSound}
-use Rattle.soundness.specs.Parts.{lives, FrontSound, BackSound, Listed}
+use Rattle.soundness.specs.Parts.{FrontSound, BackSound, Listed}
 
 -- eight lists one after the other
 join8 : {a b c d e f g h a′ b′ c′ d′ e′ f′ g′ h′ : List ℕ} → a ≡ a′ → b ≡ b′ → c ≡ c′ → d ≡ d′ → e ≡ e′ → f ≡ f′ → g ≡ g′ → h ≡ h′
@@ -52,7 +52,7 @@ module _ (bs : List ℕ) (size : length bs ≡ windowSize) (h : HeadSound (part 
       (f .values .bytes) (c .bytes) (f .line) (f .locks .bytes) (k .permits .bytes) (k .ties .bytes) (k .log .bytes))
 
   pub gathered-sound : acyclic (suc (h .given)) (k .ties .ties) ≡ true → clashesPermitted gathered ≡ true → Sound limits gathered
-  unfolding gathered live lives limits
+  unfolding gathered live limits
   gathered-sound a p = record {
     some = ltb-true 0 (h .entries) (omega (arith, h .some));
     entries = ap not (over-false (h .entries) 256 (h .entries-most));
@@ -78,11 +78,11 @@ module _ (bs : List ℕ) (size : length bs ≡ windowSize) (h : HeadSound (part 
 
   -- its locks, permits and ties, as the last two tests want them
   helds : (e n : ℕ) → heldSound (gathered .entries) (live gathered) (gathered .held) e n ≡ true
-  unfolding gathered live lives
+  unfolding gathered live
   helds = f .locks .fine
 
   fine-ties : all (tieSound (live gathered)) (gathered .ties) ≡ true
-  unfolding gathered live lives
+  unfolding gathered live
   fine-ties = k .ties .fine
 
   pub gathered-listed : Listed bs (h .entries) (h .permits) (h .ties) gathered
@@ -139,7 +139,7 @@ module _ (bs : List ℕ) (size : length bs ≡ windowSize) (s : soundBytes bs �
   changes-known = record { status = W .status; parent = W .parent; bytes = at changesAt changesSize (changes-part (figures W) W); statuses = z .statuses; parents = z .parents }
 
   unfoldable pub front-known : FrontSound bs (W .entries) (lives (W .given) (W .status))
-  unfolding live lives part
+  unfolding live part
   front-known = record {
     values = record { value = W .value; bytes = at valuesAt valuesSize (values-part (figures W) W); fine = z .values };
     line = at lineAt lineSize (line-part (figures W) W);
@@ -147,7 +147,7 @@ module _ (bs : List ℕ) (size : length bs ≡ windowSize) (s : soundBytes bs �
   }
 
   pub back-known : BackSound bs (W .entries) (length (W .permits)) (length (W .ties)) (length (W .log)) (lives (W .given) (W .status)) (W .held)
-  unfolding live lives part
+  unfolding live part
   back-known = record {
     permits = record { permits = W .permits; size = refl; bytes = at permitsAt permitsSize (permits-part (figures W) W); fine = z .permits; order = z .permit-order };
     ties = record { ties = W .ties; size = refl; bytes = at tiesAt tiesSize (ties-part (figures W) W); fine = z .ties; order = z .tie-order };

@@ -7,7 +7,7 @@ use Prim.Native.Nat.{ℕ, suc}
 use lib.Dec.{ltb}
 use lib.ListN.{length}
 use Rattle.rules.specs.Sets.{Set}
-use Rattle.rules.specs.Window.{Window, isLive}
+use Rattle.rules.specs.Window.{Window, isLive, lives}
 use Rattle.rules.specs.Locks.{clashesPermitted}
 use Rattle.rules.specs.Ties.{acyclic}
 use Rattle.rules.proofs.BaseLaws.{and-left, and-right}
@@ -15,7 +15,7 @@ use Rattle.layout.specs.Codec.{headAt, headSize, changesAt, changesSize, locksA
 use Rattle.layout.specs.Memory.{soundBytes}
 use Rattle.cells.specs.Part.{part}
 use Rattle.sections.specs.Sections.{HeadSound, ChangesSound, LocksSound}
-use Rattle.soundness.specs.Parts.{lives, FrontSound, BackSound, Listed}
+use Rattle.soundness.specs.Parts.{FrontSound, BackSound, Listed}
 use Rattle.soundness.specs.Read.{AreFigures}
 use Rattle.soundness.specs.declared.Figures.{Figures}
 use Rattle.soundness.proofs.Assembly.{W, head-known, changes-known, front-known, back-known, gathered, gathered-all, gathered-listed, listed-known, relations-known}
@@ -46,7 +46,7 @@ module _ (bs : List ℕ) (size : length bs ≡ windowSize) where
 
     module _ (m : Set) (live : Lives bs (f .given) m) where
       members-known : m ≡ lives (W bs size s .given) (W bs size s .status)
-      unfolding lives head-known changes-known
+      unfolding head-known changes-known
       members-known = fun-ext (λ k. live _ _ (changes-known bs size s .bytes) k ∙ ap (λ g. ltb k (suc g) && isLive (W bs size s .status k)) (figures-known .given))
 
       pub front-asked : FrontSound bs (f .entries) m
@@ -78,7 +78,6 @@ module _ (bs : List ℕ) (size : length bs ≡ windowSize) (h : HeadSound (part 
   tests-passed : (m : Set) → Lives bs (h .given) m → ChangesSound (part bs changesAt changesSize) (h .given) → FrontSound bs (h .entries) m
       → (q : Bool) → Decided bs (h .entries) (h .permits) (h .ties) (h .records) m q → q ≡ true
       → (r : Bool) → Says bs (h .entries) (h .permits) (h .ties) r → r ≡ true → soundBytes bs ≡ true
-  unfolding lives
   tests-passed m live c t q d e r g y =
       let same : m ≡ lives (h .given) (c .status) = fun-ext (λ k. live _ _ (c .bytes) k) in
       let t′ : FrontSound bs (h .entries) (lives (h .given) (c .status)) = rw same at t in

@@ -1,22 +1,17 @@
 -- What is asked of several sections at once. Assumes nothing.
 use mathlib.Core.Path.{_≡_}
-use mathlib.Core.Bool.{true, _&&_}
+use mathlib.Core.Bool.{true}
 use mathlib.Core.List.{List}
 use Prim.Native.Nat.{ℕ, suc}
-use lib.Dec.{ltb}
 use lib.ListN.{length}
 use Rattle.rules.specs.Sets.{Set}
-use Rattle.rules.specs.Window.{Window, isLive}
+use Rattle.rules.specs.Window.{Window}
 use Rattle.layout.specs.Codec.{valuesAt, valuesSize, lineAt, lineSize, locksAt, locksSize, permitsAt, permitsSize, tiesAt, tiesSize, logAt, logSize, lineSection, tieSection}
 use Rattle.layout.specs.Records.{endsBelow}
 use Rattle.cells.specs.Part.{part}
 use Rattle.sections.specs.Sections.{ValuesSound, LocksSound, LogSound}
 use Rattle.row_sections.specs.Sections.{PermitsSound, TiesSound}
 use Rattle.clashes.specs.LocksAndPermits.{LocksAndPermits}
-
--- the live changes, by the highest given and the statuses
-unfoldable pub lives : ℕ → (ℕ → ℕ) → Set
-lives given status c = ltb c (suc given) && isLive (status c)
 
 -- the values, the line and the locks
 pub record FrontSound (bs : List ℕ) (entries : ℕ) (live : Set) : Type 0 where

@@ -24,7 +24,7 @@ pub record Reading (l : List ℕ) (v i : ℕ) : Type 0 where
 pub reading-none : (l : List ℕ) → Reading l 0 0
 reading-none l = record { within = omega arith; digits = refl; value = refl; small = rw pow-zero (omega arith) }
 
--- ten digits are below 10,000,000,000
+-- digits with one more to come are nine at most, so below 1,000,000,000
 pub reading-room : {l : List ℕ} {v i : ℕ} → Reading l v i → i < length l → length l ≤ 10 → v < 1000000000
 reading-room {l} {v} {i} r h k =
     let few : i ≤ 9 = omega arith in
