@@ -16,7 +16,7 @@ unfolding anyOf
 any-same n t u p q h = any-ext (λ j. p (t j)) (λ j. q (u j)) n h
 
 -- THE FIRST THAT PASSES
-module _ (p : PermitRecord → Bool) (bs : List ℕ) (count start : ℕ) where
+module _ (p : PermitRecord → Bool) (bs : List ℕ) (start : ℕ) where
   -- passed over on the way
   abbrev pub Skipped : ℕ → Type 0
   Skipped j = (k : ℕ) → start ≤ k → k < j → p (permitAt bs k) ≡ false
@@ -31,11 +31,11 @@ module _ (p : PermitRecord → Bool) (bs : List ℕ) (count start : ℕ) where
       go (same q) = rw q e
       go (other n) = before k h (omega arith)
 
-  pub none-before : (j : ℕ) → start ≤ j → j ≤ count → Skipped j → NoneBefore p bs count start j
-  none-before j h l before = record { from = h; to = l; skipped = before }
+  pub none-before : (count j : ℕ) → start ≤ j → j ≤ count → Skipped j → NoneBefore p bs count start j
+  none-before count j h l before = record { from = h; to = l; skipped = before }
 
-  pub first-found : (j : ℕ) → start ≤ j → j < count → Skipped j → p (permitAt bs j) ≡ true → FirstOf p bs count start j
-  first-found j h l before e = record { before = none-before j h (omega arith) before; found = λ _. e }
+  pub first-found : (count j : ℕ) → start ≤ j → j < count → Skipped j → p (permitAt bs j) ≡ true → FirstOf p bs count start j
+  first-found count j h l before e = record { before = none-before count j h (omega arith) before; found = λ _. e }
 
-  pub first-nothing : (j : ℕ) → start ≤ j → j ≡ count → Skipped j → FirstOf p bs count start j
-  first-nothing j h l before = record { before = none-before j h (omega arith) before; found = λ m. absurd (omega arith) }
+  pub first-nothing : (count j : ℕ) → start ≤ j → j ≡ count → Skipped j → FirstOf p bs count start j
+  first-nothing count j h l before = record { before = none-before count j h (omega arith) before; found = λ m. absurd (omega arith) }

@@ -11,7 +11,7 @@ use Rattle.rules.proofs.BaseLaws.{or-right, Same, same, other, same?, eqb-other
 use Rattle.rules.proofs.TurnLaws.{turn-failed, turns-done}
 use Rattle.sets.proofs.WalkLaws.{Lowest, lowest-rises}
 
--- a test of every writer
+-- who is no writer passes a test of every writer
 cell-none : (x q : Bool) → x ≡ false → not x || q ≡ true
 cell-none x q e = rw e
 

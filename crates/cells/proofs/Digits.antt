@@ -16,7 +16,7 @@ pub data Digit : ℕ → Type 0 where
   none : Digit zero
   one : Digit (suc zero)
 
--- the remainder by 2 is one
+-- so is that of any number
 pub digit : (w : ℕ) → Digit (w % 2)
 digit w = go (w % 2) (mod-lt w (zero-lt-suc 1))
   where

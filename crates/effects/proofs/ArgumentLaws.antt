@@ -1,4 +1,4 @@
--- What is known of the arguments of initiate, begin, complete and lock that are not refused: each fits a byte. Assumes nothing.
+-- What is known of the arguments of initiate, begin, complete and lock that are not refused: changes that were given, numbers that fit a byte, a mode. Assumes nothing.
 use mathlib.Core.Path.{_≡_, ap}
 use mathlib.Core.Bool.{true, false, not}
 use mathlib.Core.List.{List}

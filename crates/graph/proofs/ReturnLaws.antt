@@ -105,7 +105,7 @@ module _ (t : TieRecord) (ts : List TieRecord) (clear : NoReturn ts) where
         go o (inl p) = clear l f o p
         go o (inr m) = ends o (m .goes) (m .comes) (m .to) (m .fro)
 
-    -- nor where each leads to the other
+    -- where each leads to the other, a new path is an old one
     shrink : Way (leading ts) t.leader t.follower → Way (leading ts) t.follower t.leader → {x y : ℕ} → Way (leading (addTie t ts)) x y → Way (leading ts) x y
     shrink p q stay = stay
     shrink p q (on {b = a} {c = b} w e) = way-join (shrink p q w)
@@ -115,7 +115,7 @@ module _ (t : TieRecord) (ts : List TieRecord) (clear : NoReturn ts) where
     both-clear : Way (leading ts) t.leader t.follower → Way (leading ts) t.follower t.leader → NoReturn (addTie t ts)
     both-clear p q l f e w = clear l f (old-arrow l f e) (shrink p q w)
 
-    -- where one leads to the other and not back, an arrow on the way returns
+    -- the new tie is a step either way
     there : leading (addTie t ts) t.leader t.follower ≡ true
     unfolding leading grouped
     there = or-left (grouped (addTie t ts) t.leader t.follower) _ (or-left (tied (addTie t ts) isGroup t.leader t.follower) _ (tie-new t ts isGroup group))
@@ -124,7 +124,7 @@ module _ (t : TieRecord) (ts : List TieRecord) (clear : NoReturn ts) where
     unfolding leading grouped
     back = or-left (grouped (addTie t ts) t.follower t.leader) _ (or-right (tied (addTie t ts) isGroup t.follower t.leader) _ (tie-new t ts isGroup group))
 
-    -- a path on to where the new tie leads back
+    -- where one leads to the other and not back, an arrow on the way returns
     one-returns : (a b : ℕ) → leading (addTie t ts) b a ≡ true → Way (leading ts) a b → (Way (leading ts) b a → ⊥) → NoReturn (addTie t ts) → ⊥
     one-returns a b s w u h = ⊎-elim u (λ m. h (m .leader) (m .follower) (tie-old t ts isArrow (m .leader) (m .follower) (m .arrow)) (way-join (on (old t ts (m .fro)) s) (old t ts (m .to)))) (back-or-arrow ts w)
 

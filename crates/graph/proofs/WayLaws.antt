@@ -55,7 +55,7 @@ pub not-both : (k : ℕ) → isArrow k ≡ true → isGroup k ≡ true → ⊥
 unfolding isArrow isWait isFall isGroup
 not-both k a g = ⊎-elim (λ e. omega (arith, eqb-eq k 1 e, eqb-eq k 3 g)) (λ e. omega (arith, eqb-eq k 2 e, eqb-eq k 3 g)) (or-cases (eqb k 1) (eqb k 2) a)
 
--- a path leads back along group ties, or goes along an arrow
+-- a path from x to y that goes along an arrow
 pub record Crossing (ts : List TieRecord) (x y : ℕ) : Type 0 where
   pub leader : ℕ
   pub follower : ℕ
@@ -63,7 +63,7 @@ pub record Crossing (ts : List TieRecord) (x y : ℕ) : Type 0 where
   pub arrow : tied ts isArrow leader follower ≡ true
   pub fro : Way (leading ts) follower y
 
--- each path does one or the other
+-- where a path leads, one leads back, or it goes along an arrow
 pub back-or-arrow : (ts : List TieRecord) {x y : ℕ} → Way (leading ts) x y → Way (leading ts) y x ⊎ Crossing ts x y
 unfolding leading
 back-or-arrow ts stay = inl stay

@@ -36,11 +36,12 @@ module _ (W : Window) (f t e : ℕ) (none : firstFailed (take 5 (checks limits W
       go true q = rw (sym q)
       go false q = rw (sym q)
 
-  -- THE NUMBERS fit a byte
+  -- who receives is live
   pub to-live : live W t ≡ true
   unfolding checks _if_
   to-live = and-right (live W f) (live W t) (not-false _ (delegate-passed W f t e none .1 .1 .1 .1 .0))
 
+  -- THE NUMBERS fit a byte
   module _ (k : Sound limits W) where
     pub from-fits : f < 256
     unfolding checks _if_

@@ -12,7 +12,7 @@ use Rattle.rules.proofs.BaseLaws.{Below, under, over, below}
 use Rattle.layout.specs.Codec.{byte, bit, pack, noRecord, noPermit, noTie, figures, headByte, valueByte, changeByte, lockByte, permitByte, tieByte, recordBytes, logByte, permitBytes, tieBytes, headSize, valuesSize, changesSize, locksSize, permitsSize, tiesSize, logSize, headAt, valuesAt, changesAt, locksAt, permitsAt, tiesAt, logAt, windowSize, encode, inside, join2, join4, unpack, readFigure, readValue, readStatus, readParent, readHeld, readRecord, readPermit, readTie, decode}
 use Rattle.layout.proofs.SectionLaws.{section, sections, encode-sections, length-layOut, layOut-at, table-list}
 
--- the bytes of each section, read; the size of a window
+-- the size of a window; the bytes of its sections but the line, read
 module _ (W : Window) where
   pub length-encode : length (encode W) ≡ windowSize
   unfolding sections section
@@ -85,7 +85,7 @@ mul4-div c = omega arith
 mul4-mod : (c : ℕ) → c * 4 % 4 ≡ 0
 mul4-mod c = omega arith
 
--- eight tests packed in a byte
+-- n tests packed in a number of n bits
 bit-most : (b : Bool) → bit b < 2
 bit-most true = omega arith
 bit-most false = omega arith

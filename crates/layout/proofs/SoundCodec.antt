@@ -13,7 +13,7 @@ use Rattle.rules.proofs.SoundParts.{Sound, Blank, sound-blank, value-most, reco
 use Rattle.layout.specs.Codec.{decode, encode, noRecord, readValue, readStatus, readParent, readHeld}
 use Rattle.layout.proofs.CodecLaws.{Canonical, decode-encode}
 
--- a sound window is what its bytes say
+-- a sound window has what bytes can say
 sound-canonical : (W : Window) → Sound limits W → Canonical W
 unfolding limits
 sound-canonical W k = let b = sound-blank limits W k in record {
@@ -32,6 +32,7 @@ sound-canonical W k = let b = sound-blank limits W k in record {
   ties-most = within-of (length W.ties) 512 (k .room-ties);
 }
 
+-- it is what its bytes say
 pub sound-again : (W : Window) → Sound limits W → decode (encode W) ≡ W
 sound-again W k = decode-encode W (sound-canonical W k)
 

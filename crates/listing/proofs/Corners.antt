@@ -67,7 +67,7 @@ pub above-largest : lineCall (ascii "write,1,0,4294967296,0") ≡ none
 unfolding reading
 above-largest = refl
 
--- a name that no call has, and one in other letters
+-- a name that no call has, one in other letters, and an empty line
 pub unknown-name : lineCall (ascii "close,2,0,0,0") ≡ none
 unfolding reading
 unknown-name = refl

@@ -17,7 +17,7 @@ use Rattle.script_calls.specs.Fields.{replyOf}
 use Rattle.script_lines.specs.Lines.{fielded, lineCall, replyTo}
 use Rattle.listing.specs.Listing.{firstLine}
 
--- ONE BYTE MORE of what is kept
+-- MORE BYTES after what is kept
 pub take-kept : (n : ℕ) (l k : List ℕ) → take n (take n l ++ k) ≡ take n (l ++ k)
 take-kept zero l k = refl
 take-kept (suc n) [] k = refl

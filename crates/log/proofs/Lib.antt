@@ -1,5 +1,5 @@
 -- Laws of the log's section.
--- records read, appended and replaced
+-- records read and appended, and their owners replaced
 pub mod LogLaws
 -- the log closed up when changes have ended
 pub mod DropLaws

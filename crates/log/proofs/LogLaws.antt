@@ -1,4 +1,4 @@
--- The log's section by its places: a record read, appended and replaced. Assumes nothing.
+-- The log's section by its places: a record read, its owner replaced, a record appended. Assumes nothing.
 use mathlib.Core.Path.{_≡_, refl, sym, ap, _∙_}
 use mathlib.Core.Logic.{_≢_}
 use mathlib.Core.Bool.{Bool}

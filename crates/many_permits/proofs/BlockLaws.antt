@@ -40,8 +40,8 @@ module _ (t : ℕ → PermitRecord) (p : PermitRecord → Bool) where
       go k l q (no m) = absurd (false≢true (sym (none k (omega arith) l) ∙ q))
 
 -- PASSED OVER
-module _ (p : PermitRecord → Bool) (bs : List ℕ) (count start : ℕ) where
-  pub skipped-run : (j n : ℕ) → Skipped p bs count start j → ((k : ℕ) → j ≤ k → k < j + n → p (permitAt bs k) ≡ false) → Skipped p bs count start (j + n)
+module _ (p : PermitRecord → Bool) (bs : List ℕ) (start : ℕ) where
+  pub skipped-run : (j n : ℕ) → Skipped p bs start j → ((k : ℕ) → j ≤ k → k < j + n → p (permitAt bs k) ≡ false) → Skipped p bs start (j + n)
   skipped-run j n before none k h l = go (decLt k j)
     where
       go : Dec (k < j) → p (permitAt bs k) ≡ false

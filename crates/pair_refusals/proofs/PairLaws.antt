@@ -76,7 +76,7 @@ pub delegate-passed : (W : Window) (f t e : ℕ) → firstFailed (take 5 (checks
 unfolding checks all _if_
 delegate-passed W f t e z = passed (take 5 (checks limits W (Delegate f t e))) refl z
 
--- no number of a tie is
+-- no number of a tie is refused
 module _ (W : Window) (k l f r : ℕ) (q : r ≡ firstFailed (take 4 (checks limits W (Depend k l f)))) (z : r ≡ 0) where
   depend-passed : Passed (take 4 (checks limits W (Depend k l f)))
   unfolding checks all _if_

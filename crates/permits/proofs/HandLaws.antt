@@ -25,7 +25,7 @@ use Rattle.rows.proofs.TableLaws.{keep-map, added-all-map, length-least-all, ta
 use Rattle.permits.specs.PermitRows.{givenBy, handed, withGiver}
 use Rattle.permits.proofs.PermitLaws.{permitRow, permit-table, permit-united}
 
--- its row is the row with another giver
+-- the rows of moved permits are their rows with another giver
 moved-rows : (to : ℕ) (ps : List PermitRecord) → map (withGiver to) (map permitRow ps) ≡ map permitRow (map (movedPermit to) ps)
 unfolding withGiver permitRow movedPermit
 moved-rows to [] = refl
@@ -61,7 +61,7 @@ module _ (ps : List PermitRecord) (n : ℕ) (bytes : List ℕ) (len : length ps 
   how-many : m ≡ length (keep (permitMoves from to on) ps)
   how-many = sym (length-rows m moved) ∙ ap length gone ∙ length-map (keep (permitMoves from to on) ps) permitRow
 
-  -- together they are no more than there were
+  -- together they are no more than the largest figure
   pub hand-fits : left + m ≤ 1024
   unfolding permitMoves permitKept
   hand-fits =

@@ -34,7 +34,7 @@ bytes-flat (r ∷ rs) = ap (λ (t : List ℕ). rowBytes r ++ t) (bytes-flat rs)
 pub bytes-append : (rs qs : List Row) → rowsBytes (rs ++ qs) ≡ rowsBytes rs ++ rowsBytes qs
 bytes-append rs qs = bytes-flat (rs ++ qs) ∙ flat-append rowBytes rs qs ∙ sym (ap₂ (λ (a b : List ℕ). a ++ b) (bytes-flat rs) (bytes-flat qs))
 
--- the bytes of rows that stand in a section are a part of it
+-- the bytes of a row that stands in a section are a part of it
 pub row-part : (l : List ℕ) (i : ℕ) → 4 * i + 4 ≤ length l → rowBytes (rowAt l i) ≡ part l (4 * i) 4
 unfolding rowBytes rowAt
 row-part l i h = sym (part4 l (4 * i) h)
@@ -49,7 +49,7 @@ bytes-part l (suc m) i h =
     ap₂ (λ (a b : List ℕ). a ++ b) (row-part l i (omega arith)) (bytes-part l m (suc i) (omega arith))
     ∙ sym (ap (λ (k : ℕ). take k (drop (4 * i) l)) e ∙ take-add 4 (4 * m) (drop (4 * i) l) ∙ ap (λ (t : List ℕ). take 4 (drop (4 * i) l) ++ take (4 * m) t) (drop-drop 4 (4 * i) l ∙ ap (λ (k : ℕ). drop k l) f))
 
--- and rows whose bytes stand at the front are its first rows
+-- past a row at the front, the rows are those of the rest
 row-past : (r : Row) (l : List ℕ) (j : ℕ) → rowAt (rowBytes r ++ l) (suc j) ≡ rowAt l j
 unfolding rowBytes rowAt
 row-past r l j =
@@ -59,7 +59,7 @@ row-past r l j =
     one : (k : ℕ) → getD (r .k1 ∷ r .k2 ∷ r .k3 ∷ r .more ∷ l) (4 * suc j + k) 0 ≡ getD l (4 * j + k) 0
     one k = let e : 4 * suc j + k ≡ suc (suc (suc (suc (4 * j + k)))) = omega arith in rw e
 
--- each of them by its place
+-- rows whose bytes stand at the front are its first rows: each by its place
 row-here : (rs : List Row) (t : List ℕ) (j : ℕ) → j < length rs → rowAt (rowsBytes rs ++ t) j ≡ getD rs j (row 0 0 0 0)
 unfolding rowsBytes
 row-here [] t j h = absurd (omega arith)
@@ -81,7 +81,7 @@ pub rows-same : (l : List ℕ) (n : ℕ) → 4 * n ≤ length l → patch l 0 (r
 unfolding patch
 rows-same l n h = ap (λ (k : ℕ). rowsBytes (rows n l) ++ drop k l) (length-bytes (rows n l) ∙ ap (λ (k : ℕ). 4 * k) (length-rows n l)) ∙ rows-rest l n h
 
--- a section in three pieces: the rows before a place, those from there on, and the rest
+-- the first n rows in two pieces: those before a place, and those from there on
 pub rows-split : (l : List ℕ) (n at : ℕ) → at ≤ n → rows n l ≡ table at 0 (rowAt l) ++ table (n - at) at (rowAt l)
 unfolding rows
 rows-split l n at h =
@@ -89,7 +89,7 @@ rows-split l n at h =
     let z : 0 + at ≡ at = omega arith in
     ap (λ (k : ℕ). table k 0 (rowAt l)) (sym e) ∙ table-append at (n - at) 0 (rowAt l) ∙ ap (λ (k : ℕ). table at 0 (rowAt l) ++ table (n - at) k (rowAt l)) z
 
--- and its bytes
+-- and the section in three: their bytes, and the rest
 pub pieces : (l : List ℕ) (n at : ℕ) → at ≤ n → 4 * n ≤ length l → l ≡ rowsBytes (table at 0 (rowAt l)) ++ (rowsBytes (table (n - at) at (rowAt l)) ++ drop (4 * n) l)
 pieces l n at h k =
     sym (rows-rest l n k)

@@ -34,7 +34,7 @@ module _ {A : Type 0} (f : A → Row) where
       go true e = ap (λ (t : List Row). f x ∷ t) e
       go false e = e
 
-  -- a record passes where its row does
+  -- one of the records passes where one of their rows does
   pub any-map : (q : Row → Bool) (p : A → Bool) → ((x : A) → q (f x) ≡ p x) → (l : List A) → any q (map f l) ≡ any p l
   unfolding any
   any-map q p h [] = refl

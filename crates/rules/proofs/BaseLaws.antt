@@ -201,13 +201,14 @@ any-elim zero p e = absurd (false≢true e)
 any-elim (suc n) p e =
     ⊎-elim (λ q. let r = any-elim n p q in (r .0, omega arith, r .2)) (λ q. (n, omega arith, q)) (or-cases (anyBelow n p) (p n) e)
 
--- how many
+-- one set within another, below a bound
 abbrev pub Within : ℕ → (ℕ → Bool) → (ℕ → Bool) → Type 0
 Within n s t = (c : ℕ) → c < n → s c ≡ true → t c ≡ true
 
 within-pred : {n : ℕ} {s t : ℕ → Bool} → Within (suc n) s t → Within n s t
 within-pred w c h e = w c (omega arith) e
 
+-- how many
 pub count-le : (n : ℕ) (s : ℕ → Bool) → countBelow n s ≤ n
 unfolding countBelow
 count-le zero s = zero-le

@@ -23,7 +23,7 @@ use Rattle.rules.proofs.SoundStep.{group-live, fall-live}
 abbrev pub ofKind : ℕ → ℕ → Bool
 ofKind k j = eqb j k
 
--- the call ends s, all in one way; who is not in s stays as he was
+-- the call ends s, all in one way; of the others the ended stay as they were, and the live live on
 pub record Ending (W X : Window) (s : Set) (how : ℕ) : Type 0 where
   pub way : (how ≡ 4) ⊎ (how ≡ 5)
   pub ends : (c : ℕ) → s c ≡ true → (live W c ≡ true) × (shownStatus X c ≡ how)

@@ -63,6 +63,19 @@ not-ended x h = go (same? x 4) (same? x 5)
     go (other n) (same q) = absurd (false≢true (rw q at h))
     go (other n) (other m) = refl
 
+-- the statuses of no change, a committed and an aborted one
+pub ended-0 : isEnded 0 ≡ false
+unfolding isEnded
+ended-0 = refl
+
+pub ended-4 : isEnded 4 ≡ true
+unfolding isEnded
+ended-4 = refl
+
+pub ended-5 : isEnded 5 ≡ true
+unfolding isEnded
+ended-5 = refl
+
 pub live-status : (W : Window) (c : ℕ) → live W c ≡ true → isLive (W .status c) ≡ true
 unfolding live
 live-status W c h = and-right (ltb c (suc (W .given))) _ h
@@ -71,11 +84,8 @@ pub live-unended : (W : Window) (c : ℕ) → live W c ≡ true → isEnded (sho
 unfolding shownStatus isEnded
 live-unended W c h = go (noChange W c)
   where
-    zero-live : isEnded 0 ≡ false
-    zero-live = refl
-
     go : (b : Bool) → isEnded (cond b 0 (W .status c)) ≡ false
-    go true = zero-live
+    go true = ended-0
     go false = not-ended (W .status c) (live-status W c h)
 
 pub live-not : (W : Window) (c : ℕ) → live W c ≡ true → isEnded (shownStatus W c) ≡ true → ⊥

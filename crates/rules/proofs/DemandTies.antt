@@ -15,7 +15,7 @@ use Rattle.rules.specs.Events.{Event, action, isTying}
 use Rattle.rules.specs.Lists.{status, endedAs, endedAt, tieMade, Grouped, itself, along, against}
 use Rattle.rules.proofs.BaseLaws.{or-left, or-right, or-cases, and-left, and-right, cond-same, eqb-eq, eqb-other, Same, same, other, same?}
 use Rattle.rules.proofs.DemandEnds.{how-ended, Ending, New, ofKind}
-use Rattle.rules.proofs.DemandMoves.{shownStatus, live-unended, live-not}
+use Rattle.rules.proofs.DemandMoves.{shownStatus, ended-0, ended-4, ended-5, live-unended, live-not}
 use Rattle.rules.proofs.SourceLaws.{grouped-both}
 
 -- what an arrow's leader has come to when its follower may commit
@@ -69,18 +69,6 @@ as-kept e p c h = go (same? (endedAt p c) 0)
 as-first : (e : Event) (p : List Event) (c : ℕ) → endedAt p c ≡ 0 → isEnded (e .status c) ≡ true → endedAs (e ∷ p) c ≡ e .status c
 unfolding endedAs
 as-first e p c h k = rw (h, k)
-
-ended-4 : isEnded 4 ≡ true
-unfolding isEnded
-ended-4 = refl
-
-ended-5 : isEnded 5 ≡ true
-unfolding isEnded
-ended-5 = refl
-
-ended-0 : isEnded 0 ≡ false
-unfolding isEnded
-ended-0 = refl
 
 arrow-kind : (k : ℕ) → isArrow k ≡ true → eqb k 3 ≡ false
 unfolding isArrow isWait isFall
@@ -225,7 +213,7 @@ story-fresh n e shows un = record {
     none : (k l f : ℕ) → isTying k l f (action e) || false ≡ true → ⊥
     none k l f h = false≢true (rw (un k l f) at h)
 
--- what the story says of a committed change
+-- what the story says of an ended change, and of a committed one
 module _ (W : Window) (p : List Event) (S : TieHistory W p) where
   pub story-lasts : (c : ℕ) → endedAt p c ≢ 0 → status p c ≡ endedAs p c
   story-lasts c h = go (isEnded (shownStatus W c)) refl

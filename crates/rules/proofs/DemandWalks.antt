@@ -18,7 +18,7 @@ use Rattle.rules.specs.Refusals.{step, settle, checks, firstFailed, _if_
 use Rattle.rules.specs.Lists.{final, walks}
 use Rattle.rules.proofs.BaseLaws.{not-true, never, none-below, or-none, or-left, or-right, or-cases, and-both, and-left, and-right, Same, same, other, same?, ltb-true, any-intro, any-elim, Within, count-within, count-same}
 use Rattle.rules.proofs.DemandEnds.{Ending, commit-ending}
-use Rattle.rules.proofs.DemandMoves.{shownStatus, live-unended, live-status, not-ended}
+use Rattle.rules.proofs.DemandMoves.{shownStatus, ended-4, live-unended, live-status, not-ended}
 use Rattle.rules.proofs.ListLaws.{all-weaken, all-and, any-weaken}
 use Rattle.rules.proofs.SetLaws.{Closed, reach-closed, reach-least}
 use Rattle.rules.proofs.SoundEnd.{end-sound}
@@ -271,12 +271,9 @@ module _ (L : Limits) (W : Window) (z : Sound L W) where
       good d ld true q = inr (P4 .ends d q .1)
       good d ld false q = inl (P4 .on d q ld)
 
-      four : isEnded 4 ≡ true
-      four = unfold isEnded in refl
-
       stay : (d : ℕ) → shownStatus W d ≡ 4 → (b : Bool) → groupOf W c d ≡ b → shownStatus (endAll 4 (groupOf W c) W) d ≡ 4
-      stay d h true q = absurd (true≢false (sym four ∙ ap isEnded (sym h) ∙ live-unended W d (P4 .ends d q .0)))
-      stay d h false q = P4 .stays d q (ap isEnded h ∙ four) ∙ h
+      stay d h true q = absurd (true≢false (sym ended-4 ∙ ap isEnded (sym h) ∙ live-unended W d (P4 .ends d q .0)))
+      stay d h false q = P4 .stays d q (ap isEnded h ∙ ended-4) ∙ h
 
   group-sound : (c : ℕ) → live W c ≡ true → Sound L (endAll 4 (groupOf W c) W)
   unfolding outside

@@ -62,7 +62,7 @@ module _ {ℓ} {A : Type ℓ} where
   pub fewer : (q : A → Bool) (l : List A) (n : ℕ) → not (exceeds (length l) n) ≡ true → not (exceeds (length (keep q l)) n) ≡ true
   fewer q l n e = over-less (length l) (length (keep q l)) n (length-keep q l) e
 
-  -- a test of all, and of some, from one member
+  -- a test of all, and of some, by members
   pub all-members : (p : A → Bool) (l : List A) → ((x : A) → List·Memᴰ x l → p x ≡ true) → all p l ≡ true
   unfolding all
   all-members p [] f = refl

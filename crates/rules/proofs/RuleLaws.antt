@@ -1,4 +1,4 @@
--- A call that is turned back or blocked leaves the window as it was. Assumes nothing.
+-- A call that is turned back or blocked leaves the window as it was; open answers the same whatever it was. Assumes nothing.
 use mathlib.Core.Path.{_≡_, refl}
 use mathlib.Core.Logic.{_≢_}
 use mathlib.Core.Bool.{Bool, true, false, cond, _||_, false≢true}
@@ -80,7 +80,7 @@ is-open (Status c) e = absurd (false≢true e)
 is-open (Parent c) e = absurd (false≢true e)
 is-open (Value x) e = absurd (false≢true e)
 
--- open does the same whatever the window was
+-- open answers the same whatever the window was
 pub open-answer : (L : Limits) (W X : Window) (n : ℕ) → step L W (Open n) .answer ≡ step L X (Open n) .answer
 unfolding step checks _if_ firstFailed effect settle done unchanged
 open-answer L W X n = go (ltb n 1 || exceeds n L.entries)

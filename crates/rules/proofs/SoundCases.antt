@@ -57,7 +57,7 @@ faults =
     ∷ withTies good (tie1 1 1 2 ∷ tie1 2 2 1 ∷ []) ∷ withTies good (tie1 1 1 2 ∷ tie1 2 3 1 ∷ tie1 3 2 3 ∷ []) ∷ withTies good (tie1 1 2 3 ∷ tie1 3 2 3 ∷ [])
     ∷ []
 
--- anybody may write beside 1
+-- it is sound, also where 2 writes, since anybody may write beside 1; no fault is
 pub good-sound : map (sound small) (good ∷ withHeld good (put2 good.held 0 2 2) ∷ []) ≡ true ∷ true ∷ []
 unfolding rules sound parts valueSound statusSound parentSound heldSound recordSound permitSound tieSound
 good-sound = refl

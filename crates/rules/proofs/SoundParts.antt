@@ -97,7 +97,7 @@ pub ends-below : (W : Window) → all (tieSound (live W)) W.ties ≡ true → al
 ends-below W = all-weaken (tieSound (live W)) (λ t. ltb t.leader (suc W.given) && ltb t.follower (suc W.given))
     (λ t h. let m = tie-parts (live W) t h in and-both (ltb t.leader (suc W.given)) _ (ltb-true t.leader (suc W.given) (live-below W t.leader (m .1))) (ltb-true t.follower (suc W.given) (live-below W t.follower (m .2)))) W.ties
 
--- and holds the locks
+-- a lock is 2 at most, and only who lives holds one, on an entry that there is
 module _ (W : Window) (helds : (e c : ℕ) → heldSound W.entries (live W) W.held e c ≡ true) where
   pub held-most : (e c : ℕ) → W .held e c ≤ 2
   unfolding heldSound

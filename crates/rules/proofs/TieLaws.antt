@@ -59,7 +59,7 @@ arrows-tied ts = all-members _ ts (λ t m. go t m (isArrow t.kind) refl)
     go t m true e = stands-tied isArrow m e
     go t m false e = refl
 
--- fewer arrows reach less
+-- fewer ties reach less, and close no cycle
 leading-keep : (q : TieRecord → Bool) (ts : List TieRecord) (a b : ℕ) → leading (keep q ts) a b ≡ true → leading ts a b ≡ true
 unfolding leading grouped tied
 leading-keep q ts a b = or-map _ _ _ _ (or-map _ _ _ _ (any-keep _ q ts) (any-keep _ q ts)) (any-keep _ q ts)

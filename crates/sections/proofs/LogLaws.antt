@@ -31,7 +31,7 @@ unfolding writes lockBits
 writes-held locks held q e c he hc = let p : e * 64 + 32 ≡ e * 64 + 1 * 32 = omega arith in
     ap (λ l. bytesHave l (e * 64 + 32) c) (q ∙ lock-bits held) ∙ bits-read (lockBits held) e 1 (e * 64 + 32) he (omega arith) p c hc
 
--- no record has zeros
+-- `noRecord` is zeros
 blank : recordBytes noRecord ≡ replicate 6 0
 unfolding recordBytes byte
 blank = refl

@@ -1,4 +1,4 @@
--- The values and the line: two sections with a fixed place for each number. Assumes nothing.
+-- The values, each in its fixed place, and the line, which is zeros. Assumes nothing.
 use mathlib.Core.Path.{_≡_, refl, sym, _∙_, ap}
 use mathlib.Core.Logic.{_↔_, ⊎-elim}
 use mathlib.Core.Bool.{Bool, true, cond, _&&_, _||_}

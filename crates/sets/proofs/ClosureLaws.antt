@@ -94,7 +94,7 @@ module _ (ts : List TieRecord) where
   unfolding grouped
   relation-back along j h e = by-group along _ _ (or-right (tied ts isGroup (getD ts j noTie .follower) (getD ts j noTie .leader)) _ (tied-at ts isGroup j h e))
 
-  -- and no others
+  -- a tie of a kind is one of any wider kind
   on-kind : {f g : ℕ → Bool} {a b : ℕ} → ((k : ℕ) → f k ≡ true → g k ≡ true) → Stands ts f a b → Stands ts g a b
   on-kind w m = record { place = m .place; below = m .below; has = w _ (m .has); leads = m .leads; follow = m .follow }
 

@@ -77,7 +77,7 @@ spreading-start rows seed c e = record {
 
 module _ (rows : List ℕ) (seed s left : Set) (c : ℕ) (g : Spreading rows seed s left c) (hc : c < 256) (row rest fresh left′ s′ : Set) (er : (k : ℕ) → row k ≡ rowHas rows c k)
     (et : (k : ℕ) → rest k ≡ not (eqb k (lowestBelow 256 left)) && left k) (ef : (k : ℕ) → fresh k ≡ row k && not (s k)) (el : (k : ℕ) → left′ k ≡ rest k || fresh k) (es : (k : ℕ) → s′ k ≡ s k || row k) where
-  -- the lowest is left, and a member
+  -- the lowest is left; members stay members
   here : left c ≡ true
   here = g .lowest .hit hc
 
@@ -115,7 +115,7 @@ module _ (rows : List ℕ) (seed s left : Set) (c : ℕ) (g : Spreading rows see
           go (inl m) _ = keeps b (g .done a b m (no-true (left a) (λ t. false≢true (sym q ∙ el a ∙ or-left (rest a) (fresh a) (rest-without left c (g .lowest) rest et a ∙ rw (eqb-other a c n, t))))) r)
           go (inr m) t = absurd (false≢true (sym q ∙ el a ∙ or-right (rest a) (fresh a) (ef a ∙ rw (t, m))))
 
-  -- and one row fewer is to be taken in
+  -- and more rows have been taken in, which leaves fewer of the 256
   pub spreading-less : 256 - countBelow 256 (λ k. s′ k && not (left′ k)) < 256 - countBelow 256 (λ k. s k && not (left k))
   spreading-less = omega (
     arith,

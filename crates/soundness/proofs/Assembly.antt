@@ -28,7 +28,7 @@ join8 : {a b c d e f g h a′ b′ c′ d′ e′ f′ g′ h′ : List ℕ} →
 join8 p q r s t u v w = λ i. p i ++ (q i ++ (r i ++ (s i ++ (t i ++ (u i ++ (v i ++ w i))))))
 
 -- FROM THE SECTIONS TO THE WINDOW
-module _ (bs : List ℕ) (size : length bs ≡ windowSize) (h : HeadSound (part bs headAt headSize)) (c : ChangesSound (part bs changesAt changesSize) (h .given))
+module _ (bs : List ℕ) (h : HeadSound (part bs headAt headSize)) (c : ChangesSound (part bs changesAt changesSize) (h .given))
     (f : FrontSound bs (h .entries) (lives (h .given) (c .status)))
     (k : BackSound bs (h .entries) (h .permits) (h .ties) (h .records) (lives (h .given) (c .status)) (f .locks .held)) where
   -- the window that they are
@@ -45,9 +45,9 @@ module _ (bs : List ℕ) (size : length bs ≡ windowSize) (h : HeadSound (part 
     ties = k .ties .ties;
   }
 
-  pub gathered-bytes : encode gathered ≡ bs
+  pub gathered-bytes : length bs ≡ windowSize → encode gathered ≡ bs
   unfolding gathered encode lay figures part
-  gathered-bytes = sym (eight-parts bs size ∙ join8
+  gathered-bytes size = sym (eight-parts bs size ∙ join8
       (h .bytes ∙ (λ i. headSection (h .entries ∷ h .given ∷ sym (k .log .size) i ∷ sym (k .permits .size) i ∷ sym (k .ties .size) i ∷ [])))
       (f .values .bytes) (c .bytes) (f .line) (f .locks .bytes) (k .permits .bytes) (k .ties .bytes) (k .log .bytes))
 
@@ -73,8 +73,8 @@ module _ (bs : List ℕ) (size : length bs ≡ windowSize) (h : HeadSound (part 
     locks = fits-all gathered (f .locks .fine) p;
   }
 
-  pub gathered-all : acyclic (suc (h .given)) (k .ties .ties) ≡ true → clashesPermitted gathered ≡ true → soundBytes bs ≡ true
-  gathered-all a p = rw gathered-bytes at (encode-sound gathered (gathered-sound a p))
+  pub gathered-all : length bs ≡ windowSize → acyclic (suc (h .given)) (k .ties .ties) ≡ true → clashesPermitted gathered ≡ true → soundBytes bs ≡ true
+  gathered-all size a p = rw (gathered-bytes size) at (encode-sound gathered (gathered-sound a p))
 
   -- its locks, permits and ties, as the last two tests want them
   helds : (e n : ℕ) → heldSound (gathered .entries) (live gathered) (gathered .held) e n ≡ true
@@ -104,7 +104,7 @@ module _ (bs : List ℕ) (size : length bs ≡ windowSize) (h : HeadSound (part 
   }
 
 -- FROM THE WINDOW TO THE SECTIONS
-module _ (bs : List ℕ) (size : length bs ≡ windowSize) (s : soundBytes bs ≡ true) where
+module _ (bs : List ℕ) (s : soundBytes bs ≡ true) where
   unfoldable pub W : Window
   W = decode bs
 
@@ -156,7 +156,7 @@ module _ (bs : List ℕ) (size : length bs ≡ windowSize) (s : soundBytes bs �
 
   pub listed-known : Listed bs (W .entries) (length (W .permits)) (length (W .ties)) W
   unfolding gathered head-known changes-known front-known back-known
-  listed-known = gathered-listed bs size head-known changes-known front-known back-known
+  listed-known = gathered-listed bs head-known changes-known front-known back-known
 
   pub relations-known : acyclic (suc (W .given)) (W .ties) && clashesPermitted W ≡ true
   relations-known = and-both _ _ (z .no-cycle) (fit-locks W (z .locks))

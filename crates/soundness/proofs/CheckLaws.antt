@@ -4,10 +4,9 @@ use mathlib.Core.Bool.{Bool, true, _&&_}
 use mathlib.Core.List.{List}
 use mathlib.Core.Logic.{_↔_}
 use Prim.Native.Nat.{ℕ, suc}
-use lib.Dec.{ltb}
 use lib.ListN.{length}
 use Rattle.rules.specs.Sets.{Set}
-use Rattle.rules.specs.Window.{Window, isLive, lives}
+use Rattle.rules.specs.Window.{Window, lives}
 use Rattle.rules.specs.Locks.{clashesPermitted}
 use Rattle.rules.specs.Ties.{acyclic}
 use Rattle.rules.proofs.BaseLaws.{and-left, and-right}
@@ -22,7 +21,7 @@ use Rattle.soundness.proofs.Assembly.{W, head-known, changes-known, fro
 
 -- m is the set of the live changes that bytes of changes say
 abbrev pub Lives : List ℕ → ℕ → Set → Type 0
-Lives bs given m = (st pa : ℕ → ℕ) → part bs changesAt changesSize ≡ changeSection st pa → (k : ℕ) → m k ≡ ltb k (suc given) && isLive (st k)
+Lives bs given m = (st pa : ℕ → ℕ) → part bs changesAt changesSize ≡ changeSection st pa → (k : ℕ) → m k ≡ lives given st k
 
 -- r decides whether the permits, the ties and the log are sound beside sound locks
 abbrev pub Decided : List ℕ → ℕ → ℕ → ℕ → ℕ → Set → Bool → Type 0
@@ -32,37 +31,37 @@ Decided bs entries permits ties records m r = (z : LocksSound (part bs locksAt l
 abbrev pub Says : List ℕ → ℕ → ℕ → ℕ → Bool → Type 0
 Says bs entries permits ties r = (w : Window) → Listed bs entries permits ties w → r ≡ acyclic (suc (w .given)) (w .ties) && clashesPermitted w
 
-module _ (bs : List ℕ) (size : length bs ≡ windowSize) where
+module _ (bs : List ℕ) where
   pub header-asked : soundBytes bs ≡ true → HeadSound (part bs headAt headSize)
-  header-asked s = head-known bs size s
+  header-asked s = head-known bs s
 
   module _ (f : Figures) (read : (h : HeadSound (part bs headAt headSize)) → AreFigures h f) (s : soundBytes bs ≡ true) where
-    figures-known : AreFigures (head-known bs size s) f
-    figures-known = read (head-known bs size s)
+    figures-known : AreFigures (head-known bs s) f
+    figures-known = read (head-known bs s)
 
     pub changes-asked : ChangesSound (part bs changesAt changesSize) (f .given)
     unfolding head-known
-    changes-asked = rw (figures-known .given) (changes-known bs size s)
+    changes-asked = rw (figures-known .given) (changes-known bs s)
 
     module _ (m : Set) (live : Lives bs (f .given) m) where
-      members-known : m ≡ lives (W bs size s .given) (W bs size s .status)
+      members-known : m ≡ lives (W bs s .given) (W bs s .status)
       unfolding head-known changes-known
-      members-known = fun-ext (λ k. live _ _ (changes-known bs size s .bytes) k ∙ ap (λ g. ltb k (suc g) && isLive (W bs size s .status k)) (figures-known .given))
+      members-known = fun-ext (λ k. live _ _ (changes-known bs s .bytes) k ∙ ap (λ g. lives g (W bs s .status) k) (figures-known .given))
 
       pub front-asked : FrontSound bs (f .entries) m
       unfolding head-known
-      front-asked = rw (figures-known .entries, members-known) (front-known bs size s)
+      front-asked = rw (figures-known .entries, members-known) (front-known bs s)
 
       pub back-asked : (r : Bool) → Decided bs (f .entries) (f .permits) (f .ties) (f .records) m r → r ≡ true
       unfolding head-known front-known
       back-asked r d =
-          let k = W bs size s in
+          let k = W bs s in
           let d′ : Decided bs (k .entries) (length (k .permits)) (length (k .ties)) (length (k .log)) (lives (k .given) (k .status)) r = rw (figures-known .entries, figures-known .permits, figures-known .ties, figures-known .records, members-known) at d in
-          d′ (front-known bs size s .locks) .1 (back-known bs size s)
+          d′ (front-known bs s .locks) .1 (back-known bs s)
 
     pub related-asked : (r : Bool) → Says bs (f .entries) (f .permits) (f .ties) r → r ≡ true
     unfolding head-known
-    related-asked r d = d (W bs size s) (rw (figures-known .entries, figures-known .permits, figures-known .ties) (listed-known bs size s)) ∙ relations-known bs size s
+    related-asked r d = d (W bs s) (rw (figures-known .entries, figures-known .permits, figures-known .ties) (listed-known bs s)) ∙ relations-known bs s
 
 module _ (bs : List ℕ) (size : length bs ≡ windowSize) (h : HeadSound (part bs headAt headSize)) where
   -- all passed: the sections are sound, and the last two tests say so
@@ -71,8 +70,8 @@ module _ (bs : List ℕ) (size : length bs ≡ windowSize) (h : HeadSound (part 
       → (r : Bool) → Says bs (h .entries) (h .permits) (h .ties) r → r ≡ true → soundBytes bs ≡ true
   unfolding gathered
   sections-passed c t k r g y =
-      let both : acyclic (suc (h .given)) (k .ties .ties) && clashesPermitted (gathered bs size h c t k) ≡ true = sym (g (gathered bs size h c t k) (gathered-listed bs size h c t k)) ∙ y in
-      gathered-all bs size h c t k (and-left (acyclic (suc (h .given)) (k .ties .ties)) (clashesPermitted (gathered bs size h c t k)) both) (and-right (acyclic (suc (h .given)) (k .ties .ties)) (clashesPermitted (gathered bs size h c t k)) both)
+      let both : acyclic (suc (h .given)) (k .ties .ties) && clashesPermitted (gathered bs h c t k) ≡ true = sym (g (gathered bs h c t k) (gathered-listed bs h c t k)) ∙ y in
+      gathered-all bs h c t k size (and-left (acyclic (suc (h .given)) (k .ties .ties)) (clashesPermitted (gathered bs h c t k)) both) (and-right (acyclic (suc (h .given)) (k .ties .ties)) (clashesPermitted (gathered bs h c t k)) both)
 
   -- the same, by the live changes found
   tests-passed : (m : Set) → Lives bs (h .given) m → ChangesSound (part bs changesAt changesSize) (h .given) → FrontSound bs (h .entries) m

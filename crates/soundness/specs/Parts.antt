@@ -25,7 +25,7 @@ pub record BackSound (bs : List ℕ) (entries permitted tied written : ℕ) (liv
   pub ties : TiesSound (part bs tiesAt tiesSize) tied live
   pub log : LogSound (part bs logAt logSize) written entries live held
 
--- a window whose locks, permits and ties are in the bytes, in range and in order
+-- a window whose locks, permits and ties are in the bytes: locks in range, permits in order, ties between changes that were given
 pub record Listed (bs : List ℕ) (entries permitted tied : ℕ) (W : Window) : Type 0 where
   pub held : LocksAndPermits (part bs locksAt locksSize) (part bs permitsAt permitsSize) entries permitted W
   pub tie-bytes : part bs tiesAt tiesSize ≡ tieSection (W .ties)

@@ -10,7 +10,7 @@ use Rattle.many_permits.proofs.next_involving.Statement.{statement}
 use Rattle.many_permits.proofs.next_involving.Tie as tie
 
 abbrev Inv-loop : tie.InvT-loop
-Inv-loop permits count start change j₀ j = (start ≤ j) × (j ≤ count) × Skipped (involves change) permits count start j
+Inv-loop permits count start change j₀ j = (start ≤ j) × (j ≤ count) × Skipped (involves change) permits start j
 
 abbrev μ-loop : tie.MeasureT-loop
 μ-loop permits count start change j₀ j = count - j
@@ -23,20 +23,20 @@ unfolding involves permitAt makePermit
 returns c =
     let a = c .before .before .before .before .before .before .before .args in
     let l = c .before .before .before .before .loop in
-    first-found (involves (a .change)) (a .permits .now) (a .count) (a .start) (l .j) (l .inv .0) (omega arith) (l .inv .2) (c .if1 .taken)
+    first-found (involves (a .change)) (a .permits .now) (a .start) (a .count) (l .j) (l .inv .0) (omega arith) (l .inv .2) (c .if1 .taken)
 
 loop-again : tie.Need-loop-again Inv-loop μ-loop
 unfolding involves permitAt makePermit
 loop-again c =
     let a = c .before .before .before .before .before .before .before .args in
     let l = c .before .before .before .before .loop in
-    (omega arith, omega arith, skipped-more (involves (a .change)) (a .permits .now) (a .count) (a .start) (l .j) (l .inv .2) (c .if1 .left))
+    (omega arith, omega arith, skipped-more (involves (a .change)) (a .permits .now) (a .start) (l .j) (l .inv .2) (c .if1 .left))
 
 returns-2 : tie.Need-returns-2 Inv-loop μ-loop
 returns-2 c =
     let a = c .before .before .before .before .args in
     let l = c .before .loop in
-    first-nothing (involves (a .change)) (a .permits .now) (a .count) (a .start) (l .j) (l .inv .0) (omega arith) (l .inv .2)
+    first-nothing (involves (a .change)) (a .permits .now) (a .start) (a .count) (l .j) (l .inv .0) (omega arith) (l .inv .2)
 
 pub next-involving-spec : {M : Type 1} → statement M
 next-involving-spec =

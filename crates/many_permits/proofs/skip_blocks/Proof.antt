@@ -9,32 +9,32 @@ use Rattle.many_permits.proofs.skip_blocks.Statement.{statement}
 use Rattle.many_permits.proofs.skip_blocks.Tie as tie
 
 abbrev Inv-loop : tie.InvT-loop
-Inv-loop permits count start change j₀ j = (start ≤ j) × (j ≤ count) × Skipped (involves change) permits count start j
+Inv-loop permits count start change j₀ j = (start ≤ j) × (j ≤ count) × Skipped (involves change) permits start j
 
 abbrev μ-loop : tie.MeasureT-loop
 μ-loop permits count start change j₀ j = count - j
 
 loop-holds : tie.Need-loop-holds Inv-loop μ-loop
-loop-holds c = let a = c .before .args in (omega arith, omega arith, skipped-none (involves (a .change)) (a .permits .now) (a .count) (a .start))
+loop-holds c = let a = c .before .args in (omega arith, omega arith, skipped-none (involves (a .change)) (a .permits .now) (a .start))
 
 returns : tie.Need-returns Inv-loop μ-loop
 returns c =
     let a = c .before .before .before .before .before .args in
     let l = c .before .before .before .loop in
-    none-before (involves (a .change)) (a .permits .now) (a .count) (a .start) (l .j) (l .inv .0) (l .inv .1) (l .inv .2)
+    none-before (involves (a .change)) (a .permits .now) (a .start) (a .count) (l .j) (l .inv .0) (l .inv .1) (l .inv .2)
 
 loop-again : tie.Need-loop-again Inv-loop μ-loop
 loop-again c =
     let a = c .before .before .before .before .before .args in
     let l = c .before .before .before .loop in
     let none = block-none (a .permits .now) (a .change) (l .j) (c .before .in-block .result) (c .before .in-block .ensures) (c .if1 .left) in
-    (omega arith, omega arith, skipped-run (involves (a .change)) (a .permits .now) (a .count) (a .start) (l .j) 16 (l .inv .2) none)
+    (omega arith, omega arith, skipped-run (involves (a .change)) (a .permits .now) (a .start) (l .j) 16 (l .inv .2) none)
 
 returns-2 : tie.Need-returns-2 Inv-loop μ-loop
 returns-2 c =
     let a = c .before .before .before .args in
     let l = c .before .loop in
-    none-before (involves (a .change)) (a .permits .now) (a .count) (a .start) (l .j) (l .inv .0) (l .inv .1) (l .inv .2)
+    none-before (involves (a .change)) (a .permits .now) (a .start) (a .count) (l .j) (l .inv .0) (l .inv .1) (l .inv .2)
 
 pub skip-blocks-spec : {M : Type 1} → statement M
 skip-blocks-spec =

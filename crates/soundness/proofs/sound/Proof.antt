@@ -14,7 +14,7 @@ use Rattle.soundness.proofs.sound.Tie as tie
 
 returns : tie.Need-returns
 unfolding part
-returns c = sym (no-true _ (λ s. fails (c .before .header .ensures) (c .if1 .taken) (header-asked (c .before .before .before .before .args .w .now) (c .before .before .before .before .pre) s)))
+returns c = sym (no-true _ (λ s. fails (c .before .header .ensures) (c .if1 .taken) (header-asked (c .before .before .before .before .args .w .now) s)))
 
 changes-requires : tie.Need-changes-requires
 unfolding part
@@ -25,7 +25,7 @@ changes-requires c κs =
 
 returns-2 : tie.Need-returns-2
 unfolding part
-returns-2 c = sym (no-true _ (λ s. fails (c .before .changes .ensures) (c .if2 .taken) (changes-asked (c .before .before .before .before .before .before .before .before .args .w .now) (c .before .before .before .before .before .before .before .before .pre) (c .before .before .before .read-figures .result) (c .before .before .before .read-figures .ensures) s)))
+returns-2 c = sym (no-true _ (λ s. fails (c .before .changes .ensures) (c .if2 .taken) (changes-asked (c .before .before .before .before .before .before .before .before .args .w .now) (c .before .before .before .read-figures .result) (c .before .before .before .read-figures .ensures) s)))
 
 live-set-requires : tie.Need-live-set-requires
 unfolding part
@@ -43,7 +43,7 @@ front-requires c κs =
 
 returns-3 : tie.Need-returns-3
 unfolding part
-returns-3 c = sym (no-true _ (λ s. fails (c .before .front .ensures) (c .if3 .taken) (front-asked (c .before .before .before .before .before .before .before .before .before .before .before .before .args .w .now) (c .before .before .before .before .before .before .before .before .before .before .before .before .pre) (c .before .before .before .before .before .before .before .read-figures .result) (c .before .before .before .before .before .before .before .read-figures .ensures) s (members (c .before .before .live-set .result)) (c .before .before .live-set .ensures))))
+returns-3 c = sym (no-true _ (λ s. fails (c .before .front .ensures) (c .if3 .taken) (front-asked (c .before .before .before .before .before .before .before .before .before .before .before .before .args .w .now) (c .before .before .before .before .before .before .before .read-figures .result) (c .before .before .before .before .before .before .before .read-figures .ensures) s (members (c .before .before .live-set .result)) (c .before .before .live-set .ensures))))
 
 back-requires : tie.Need-back-requires
 unfolding part
@@ -54,7 +54,7 @@ back-requires c κs =
 
 returns-4 : tie.Need-returns-4
 unfolding part
-returns-4 c = sym (no-true _ (λ s. false≢true (sym (not-true _ (c .if4 .taken)) ∙ back-asked (c .before .before .before .before .before .before .before .before .before .before .before .before .before .before .args .w .now) (c .before .before .before .before .before .before .before .before .before .before .before .before .before .before .pre) (c .before .before .before .before .before .before .before .before .before .read-figures .result) (c .before .before .before .before .before .before .before .before .before .read-figures .ensures) s (members (c .before .before .before .before .live-set .result)) (c .before .before .before .before .live-set .ensures) _ (c .before .back .ensures))))
+returns-4 c = sym (no-true _ (λ s. false≢true (sym (not-true _ (c .if4 .taken)) ∙ back-asked (c .before .before .before .before .before .before .before .before .before .before .before .before .before .before .args .w .now) (c .before .before .before .before .before .before .before .before .before .read-figures .result) (c .before .before .before .before .before .before .before .before .before .read-figures .ensures) s (members (c .before .before .before .before .live-set .result)) (c .before .before .before .before .live-set .ensures) _ (c .before .back .ensures))))
 
 related-requires : tie.Need-related-requires
 unfolding part
@@ -73,7 +73,7 @@ returns-5 c =
     let e = not-false _ (c .before .if4 .left) in
     both-ways _ _
     (passed (c .before .before .before .before .before .before .before .before .before .before .before .before .before .before .before .args .w .now) (c .before .before .before .before .before .before .before .before .before .before .before .before .before .before .before .pre) h _ a (members (c .before .before .before .before .before .live-set .result)) (c .before .before .before .before .before .live-set .ensures) t v _ (c .before .before .back .ensures) e _ (c .related .ensures))
-    (λ s. related-asked (c .before .before .before .before .before .before .before .before .before .before .before .before .before .before .before .args .w .now) (c .before .before .before .before .before .before .before .before .before .before .before .before .before .before .before .pre) (c .before .before .before .before .before .before .before .before .before .before .read-figures .result) (c .before .before .before .before .before .before .before .before .before .before .read-figures .ensures) s _ (c .related .ensures))
+    (λ s. related-asked (c .before .before .before .before .before .before .before .before .before .before .before .before .before .before .before .args .w .now) (c .before .before .before .before .before .before .before .before .before .before .read-figures .result) (c .before .before .before .before .before .before .before .before .before .before .read-figures .ensures) s _ (c .related .ensures))
 
 pub sound-spec : {M : Type 1} → statement M
 sound-spec =
