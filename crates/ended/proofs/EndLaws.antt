@@ -4,19 +4,16 @@ use mathlib.Core.Bool.{true}
 use mathlib.Core.List.{List}
 use Prim.Native.Nat.{ℕ, _<_, _^_}
 use native.Mathlib.Omega.{arith}
-use lib.Dec.{ltb}
 use lib.ListN.{length, getD, take, drop, replicate}
 use Rattle.rules.specs.Sets.{Set, putAll}
 use Rattle.rules.specs.Window.{limits, LogRecord, Window, live, withValue, withStatus, withHeld, withLog, withPermits, withTies}
-use Rattle.rules.specs.Sound.{recordSound}
 use Rattle.rules.specs.Effects.{released, unowned, permitsLeft, tiesLeft, endAll, undo}
-use Rattle.rules.proofs.BaseLaws.{lt-of}
-use Rattle.rules.proofs.ListLaws.{all-weaken, all-getD}
-use Rattle.rules.proofs.SoundParts.{Sound, record-parts}
+use Rattle.rules.proofs.SoundParts.{Sound}
 use Rattle.rules.proofs.SoundPlain.{undo-values, value-sound}
 use Rattle.layout.specs.Codec.{valuesAt, valuesSize, changesAt, changesSize, locksAt, locksSize, logAt, logSize, windowSize, noRecord, valueByte, valueSection, changeSection, lockSection, logSection, decode, encode}
 use Rattle.layout.specs.Memory.{soundBytes}
 use Rattle.layout.proofs.MemoryLaws.{bytes-sound, bytes-again, encode-sound}
+use Rattle.layout.proofs.SoundCodec.{sound-canonical}
 use Rattle.layout.proofs.SectionLaws.{length-table}
 use Rattle.layout.proofs.PutLaws.{laidAt}
 use Rattle.cells.specs.Part.{part, patch}
@@ -56,8 +53,7 @@ module _ (bs : List ℕ) (s : soundBytes bs ≡ true) where
   -- UNDONE
   -- the values before fit
   before-fits : (k : ℕ) → getD (decode bs .log) k noRecord .before < 2 ^ 32
-  before-fits k = lt-of _ (2 ^ 32) (all-getD (λ r. ltb r.before (2 ^ 32)) (decode bs .log) k noRecord
-      (all-weaken (recordSound (decode bs .entries) (live (decode bs)) (decode bs .held)) (λ r. ltb r.before (2 ^ 32)) (λ r h. record-parts (decode bs .entries) (live (decode bs)) (decode bs .held) r h .2) (decode bs .log) (bytes-sound bs s .records)) refl)
+  before-fits = sound-canonical (decode bs) (bytes-sound bs s) .before-most
 
   -- the values are those of a window as sound as before
   pub undo-sound : (m : Set) → Sound limits (withValue (decode bs) (undo m (decode bs .log) (decode bs .value)))

@@ -14,15 +14,13 @@ use Rattle.rules.specs.Effects.{handOver}
 use Rattle.rules.proofs.BaseLaws.{within-of}
 use Rattle.rules.proofs.SoundParts.{Sound, held-most, held-no-change}
 use Rattle.rules.proofs.SoundDelegate.{hand-held, hand-order}
-use Rattle.layout.specs.Codec.{locksAt, locksSize, permitsAt, permitsSize, windowSize, figures, decode}
+use Rattle.layout.specs.Codec.{locksAt, locksSize, permitsSize, windowSize, decode}
 use Rattle.layout.specs.Memory.{soundBytes}
-use Rattle.layout.proofs.MemoryLaws.{part-of}
-use Rattle.layout.proofs.PartLaws.{permits-part}
 use Rattle.cells.specs.Part.{part, patch}
 use Rattle.cells.proofs.PartLaws.{length-part}
 use Rattle.locks.specs.Held.{Modes}
 use Rattle.permits.proofs.HandLaws.{copied}
-use Rattle.reads.proofs.ReadLaws.{locks-known}
+use Rattle.reads.proofs.ReadLaws.{locks-known, permits-known}
 use Rattle.clashes.specs.LocksAndPermits.{LocksAndPermits}
 use Rattle.handed.specs.Tables.{tablesSize, tablesOf, AreTables}
 use Rattle.handed.proofs.TableLaws.{locks-cut, permits-cut}
@@ -36,7 +34,7 @@ module _ (bs : List ℕ) (s : soundBytes bs ≡ true) where
   unfolding tablesOf
   tables-known = take-add locksSize permitsSize (drop locksAt bs)
       ∙ ap₂ (λ (x y : List ℕ). x ++ y) (locks-known bs s)
-      (ap (take permitsSize) (drop-drop locksSize locksAt bs) ∙ part-of bs s permitsAt permitsSize (permits-part (figures (decode bs)) (decode bs)))
+      (ap (take permitsSize) (drop-drop locksSize locksAt bs) ∙ permits-known bs s)
 
   pub copied-out : length bs ≡ windowSize → (copy : List ℕ) → copy ≡ patch (replicate tablesSize 0) 0 (take tablesSize (drop locksAt bs)) → copy ≡ tablesOf (decode bs)
   unfolding part

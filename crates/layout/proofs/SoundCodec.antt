@@ -14,7 +14,7 @@ use Rattle.layout.specs.Codec.{decode, encode, noRecord, readValue, read
 use Rattle.layout.proofs.CodecLaws.{Canonical, decode-encode}
 
 -- a sound window has what bytes can say
-sound-canonical : (W : Window) → Sound limits W → Canonical W
+pub sound-canonical : (W : Window) → Sound limits W → Canonical W
 unfolding limits
 sound-canonical W k = let b = sound-blank limits W k in record {
   entries-most = within-of W.entries 256 (k .entries);

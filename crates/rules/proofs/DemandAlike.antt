@@ -8,7 +8,8 @@ use Rattle.rules.specs.Base.{all, table}
 use Rattle.rules.specs.Calls.{arguments, Call, Open, Commit, Status, fits, Reply}
 use Rattle.rules.specs.Events.{Event}
 use Rattle.rules.specs.Lists.{remember, event, history, highest, liveGroups, walks, Demand3After, Demand3}
-use Rattle.rules.proofs.BaseLaws.{ltb-true, and-both, and-left, and-right}
+use Rattle.rules.proofs.BaseLaws.{ltb-true, and-left, and-right}
+use Rattle.rules.proofs.ListLaws.{all-join, all-table}
 
 -- s answers as t does, and so on after every call
 pub record Alike {S T : Type 0} (make : S → Call → Reply S) (model : T → Call → Reply T) (R : S → T → Type 0) : Type 0 where
@@ -29,20 +30,14 @@ module _ {S T : Type 0} (make : S → Call → Reply S) (model : T → Call → 
       same-history l (make s c .after) (model t c .after) (remember (event make s c) p) n (and-right (fits c) _ f)
       ∙ ap (λ e. history model (model t c .after) (remember e p) l) (same-event s t c (A .answers s t r c) (A .numbers s t r c) n)
 
-fits-append : (a b : List Call) → all fits a ≡ true → all fits b ≡ true → all fits (a ++ b) ≡ true
-unfolding all
-fits-append [] b e f = f
-fits-append (c ∷ a) b e f = and-both (fits c) _ (and-left (fits c) _ e) (fits-append a b (and-right (fits c) _ e) f)
-
 fits-walk : (n i : ℕ) → i + n ≤ 4294967296 → all fits (table n i Commit) ≡ true
-unfolding all table fits arguments
-fits-walk zero i h = refl
-fits-walk (suc n) i h = and-both (fits (Commit i)) _ (rw (ltb-true i 4294967296 (omega arith))) (fits-walk n (suc i) (omega arith))
+unfolding all fits arguments
+fits-walk n i h = all-table fits Commit n i (λ j a b. rw (ltb-true j 4294967296 (omega arith)))
 
 fits-walks : (k n : ℕ) → n < 4294967296 → all fits (walks k n) ≡ true
 unfolding all walks
 fits-walks zero n h = refl
-fits-walks (suc k) n h = fits-append (table n 1 Commit) (walks k n) (fits-walk n 1 (omega arith)) (fits-walks k n h)
+fits-walks (suc k) n h = all-join fits (table n 1 Commit) (walks k n) (fits-walk n 1 (omega arith)) (fits-walks k n h)
 
 demand-same : (P Q : List Call → List Event) (l : List Call) → P l ≡ Q l → ((k : ℕ) → P (l ++ walks k (highest (Q l))) ≡ Q (l ++ walks k (highest (Q l)))) → Demand3After Q l → Demand3After P l
 demand-same P Q l e f k = record { kept = rw e (k .kept); walked = rw (e, f (liveGroups (Q l))) (k .walked) }
@@ -68,4 +63,4 @@ module _ {S T : Type 0} (make : S → Call → Reply S) (model : T → Call → 
   pub demand-alike : Demand3 model → Demand3 make
   demand-alike d s n e l f = let t = model-of s n e in let top = highest (history model t [] (Open n ∷ l)) in
       demand-same (λ k. history make s [] (Open n ∷ k)) (λ k. history model t [] (Open n ∷ k)) l (history-alike s n e l f)
-      (λ k. history-alike s n e (l ++ walks k top) (fits-append l (walks k top) f (fits-walks k top (most t n (model-opens s n e) l f)))) (d t n (model-opens s n e) l f)
+      (λ k. history-alike s n e (l ++ walks k top) (all-join fits l (walks k top) f (fits-walks k top (most t n (model-opens s n e) l f)))) (d t n (model-opens s n e) l f)
