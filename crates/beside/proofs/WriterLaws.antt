@@ -5,9 +5,10 @@ use Prim.Native.Nat.{ℕ, _≤_, _<_}
 use native.Mathlib.Decide.{decLt}
 use native.Mathlib.Omega.{arith}
 use lib.Dec.{eqb}
+use borrow.Author.Tests.{ne-eqb}
 use Rattle.rules.specs.Base.{allBelow}
 use Rattle.rules.specs.Sets.{Set}
-use Rattle.rules.proofs.BaseLaws.{or-right, Same, same, other, same?, eqb-other, allBelow-intro, allBelow-at}
+use Rattle.rules.proofs.BaseLaws.{or-right, Same, same, other, same?, allBelow-intro, allBelow-at}
 use Rattle.rules.proofs.TurnLaws.{turn-failed, turns-done}
 use Rattle.sets.proofs.WalkLaws.{Lowest, lowest-rises}
 
@@ -37,7 +38,7 @@ module _ (x : Set) (q : ℕ → Bool) where
     -- it passes, and the walk goes on without it
     module _ (left′ : Set) (a′ : ℕ) (without : (k : ℕ) → left′ k ≡ not (eqb k a) && left k) (next : Lowest left′ a′) where
       kept : (k : ℕ) → a < k → left′ k ≡ x k
-      kept k h = without k ∙ rw (eqb-other k a (λ e. omega arith)) (w .later k (omega arith))
+      kept k h = without k ∙ rw (ne-eqb k a (λ e. omega arith)) (w .later k (omega arith))
 
       pub walk-rises : a < a′
       walk-rises = lowest-rises left a (w .lowest) left′ without ha a′ next

@@ -2,20 +2,19 @@
 use mathlib.Core.Path.{_≡_, refl, sym, _∙_, ap}
 use mathlib.Core.Bool.{true}
 use mathlib.Core.List.{List, [], _∷_, _++_, append-nil}
-use Prim.Native.Nat.{ℕ, suc, _-_, _<_, _/_, _%_}
+use Prim.Native.Nat.{ℕ, suc, _-_, _/_, _%_}
 use native.Mathlib.Omega.{arith}
 use lib.Dec.{eqb}
-use lib.ListN.{length, getD, set, take, drop, replicate, length-replicate, replicate-append-replicate, drop-of-length-le}
+use lib.ListN.{length, getD, replicate, length-replicate, replicate-append-replicate, drop-of-length-le}
+use borrow.Author.Tests.{eqb-true, ne-eqb}
 use Rattle.rules.specs.Base.{all}
 use Rattle.rules.specs.Window.{fresh}
-use Rattle.rules.proofs.BaseLaws.{eqb-eq, eqb-other}
 use Rattle.rules.proofs.ListLaws.{all-getD}
-use Rattle.layout.specs.Codec.{headAt, headSize, windowSize, byte, headByte, valueByte, changeByte, lineByte, lockByte, permitBytes, permitByte, tieBytes, tieByte, recordBytes, logByte, headSection, figures, lay, encode}
+use Rattle.layout.specs.Codec.{windowSize, byte, headByte, valueByte, changeByte, lineByte, lockByte, permitBytes, permitByte, tieBytes, tieByte, recordBytes, logByte, figures, lay, encode}
 use Rattle.layout.proofs.CodecLaws.{byte-zero, pack-none}
 use Rattle.layout.proofs.SectionLaws.{Section, section, sections, layOut, total, encode-sections}
 use Rattle.layout.proofs.RecordLaws.{table-zeros}
-use Rattle.layout.proofs.PartLaws.{head-part}
-use Rattle.layout.proofs.PutLaws.{laidAt, head-put}
+use Rattle.layout.proofs.LentLaws.{headLaid, FigureStored, figure-stored}
 use Rattle.cells.specs.Part.{patch}
 
 -- sections of zeros
@@ -30,7 +29,7 @@ layOut-zero (s ∷ l) z = (λ j. table-zeros (s .size) 0 (s .content) (z .0) j +
 
 -- nothing in any place
 none : (l : List ℕ) → all (λ x. eqb x 0) l ≡ true → (i : ℕ) → getD l i 0 ≡ 0
-none l h i = eqb-eq (getD l i 0) 0 (all-getD (λ x. eqb x 0) l i 0 h refl)
+none l h i = eqb-true (getD l i 0) 0 (all-getD (λ x. eqb x 0) l i 0 h refl)
 
 no-figure : (k : ℕ) → getD (figures (fresh 0)) k 0 ≡ 0
 unfolding figures fresh all
@@ -48,7 +47,7 @@ no-entries = (
       (
         λ i. refl,
         (
-          λ i. pack-none 8 _ (λ b l. eqb-other 0 (suc (i % 64 / 32)) (λ e. omega arith)),
+          λ i. pack-none 8 _ (λ b l. ne-eqb 0 (suc (i % 64 / 32)) (λ e. omega arith)),
           (
             λ i. unfold all in none (0 ∷ 0 ∷ 0 ∷ 0 ∷ []) refl (i % 4),
             (
@@ -71,13 +70,9 @@ blank n e = ap (λ k. replicate k 0) e ∙ sym (encode-sections (fresh 0) ∙ la
 
 -- cleared, and the number of entries stored
 pub made-fresh : (bs : List ℕ) → length bs ≡ windowSize → (n : ℕ) (cleared head : List ℕ) → cleared ≡ patch bs 0 (replicate (length bs - 0) 0)
-    → ((fs : List ℕ) → take headSize (drop headAt cleared) ≡ headSection fs → 0 < length fs → head ≡ headSection (set fs 0 n)) → laidAt cleared headAt headSize head ≡ encode (fresh n)
-unfolding patch
-made-fresh bs size n cleared head e f = go cleared whole f
+    → FigureStored cleared 0 n head → headLaid cleared head ≡ encode (fresh n)
+unfolding patch encode lay figures fresh
+made-fresh bs size n cleared head e f = figure-stored (fresh 0) (fresh n) whole 0 n (omega arith) f refl
   where
     whole : cleared ≡ encode (fresh 0)
     whole = e ∙ ap (λ l. replicate (length bs - 0) 0 ++ l) (drop-of-length-le bs {i = length (replicate (length bs - 0) 0)} (omega (arith, length-replicate {A = ℕ} (length bs - 0) 0))) ∙ append-nil (replicate (length bs - 0) 0) ∙ blank (length bs - 0) (omega arith)
-
-    go : (l : List ℕ) → l ≡ encode (fresh 0) → ((fs : List ℕ) → take headSize (drop headAt l) ≡ headSection fs → 0 < length fs → head ≡ headSection (set fs 0 n)) → laidAt l headAt headSize head ≡ encode (fresh n)
-    go l q g = let h = g (figures (fresh 0)) (ap (λ r. take headSize (drop headAt r)) q ∙ unfold encode in head-part (figures (fresh 0)) (fresh 0)) (unfold figures in omega arith) in
-        rw (q, h) (unfold encode in head-put (figures (fresh 0)) (fresh 0) (set (figures (fresh 0)) 0 n) ∙ unfold lay figures fresh in refl)

@@ -5,10 +5,11 @@ use mathlib.Core.List.{List}
 use Prim.Native.Nat.{ℕ, _≤_}
 use lib.ListN.{length, take, take-append-drop}
 use lib.Seq.{length-take-le}
+use borrow.Author.Tests.{leb-true}
 use Rattle.rules.specs.Window.{limits}
 use Rattle.rules.specs.Calls.{Call}
 use Rattle.rules.specs.Refusals.{step}
-use Rattle.rules.proofs.BaseLaws.{and-right, le-of}
+use Rattle.rules.proofs.BaseLaws.{and-right}
 use Rattle.layout.specs.Codec.{windowSize}
 use Rattle.layout.specs.Memory.{soundBytes, long, soundMemory, windowOf, perform}
 use Rattle.layout.proofs.MemoryLaws.{sound-long}
@@ -19,7 +20,7 @@ use Rattle.replies.proofs.GiveLaws.{on-memory}
 module _ (mem : List ℕ) (h : soundMemory mem ≡ true) where
   pub lent-room : windowSize ≤ length mem
   unfolding long
-  lent-room = le-of windowSize (length mem) (sound-long mem h)
+  lent-room = leb-true windowSize (length mem) (sound-long mem h)
 
   pub lent-size : length (take windowSize mem) ≡ windowSize
   lent-size = length-take-le windowSize mem lent-room

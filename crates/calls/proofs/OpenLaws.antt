@@ -6,12 +6,13 @@ use Prim.Native.Nat.{ℕ, _<_, _≤_}
 use native.Mathlib.Omega.{arith}
 use lib.Dec.{leb, ltb}
 use lib.ListN.{length, take, drop}
+use borrow.Author.Tests.{leb-true, le-leb, ltb-true}
 use Rattle.rules.specs.Base.{exceeds, outside}
 use Rattle.rules.specs.Window.{limits, fresh}
 use Rattle.rules.specs.Calls.{Open, done, unchanged}
 use Rattle.rules.specs.Effects.{effect}
 use Rattle.rules.specs.Refusals.{_if_, checks, firstFailed, settle, step}
-use Rattle.rules.proofs.BaseLaws.{Below, under, over, below, no-true, both-ways, le-of, leb-true, lt-of, over-false, over-true}
+use Rattle.rules.proofs.BaseLaws.{Below, under, over, below, no-true, both-ways, over-false, over-true}
 use Rattle.layout.specs.Codec.{windowSize, encode}
 use Rattle.layout.specs.Memory.{long, handBack, perform}
 use Rattle.layout.proofs.MemoryLaws.{perform-short, perform-still, open-answered, open-numbered, opened-bytes}
@@ -20,7 +21,7 @@ use Rattle.replies.specs.Gives.{Gives}
 
 -- a figure above a bound, by clauses and as a comparison
 exceeds-ltb : (m n : ℕ) → exceeds m n ≡ ltb n m
-exceeds-ltb m n = both-ways _ _ (up (below n m)) (λ e. over-true m n (lt-of n m e))
+exceeds-ltb m n = both-ways _ _ (up (below n m)) (λ e. over-true m n (ltb-true n m e))
   where
     up : {b : Bool} → Below n m b → exceeds m n ≡ true → b ≡ true
     up (under h) e = refl
@@ -38,12 +39,12 @@ module _ (mem : List ℕ) (n : ℕ) where
 
   pub open-short : length mem < windowSize → (r : Reply) → (r .answer ≡ 1) × (r .number ≡ 0) → Gives (perform mem (Open n)) r mem
   unfolding long handBack
-  open-short h r e = rw (perform-short mem (Open n) (no-true (leb windowSize (length mem)) (λ q. omega (arith, le-of windowSize (length mem) q)))) (record { answer = e .0; number = e .1; bytes = refl })
+  open-short h r e = rw (perform-short mem (Open n) (no-true (leb windowSize (length mem)) (λ q. omega (arith, leb-true windowSize (length mem) q)))) (record { answer = e .0; number = e .1; bytes = refl })
 
   module _ (room : windowSize ≤ length mem) where
     is-long : long mem ≡ true
     unfolding long
-    is-long = leb-true windowSize (length mem) room
+    is-long = le-leb windowSize (length mem) room
 
     answered : perform mem (Open n) .answer ≡ cond (outside 1 256 n) 2 0
     answered = open-answered mem (fresh 0) n is-long ∙ ruled

@@ -10,7 +10,7 @@ use native.Mathlib.Omega.{arith}
 use lib.Bits.{bitOr}
 use lib.Dec.{ltb}
 use lib.ListN.{length, getD, set}
-use Rattle.rules.proofs.BaseLaws.{ltb-true, ltb-false}
+use borrow.Author.Tests.{lt-ltb, le-ltb}
 use Rattle.layout.specs.Codec.{byte, unpack}
 use Rattle.cells.specs.Part.{patch}
 use Rattle.cells.specs.Num.{le}
@@ -30,8 +30,8 @@ first-byte bs at b hb e k h = go (decLt k 8)
     go (yes l) =
         let x : at + k / 8 ≡ at = omega arith in
         let y : k % 8 ≡ k = omega arith in
-        rw (ltb-true k 8 l, x, y, e)
-    go (no n) = rw (ltb-false k 8 (omega arith)) (unpack-above b 8 k hb (omega arith))
+        rw (lt-ltb k 8 l, x, y, e)
+    go (no n) = rw (le-ltb k 8 (omega arith)) (unpack-above b 8 k hb (omega arith))
 
 -- one byte more
 pub next-byte : (bs : List ℕ) (at i w b : ℕ) → b < 256 → b ≡ getD bs (at + i) 0 → Joined bs at i w → Joined bs at (i + 1) (bitOr w ((b * 2 ^ (8 * i)) % 2 ^ 64))
@@ -39,20 +39,20 @@ next-byte bs at i w b hb e g k h = unpack-or w ((b * 2 ^ (8 * i)) % 2 ^ 64) k �
   where
     go : Dec (k < 8 * i) → Dec (k < 8 * (i + 1))
         → ltb k (8 * i) && bytesHave bs at k || unpack (b * 2 ^ (8 * i)) k ≡ ltb k (8 * (i + 1)) && bytesHave bs at k
-    go (yes l) m = rw (ltb-true k (8 * i) l, ltb-true k (8 * (i + 1)) (omega arith), unpack-shl-low (8 * i) b k l, or-false (bytesHave bs at k))
+    go (yes l) m = rw (lt-ltb k (8 * i) l, lt-ltb k (8 * (i + 1)) (omega arith), unpack-shl-low (8 * i) b k l, or-false (bytesHave bs at k))
     go (no n) (yes l) =
         let q : k ≡ 8 * i + k % 8 = omega arith in
         let x : at + k / 8 ≡ at + i = omega arith in
         let y = unpack-shl (8 * i) b (k % 8) in
-        rw (ltb-false k (8 * i) (omega arith), ltb-true k (8 * (i + 1)) l, x, ← e) (ap (unpack (b * 2 ^ (8 * i))) q ∙ y)
+        rw (le-ltb k (8 * i) (omega arith), lt-ltb k (8 * (i + 1)) l, x, ← e) (ap (unpack (b * 2 ^ (8 * i))) q ∙ y)
     go (no n) (no m) =
         let q : k ≡ 8 * i + (k - 8 * i) = omega arith in
-        rw (ltb-false k (8 * i) (omega arith), ltb-false k (8 * (i + 1)) (omega arith))
+        rw (le-ltb k (8 * i) (omega arith), le-ltb k (8 * (i + 1)) (omega arith))
         (ap (unpack (b * 2 ^ (8 * i))) q ∙ unpack-shl (8 * i) b (k - 8 * i) ∙ unpack-above b 8 (k - 8 * i) hb (omega arith))
 
 -- all eight
 pub eight-bytes : (bs : List ℕ) (at w : ℕ) → Joined bs at 8 w → (k : ℕ) → k < 64 → unpack w k ≡ bytesHave bs at k
-eight-bytes bs at w g k h = g k h ∙ rw (ltb-true k 64 h)
+eight-bytes bs at w g k h = g k h ∙ rw (lt-ltb k 64 h)
 
 -- a digit of a byte of a number is one of the number's
 pub unpack-byte : (j w b : ℕ) → b < 8 → unpack (byte j w) b ≡ unpack w (8 * j + b)

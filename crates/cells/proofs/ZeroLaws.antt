@@ -8,9 +8,9 @@ use native.Mathlib.Omega.{arith}
 use lib.ListN.{getD}
 use lib.Dec.{eqb}
 use lib.Bits.{bitOr, or-add-and, and-le-l, and-le-r}
-use borrow.Author.Tests.{eq-eqb, ne-eqb, eqb-true, eqb-false}
+use borrow.Author.Tests.{eq-eqb, ne-eqb, eqb-true, eqb-false, not-true, not-false}
 use Rattle.rules.specs.Base.{allBelow}
-use Rattle.rules.proofs.BaseLaws.{no-true, both-ways, Below, under, over, below, not-true, not-false, allBelow-intro, allBelow-at}
+use Rattle.rules.proofs.BaseLaws.{no-true, both-ways, Below, under, over, below, allBelow-intro, allBelow-at}
 use Rattle.cells.specs.Part.{byteIs}
 
 -- an or is zero where both are

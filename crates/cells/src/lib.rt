@@ -63,7 +63,7 @@ pub fn write_u32(s: &mut [u8], at: usize, v: u32)
     s[at + 3] = (v / 256 / 256 / 256 % 256) as u8;
 }
 
-// A byte as a number of 64 bits.
+// A byte as a number of 64 bits. A function, so that its contract says at each use that the number is the byte's.
 fn wide(x: u8) -> u64
     ensures { λ r. ⌜ r ≡ x ⌝ }
 {

@@ -3,16 +3,17 @@ use mathlib.Core.Path.{_≡_, refl, sym, _∙_, ap, ap₂, fun-ext}
 use mathlib.Core.Logic.{_≢_}
 use mathlib.Core.Bool.{Bool, true, false, not, _&&_, _||_, or-false, or-comm}
 use mathlib.Core.List.{List}
-use Prim.Native.Nat.{ℕ, zero, suc, _+_, _-_, _≤_, _<_}
+use Prim.Native.Nat.{ℕ, zero, suc, _+_, _-_, _*_, _≤_, _<_}
 use native.Mathlib.Decide.{decLt}
 use native.Mathlib.Omega.{arith}
 use lib.Dec.{ltb, eqb}
-use lib.ListN.{length, getD}
+use lib.ListN.{length, getD, take, drop}
+use borrow.Author.Tests.{eqb-true, ne-eqb, eqb-false, not-true, lt-ltb, ltb-true, leb-true, leb-false}
 use Rattle.rules.specs.Base.{allBelow, anyBelow, any, rising}
 use Rattle.rules.specs.Sets.{Set}
 use Rattle.rules.specs.Window.{PermitRecord, Window, permitKey}
 use Rattle.rules.specs.Locks.{clash, contains, permitted, pairPermitted, clashesPermitted}
-use Rattle.rules.proofs.BaseLaws.{both-ways, and-both, and-left, and-right, any-intro, any-elim, allBelow-intro, allBelow-at, Same, same, other, same?, eqb-eq, eqb-same, eqb-other, ne-of, not-true, ltb-true, lt-of, le-of, gt-of}
+use Rattle.rules.proofs.BaseLaws.{both-ways, and-both, and-left, and-right, any-intro, any-elim, allBelow-intro, allBelow-at, Same, same, other, same?, eqb-same}
 use Rattle.rules.proofs.ListLaws.{any-at, any-place}
 use Rattle.layout.specs.Codec.{noPermit, lockSection, permitSection}
 use Rattle.layout.specs.Records.{permitAt}
@@ -26,7 +27,7 @@ use Rattle.beside.proofs.PlaceLaws.{any-same}
 use Rattle.clashes.specs.LocksAndPermits.{LocksAndPermits}
 use Rattle.clashes.specs.Permits.{permitFrom, fromEntry}
 use Rattle.clashes.specs.Contested.{contested}
-use Rattle.clashes.proofs.PlaceLaws.{entries-rise}
+use Rattle.clashes.proofs.PlaceLaws.{part-permit, entries-rise}
 use Rattle.clashes.proofs.ContestedLaws.{contested-none}
 
 -- THE PERMITS OF AN ENTRY
@@ -51,7 +52,7 @@ module _ (bs : List ℕ) (count e next from to : ℕ) (lower : (j : ℕ) → j <
     where
       go : Dec (j < next) → permitAt bs j .entry < e
       go (yes l) = lower j l
-      go (no l) = gt-of e (permitAt bs j .entry) (first .before .skipped j (omega arith) h)
+      go (no l) = leb-false e (permitAt bs j .entry) (first .before .skipped j (omega arith) h)
 
   pub lower-last : (j : ℕ) → j < to → permitAt bs j .entry < e + 1
   unfolding fromEntry
@@ -59,13 +60,13 @@ module _ (bs : List ℕ) (count e next from to : ℕ) (lower : (j : ℕ) → j <
     where
       go : Dec (j < from) → permitAt bs j .entry < e + 1
       go (yes l) = omega (arith, lower-first j l)
-      go (no l) = gt-of (e + 1) (permitAt bs j .entry) (last .before .skipped j (omega arith) h)
+      go (no l) = leb-false (e + 1) (permitAt bs j .entry) (last .before .skipped j (omega arith) h)
 
   -- in order, those of e are the ones between
   module _ (order : (i j : ℕ) → i ≤ j → j < count → permitAt bs i .entry ≤ permitAt bs j .entry) where
     own : (j : ℕ) → from ≤ j → j < to → permitAt bs j .entry ≡ e
     unfolding fromEntry
-    own j h l = omega (arith, lower-last j l, le-of e (permitAt bs from .entry) (first .found (omega (arith, last .before .to))), order from j h (omega (arith, last .before .to)))
+    own j h l = omega (arith, lower-last j l, leb-true e (permitAt bs from .entry) (first .found (omega (arith, last .before .to))), order from j h (omega (arith, last .before .to)))
 
     owned : (j : ℕ) → j < count → permitAt bs j .entry ≡ e → (from ≤ j) × (j < to)
     unfolding fromEntry
@@ -77,7 +78,7 @@ module _ (bs : List ℕ) (count e next from to : ℕ) (lower : (j : ℕ) → j <
 
         at : Dec (j < to) → j < to
         at (yes l) = l
-        at (no l) = absurd (omega (arith, le-of (e + 1) (permitAt bs to .entry) (last .found (omega arith)), order to j (omega arith) h))
+        at (no l) = absurd (omega (arith, leb-true (e + 1) (permitAt bs to .entry) (last .found (omega arith)), order to j (omega arith) h))
 
 -- a test of those of e, on the section's records
 module _ (ps : List PermitRecord) (bs : List ℕ) (section : bs ≡ permitSection ps) (most : length ps ≤ 1024) (order : rising permitKey ps ≡ true) (e next from to : ℕ)
@@ -100,7 +101,7 @@ module _ (ps : List PermitRecord) (bs : List ℕ) (section : bs ≡ permitSectio
 
       there : (j : ℕ) → j < length ps → eqb (permitAt bs j .entry) e && q (permitAt bs j) ≡ true → anyBelow (to - from) (λ j. q (permitAt bs (from + j))) ≡ true
       there j h g =
-          let (l, m) = owned bs (length ps) e next from to lower first last rise j h (eqb-eq _ _ (and-left (eqb (permitAt bs j .entry) e) _ g)) in
+          let (l, m) = owned bs (length ps) e next from to lower first last rise j h (eqb-true _ _ (and-left (eqb (permitAt bs j .entry) e) _ g)) in
           let k : from + (j - from) ≡ j = omega arith in
           any-intro (to - from) (λ j. q (permitAt bs (from + j))) (j - from) (omega arith) (rw k (and-right (eqb (permitAt bs j .entry) e) _ g))
 
@@ -114,10 +115,10 @@ entry-same : (n : ℕ) (t t′ : ℕ → PermitRecord) (r x : Set) → ((j : ℕ
 unfolding entryFits othersFit
 entry-same n t t′ r x h = all-ext _ _ 256 (λ a ha. ap (λ w. not (x a) || w) (all-ext _ _ 256 (λ b hb. ap (λ w. not (otherHolder r x a b) || w) (any-same n t t′ _ _ (λ j l. ap (beside r x a b) (h j l))))))
 
--- what the code finds of an entry: r′ and x′ are its readers and writers in code, t its permits there
-pub entry-found : (n : ℕ) (t t′ : ℕ → PermitRecord) (r x r′ x′ : Set) (found : Bool) → ((j : ℕ) → j < n → t j ≡ t′ j) → ((k : ℕ) → r′ k ≡ r k) → ((k : ℕ) → x′ k ≡ x k)
-    → found ≡ entryFits n t r′ x′ → found ≡ entryFits n t′ r x
-entry-found n t t′ r x r′ x′ found ht hr hx e = e ∙ ap₂ (entryFits n t) (fun-ext hr) (fun-ext hx) ∙ entry-same n t t′ r x ht
+-- what the code finds of an entry in the part of the bytes that has its permits: r′ and x′ are its readers and writers in code
+pub entry-found : (bs : List ℕ) (from to : ℕ) {r x r′ x′ : Set} {found : Bool} → ((k : ℕ) → r′ k ≡ r k) → ((k : ℕ) → x′ k ≡ x k)
+    → found ≡ entryFits (to - from) (permitAt (take (to * 4 - from * 4) (drop (from * 4) bs))) r′ x′ → found ≡ entryFits (to - from) (permitFrom bs from) r x
+entry-found bs from to {r} {x} hr hx e = e ∙ ap₂ (entryFits (to - from) _) (fun-ext hr) (fun-ext hx) ∙ entry-same (to - from) _ (permitFrom bs from) r x (λ j h. part-permit bs from (to * 4 - from * 4) j (omega arith))
 
 -- CLASHING PAIRS
 -- the rules, entry by entry
@@ -144,7 +145,7 @@ pair-cases (suc (suc zero)) (suc (suc (suc k))) hm hk u v f g = absurd (omega ar
 
 clash-write : (k : ℕ) → 0 < k → clash 2 k ≡ true
 unfolding clash
-clash-write k h = rw (ltb-true 0 k h)
+clash-write k h = rw (lt-ltb 0 k h)
 
 -- operations contain a mode that is held
 contains-mode : (o m : ℕ) → 0 < m → m ≤ 2 → containsHeld o (eqb m 1) (eqb m 2) ≡ contains o m
@@ -178,15 +179,15 @@ module _ (W : Window) (modes : Modes W.held) (given : W.given < 256) (none-above
 
   mode-set : (m c : ℕ) → c < 256 → inMode m row c ≡ eqb (row c) m
   unfolding inMode
-  mode-set m c h = rw (ltb-true c 256 h)
+  mode-set m c h = rw (lt-ltb c 256 h)
 
   holder : (c : ℕ) → c < 256 → inMode 1 row c || inMode 2 row c ≡ ltb 0 (row c)
   unfolding holding
-  holder c h = row-holders row row-most c ∙ rw (ltb-true c 256 h)
+  holder c h = row-holders row row-most c ∙ rw (lt-ltb c 256 h)
 
   other-holder : (a b : ℕ) → b < 256 → b ≢ a → 0 < row b → otherHolder (inMode 1 row) (inMode 2 row) a b ≡ true
   unfolding otherHolder
-  other-holder a b hb n h = rw (eqb-other b a n, holder b hb, ltb-true 0 (row b) h)
+  other-holder a b hb n h = rw (ne-eqb b a n, holder b hb, lt-ltb 0 (row b) h)
 
   -- an entry whose writers have permits with all other holders
   pairs-permitted : ((a b : ℕ) → a < 256 → b < 256 → inMode 2 row a ≡ true → otherHolder (inMode 1 row) (inMode 2 row) a b ≡ true → 0 < row b → Between a b ≡ true) → entryPermitted W e ≡ true
@@ -223,15 +224,15 @@ module _ (W : Window) (modes : Modes W.held) (given : W.given < 256) (none-above
     between : entryPermitted W e ≡ true → (a b : ℕ) → b ≢ a → row a ≡ 2 → 0 < row b → Between a b ≡ true
     unfolding entryPermitted pairPermitted
     between f a b n ra hb = rw ra at (clear (eqb a b) (not (clash (row a) (row b))) (permitted W.permits a b e (row b)) (permitted W.permits b a e (row a))
-        (eqb-other a b (λ q. n (sym q))) (rw (ra, clash-write (row b) hb))
+        (ne-eqb a b (λ q. n (sym q))) (rw (ra, clash-write (row b) hb))
         (allBelow-at (suc W.given) _ (allBelow-at (suc W.given) _ f a (below-given a (omega arith))) b (below-given b hb)))
 
     found-beside : entryPermitted W e ≡ true → (a b : ℕ) → a < 256 → b < 256 → inMode 2 row a ≡ true → otherHolder (inMode 1 row) (inMode 2 row) a b ≡ true
         → anyOf n t (beside (inMode 1 row) (inMode 2 row) a b) ≡ true
     unfolding otherHolder
     found-beside f a b ha hb xa o =
-        let h : 0 < row b = lt-of 0 (row b) (sym (holder b hb) ∙ and-right (not (eqb b a)) _ o) in
-        beside-between a b hb h ∙ between f a b (ne-of b a (not-true (eqb b a) (and-left (not (eqb b a)) _ o))) (eqb-eq (row a) 2 (sym (mode-set 2 a ha) ∙ xa)) h
+        let h : 0 < row b = ltb-true 0 (row b) (sym (holder b hb) ∙ and-right (not (eqb b a)) _ o) in
+        beside-between a b hb h ∙ between f a b (eqb-false b a (not-true (eqb b a) (and-left (not (eqb b a)) _ o))) (eqb-true (row a) 2 (sym (mode-set 2 a ha) ∙ xa)) h
 
     entry-permitted : entryFits n t (inMode 1 row) (inMode 2 row) ≡ entryPermitted W e
     unfolding entryFits othersFit

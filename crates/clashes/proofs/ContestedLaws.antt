@@ -7,9 +7,10 @@ use native.Mathlib.Omega.{arith}
 use lib.Bits.{bitOr, or-lt}
 use lib.Dec.{ltb, eqb}
 use lib.ListN.{length, getD}
+use borrow.Author.Tests.{eqb-true, ne-eqb}
 use Rattle.rules.specs.Base.{anyBelow, lowestBelow}
 use Rattle.rules.specs.Sets.{Set}
-use Rattle.rules.proofs.BaseLaws.{Same, same, other, same?, eqb-eq, eqb-other, and-both, and-left, and-right, both-ways, any-intro, any-elim, anyBelow-none, none-below}
+use Rattle.rules.proofs.BaseLaws.{Same, same, other, same?, and-both, and-left, and-right, both-ways, any-intro, any-elim, anyBelow-none, none-below}
 use Rattle.layout.specs.Codec.{lockSection}
 use Rattle.cells.proofs.Digits.{unpack-or}
 use Rattle.sets.specs.Members.{loaded}
@@ -31,14 +32,14 @@ loaded-more bs at n acc room h small g = gathered-more (loaded bs at) n acc (bit
     unpack-or acc (getD bs (at + n) 0) b ∙ rw (loaded-full bs at room (n * 8 + b) (omega arith), x, y)) g
 
 -- a set of an entry's row: its readers (m is 0) or its writers (m is 1)
-pub any-in-mode : (bs : List ℕ) (held : ℕ → ℕ → ℕ) → bs ≡ lockSection held → (e m at : ℕ) → e < 256 → m < 2 → at ≡ e * 64 + m * 32
-    → (found : Bool) → found ≡ anyBelow 256 (loaded bs at) → found ≡ anyBelow 256 (inMode (suc m) (held e))
-any-in-mode bs held section e m at he hm place found q = q ∙ rw section (any-ext _ _ 256 (λ k h. row-loaded held e m at he hm place k))
+pub any-in-mode : {bs : List ℕ} (held : ℕ → ℕ → ℕ) → bs ≡ lockSection held → (e m : ℕ) {at : ℕ} → e < 256 → m < 2 → at ≡ e * 64 + m * 32
+    → {found : Bool} → found ≡ anyBelow 256 (loaded bs at) → found ≡ anyBelow 256 (inMode (suc m) (held e))
+any-in-mode held section e m {at} he hm place q = q ∙ rw section (any-ext _ _ 256 (λ k h. row-loaded held e m at he hm place k))
 
 -- a reader is no writer
 pub modes-apart : (row : ℕ → ℕ) (k : ℕ) → inMode 1 row k ≡ true → inMode 2 row k ≡ true → ⊥
 unfolding inMode
-modes-apart row k r x = omega (arith, eqb-eq (row k) 1 (and-right (ltb k 256) _ r), eqb-eq (row k) 2 (and-right (ltb k 256) _ x))
+modes-apart row k r x = omega (arith, eqb-true (row k) 1 (and-right (ltb k 256) _ r), eqb-true (row k) 2 (and-right (ltb k 256) _ x))
 
 -- A WRITER AND ANOTHER HOLDER
 module _ (r x : Set) where
@@ -53,7 +54,7 @@ module _ (r x : Set) where
   contested-reader apart ex er =
       let (a, ha, xa) = any-elim 256 x ex in
       let (b, hb, rb) = any-elim 256 r er in
-      sym (any-intro 256 _ a ha (and-both (x a) _ xa (any-intro 256 _ b hb (rw (eqb-other b a (λ p. apart b rb (rw p xa)), rb)))))
+      sym (any-intro 256 _ a ha (and-both (x a) _ xa (any-intro 256 _ b hb (rw (ne-eqb b a (λ p. apart b rb (rw p xa)), rb)))))
 
   -- there is no reader: a writer besides one of them
   contested-at : (a : ℕ) → a < 256 → x a ≡ true → anyBelow 256 r ≡ false → anyBelow 256 (λ k. not (eqb k a) && x k) ≡ contested r x
@@ -66,7 +67,7 @@ module _ (r x : Set) where
     where
       go : (c : ℕ) → c < 256 → x c ≡ true → (b : ℕ) → b < 256 → not (eqb b c) && x b ≡ true → {i : Bool} → Same c a i → anyBelow 256 (λ k. not (eqb k a) && x k) ≡ true
       go c hc xc b hb o (same p) = any-intro 256 _ b hb (rw p at o)
-      go c hc xc b hb o (other n) = any-intro 256 _ c hc (rw (eqb-other c a n, xc))
+      go c hc xc b hb o (other n) = any-intro 256 _ c hc (rw (ne-eqb c a n, xc))
 
   -- x′ are the writers in code, and `others` those without the lowest
   pub contested-writers : (x′ : Set) → ((k : ℕ) → x′ k ≡ x k) → anyBelow 256 x ≡ true → anyBelow 256 r ≡ false

@@ -18,7 +18,7 @@ use Rattle.clashes.specs.Permits.{permitFrom}
 
 -- A PART OF A SECTION: its permits are those from a place on
 pub part-permit : (bs : List ℕ) (from n j : ℕ) → j * 4 + 4 ≤ n → permitAt (take n (drop (from * 4) bs)) j ≡ permitFrom bs from j
-unfolding permitAt permitFrom part
+unfolding permitAt permitFrom part makePermit
 part-permit bs from n j h =
     let byte : (k at : ℕ) → k < n → from * 4 + k ≡ at → getD (take n (drop (from * 4) bs)) k 0 ≡ getD bs at 0 = λ k at l e. getD-part bs (from * 4) n k l ∙ ap (λ x. getD bs x 0) e in
     λ i. makePermit (byte (j * 4 + 1) ((from + j) * 4 + 1) (omega arith) (omega arith) i) (byte (j * 4 + 2) ((from + j) * 4 + 2) (omega arith) (omega arith) i) (byte (j * 4) ((from + j) * 4) (omega arith) (omega arith) i) (byte (j * 4 + 3) ((from + j) * 4 + 3) (omega arith) (omega arith) i)

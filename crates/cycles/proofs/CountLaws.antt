@@ -5,9 +5,10 @@ use mathlib.Core.Logic.{_≢_}
 use Prim.Native.Nat.{ℕ, zero, suc, _+_, _≤_, _<_}
 use native.Mathlib.Omega.{arith}
 use lib.Dec.{eqb}
+use borrow.Author.Tests.{eqb-true, ne-eqb}
 use Rattle.rules.specs.Base.{countBelow}
 use Rattle.rules.specs.Sets.{Set, only}
-use Rattle.rules.proofs.BaseLaws.{and-map, no-true, count-within, eqb-same, eqb-eq, eqb-other, Same, same, other, same?}
+use Rattle.rules.proofs.BaseLaws.{and-map, no-true, count-within, eqb-same, Same, same, other, same?}
 use Rattle.rules.proofs.BoundLaws.{count-more}
 use Rattle.cycles.specs.Graph.{Graph, comes, lastFrom}
 
@@ -31,7 +32,7 @@ module _ (G : Graph) (s : Set) (m k : ℕ) where
   -- it comes to another label
   pub comes-other : G .to m ≢ k → comes G s (suc m) k ≡ comes G s m k
   unfolding comes countBelow
-  comes-other h = rw (eqb-other (G.to m) k h, and-false (G.arrow m && s (G.from m)))
+  comes-other h = rw (ne-eqb (G.to m) k h, and-false (G.arrow m && s (G.from m)))
 
   -- it is counted
   pub comes-one : G .arrow m ≡ true → s (G .from m) ≡ true → G .to m ≡ k → comes G s (suc m) k ≡ suc (comes G s m k)
@@ -47,7 +48,7 @@ module _ (G : Graph) (m k : ℕ) where
   -- it goes from another label
   pub last-other : G .from m ≢ k → lastFrom G k (suc m) ≡ lastFrom G k m
   unfolding lastFrom only
-  last-other h = rw (eqb-other (G.from m) k h, and-false (G.arrow m))
+  last-other h = rw (ne-eqb (G.from m) k h, and-false (G.arrow m))
 
   -- it is the last from k
   pub last-one : G .arrow m ≡ true → G .from m ≡ k → lastFrom G k (suc m) ≡ suc m
@@ -67,7 +68,7 @@ module _ (G : Graph) (k : ℕ) where
   hits m = go (G .arrow m) (eqb (G .from m) k) refl refl
     where
       go : (a b : Bool) → G .arrow m ≡ a → eqb (G .from m) k ≡ b → Hit m (cond (a && b) (suc m) (lastFrom G k m))
-      go true true p q = hit p (eqb-eq (G .from m) k q)
+      go true true p q = hit p (eqb-true (G .from m) k q)
       go true false p q = miss (λ i. comes-out G (only k) m i q)
       go false b p q = miss (λ i. comes-none G (only k) m i p)
 
@@ -159,4 +160,4 @@ comes-parts G left rest v (suc m) i e h = go (G .arrow m) (same? (G .from m) v) 
         → cond (a && left (G .from m) && c) (suc L) L ≡ cond (a && rest (G .from m) && c) (suc R) R + cond (a && b && c) (suc O) O
     go false q c ih = ih
     go true (same q) c ih = rw (h (G .from m), q, e, eqb-same v) (one c ih)
-    go true (other q) c ih = rw (h (G .from m), eqb-other (G .from m) v q) (another (left (G .from m) && c) ih)
+    go true (other q) c ih = rw (h (G .from m), ne-eqb (G .from m) v q) (another (left (G .from m) && c) ih)

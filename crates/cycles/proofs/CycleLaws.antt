@@ -7,9 +7,10 @@ use Prim.Native.Nat.{ℕ, zero, suc, _+_, _≤_, _<_}
 use native.Mathlib.Omega.{arith}
 use lib.Dec.{eqb}
 use lib.ListN.{getD}
+use borrow.Author.Tests.{not-true, eqb-true}
 use Rattle.rules.specs.Base.{allBelow, anyBelow, countBelow}
 use Rattle.rules.specs.Sets.{Set, reach}
-use Rattle.rules.proofs.BaseLaws.{and-left, and-right, any-intro, any-elim, anyBelow-none, allBelow-intro, allBelow-at, both-ways, no-true, not-true, eqb-eq, eqb-same, count-le, Same, same, other, same?}
+use Rattle.rules.proofs.BaseLaws.{and-left, and-right, any-intro, any-elim, anyBelow-none, allBelow-intro, allBelow-at, both-ways, no-true, eqb-same, count-le, Same, same, other, same?}
 use Rattle.rules.proofs.SetLaws.{reach-seed}
 use Rattle.rules.proofs.PathLaws.{Way, stay, on, way-join, Bounded, reach-ways}
 use Rattle.rules.proofs.SourceLaws.{reach-through}
@@ -44,8 +45,8 @@ module _ (G : Graph) (m : ℕ) where
         w .0,
         w .1,
         and-left (G.arrow (w .0)) (eqb (G.from (w .0)) a) u,
-        eqb-eq (G.from (w .0)) a (and-right (G.arrow (w .0)) (eqb (G.from (w .0)) a) u),
-        eqb-eq (G.to (w .0)) b (and-right (G.arrow (w .0) && eqb (G.from (w .0)) a) (eqb (G.to (w .0)) b) (w .2)),
+        eqb-true (G.from (w .0)) a (and-right (G.arrow (w .0)) (eqb (G.from (w .0)) a) u),
+        eqb-true (G.to (w .0)) b (and-right (G.arrow (w .0) && eqb (G.from (w .0)) a) (eqb (G.to (w .0)) b) (w .2)),
       )
 
   module _ (small : Small G m) where

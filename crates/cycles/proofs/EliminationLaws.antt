@@ -6,9 +6,10 @@ use Prim.Native.Nat.{ℕ, _≤_, _<_}
 use native.Mathlib.Omega.{arith}
 use lib.Dec.{eqb}
 use lib.ListN.{getD}
+use borrow.Author.Tests.{not-true, not-false, eqb-true}
 use Rattle.rules.specs.Base.{anyBelow, countBelow, lowestBelow}
 use Rattle.rules.specs.Sets.{Set, everything, only}
-use Rattle.rules.proofs.BaseLaws.{and-left, and-right, any-intro, not-true, not-false, eqb-same, eqb-eq}
+use Rattle.rules.proofs.BaseLaws.{and-left, and-right, any-intro, eqb-same}
 use Rattle.rules.proofs.BoundLaws.{count-ext, count-more, lowest-found, lowest-below}
 use Rattle.cycles.specs.Graph.{Graph, edge, noCycle, comes, leads, sources}
 use Rattle.cycles.specs.Links.{Lists, Linked, Shows, Removable, Removed}
@@ -51,7 +52,7 @@ module _ (G : Graph) (m : ℕ) (incoming : List ℕ) (left blocked : Set) (p : E
   unfolding comes
   unblocked v h e u q =
       let w = edge-place G m u v q in
-      let z : comes G left m v ≡ 0 = sym (p .counted v h) ∙ eqb-eq (getD incoming v 0) 0 (not-false _ (sym (p .shown .counted v h) ∙ e)) in
+      let z : comes G left m v ≡ 0 = sym (p .counted v h) ∙ eqb-true (getD incoming v 0) 0 (not-false _ (sym (p .shown .counted v h) ∙ e)) in
       let n : G .arrow (w .0) && left (G .from (w .0)) && eqb (G .to (w .0)) v ≡ false = count-none m _ z (w .0) (w .1) in
       go (left u) (rw (w .2, w .3, w .4, eqb-same v) at n)
     where
@@ -66,7 +67,7 @@ module _ (G : Graph) (m : ℕ) (incoming : List ℕ) (left blocked : Set) (p : E
       let w = count-some m (λ j. G .arrow j && left (G .from j) && eqb (G .to j) v)
       (λ z. false≢true (sym (rw (p .counted v h, z) at (p .shown .counted v h)) ∙ e)) in
       let a = and-left (G .arrow (w .0) && left (G .from (w .0))) (eqb (G .to (w .0)) v) (w .2) in
-      let t = eqb-eq (G .to (w .0)) v (and-right (G .arrow (w .0) && left (G .from (w .0))) (eqb (G .to (w .0)) v) (w .2)) in
+      let t = eqb-true (G .to (w .0)) v (and-right (G .arrow (w .0) && left (G .from (w .0))) (eqb (G .to (w .0)) v) (w .2)) in
       (G .from (w .0), and-right (G .arrow (w .0)) (left (G .from (w .0))) a, rw t at (edge-at G m (w .0) (w .1) (and-left (G .arrow (w .0)) (left (G .from (w .0))) a)))
 
   -- where each that is left is blocked, whether any is left decides
@@ -100,7 +101,7 @@ module _ (G : Graph) (m : ℕ) (incoming : List ℕ) (left blocked : Set) (p : E
     source-removable s q = record {
       starts = rw (q .heads v h) (last-again G v m);
       follows = λ j l a. q .next j (omega (arith, q .heads v h, last-most G v m)) a;
-      enough = λ i l. rw (q .heads v h, comes-last G v m i, p .counted i l) (comes-within G (only v) left m i (λ k z. rw (eqb-eq k v z) is-left));
+      enough = λ i l. rw (q .heads v h, comes-last G v m i, p .counted i l) (comes-within G (only v) left m i (λ k z. rw (eqb-true k v z) is-left));
       shown = p .shown;
     }
 

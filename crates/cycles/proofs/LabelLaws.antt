@@ -8,11 +8,12 @@ use native.Mathlib.Numerals.{add-one}
 use native.Mathlib.Omega.{arith}
 use lib.Dec.{eqb}
 use lib.ListN.{length, getD, length-map, List·getD-eq-default}
+use borrow.Author.Tests.{ne-eqb}
 use Rattle.rules.specs.Base.{table}
 use Rattle.rules.specs.Sets.{Rel}
 use Rattle.rules.specs.Window.{TieRecord}
 use Rattle.rules.specs.Ties.{isGroup}
-use Rattle.rules.proofs.BaseLaws.{cond-same, Same, same, other, same?, eqb-other, Below, under, over, below}
+use Rattle.rules.proofs.BaseLaws.{cond-same, Same, same, other, same?, eqb-same, Below, under, over, below}
 use Rattle.rules.proofs.PathLaws.{Way, stay, on, way-join}
 use Rattle.rules.proofs.TieLaws.{group-is}
 use Rattle.layout.specs.Records.{tieOf}
@@ -37,11 +38,7 @@ instead-new a b = cond-same (eqb a b) a
 -- what was old is new
 instead-old : (a b : ℕ) → instead b a b ≡ a
 unfolding instead
-instead-old a b = go (same? b b)
-  where
-    go : {x : Bool} → Same b b x → cond x a b ≡ a
-    go (same e) = refl
-    go (other n) = absurd (n refl)
+instead-old a b = rw (eqb-same b)
 
 -- of a whole list
 map-self : (a : ℕ) (l : List ℕ) → map (instead a a) l ≡ l
@@ -53,7 +50,7 @@ module _ (kind leader follower : ℕ) (l : List ℕ) where
   -- no group tie
   pub joined-none : (kind ≡ 3 → ⊥) → l ≡ joined (tieOf kind leader follower) l
   unfolding joined isGroup
-  joined-none h = rw (eqb-other kind 3 h)
+  joined-none h = rw (ne-eqb kind 3 h)
 
   -- ends that have one label
   pub joined-same : kind ≡ 3 → getD l leader 0 ≡ getD l follower 0 → l ≡ joined (tieOf kind leader follower) l

@@ -9,9 +9,10 @@ use native.Mathlib.Omega.{arith}
 use lib.Dec.{eqb}
 use lib.ListN.{length, getD, set, replicate, length-replicate, getD-replicate, List·getD-eq-default}
 use lib.Seq.{getD-set-same, getD-set-other}
+use borrow.Author.Tests.{ne-eqb}
 use Rattle.rules.specs.Base.{anyBelow, countBelow}
 use Rattle.rules.specs.Sets.{everything, only}
-use Rattle.rules.proofs.BaseLaws.{count-le, Below, under, over, below, eqb-same, eqb-other, Same, same, other, same?}
+use Rattle.rules.proofs.BaseLaws.{count-le, Below, under, over, below, eqb-same, Same, same, other, same?}
 use Rattle.words.specs.Members.{wordsHave}
 use Rattle.sets.specs.Members.{members}
 use Rattle.sets.proofs.Words.{ofWords}
@@ -76,10 +77,10 @@ module _ (G : Graph) (m : ℕ) (s : Lists) (p : Linked G m s) where
 
         leaders : (k : ℕ) → {b : Bool} → Same k (G .from m) b → b || s .leaders k ≡ leads G m k || (G .arrow m && eqb (G .from m) k)
         leaders k (same u) = sym (rw (e, u, eqb-same (G .from m)) (or-true (leads G m (G .from m))))
-        leaders k (other u) = p .leaders k ∙ sym (rw (eqb-other (G .from m) k (λ z. u (sym z)), e) (or-false (leads G m k)))
+        leaders k (other u) = p .leaders k ∙ sym (rw (ne-eqb (G .from m) k (λ z. u (sym z)), e) (or-false (leads G m k)))
 
         blocked : (k : ℕ) → {b : Bool} → Same k (G .to m) b → b || s .blocked k ≡ not (eqb (comes G everything (suc m) k) 0)
-        blocked k (same u) = sym (rw (comes-one G everything m k e refl (sym u), eqb-other (suc (comes G everything m k)) 0 (λ z. omega arith)))
+        blocked k (same u) = sym (rw (comes-one G everything m k e refl (sym u), ne-eqb (suc (comes G everything m k)) 0 (λ z. omega arith)))
         blocked k (other u) = rw (comes-other G everything m k (λ z. u (sym z))) (p .blocked k)
 
   -- one place more

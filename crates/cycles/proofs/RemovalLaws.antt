@@ -8,8 +8,9 @@ use native.Mathlib.Omega.{arith}
 use lib.Dec.{eqb}
 use lib.ListN.{length, getD, set, length-set}
 use lib.Seq.{getD-set-same, getD-set-other}
+use borrow.Author.Tests.{ne-eqb}
 use Rattle.rules.specs.Sets.{Set, only}
-use Rattle.rules.proofs.BaseLaws.{eqb-same, eqb-other, Same, same, other, same?}
+use Rattle.rules.proofs.BaseLaws.{eqb-same, Same, same, other, same?}
 use Rattle.cycles.specs.Graph.{Graph, comes, lastFrom}
 use Rattle.cycles.specs.Links.{Shows, Removable, Removed}
 use Rattle.cycles.proofs.CountLaws.{comes-zero, comes-one, comes-other, comes-last, last-most, last-again, last-hit}
@@ -21,7 +22,7 @@ last-gone n k s r e h i = rw (e, eqb-same 0, and-true (eqb i k)) (h i)
 
 -- one of more
 pub more-left : (n k : ℕ) (s : Set) → (n ≡ 0 → ⊥) → (i : ℕ) → s i ≡ not (eqb i k && eqb n 0) && s i
-more-left n k s h i = rw (eqb-other n 0 h, and-false (eqb i k))
+more-left n k s h i = rw (ne-eqb n 0 h, and-false (eqb i k))
 
 -- the set goes on showing the counts
 shows-next : (incoming after : List ℕ) (blocked rest : Set) (k : ℕ) → k < length incoming → 0 < getD incoming k 0 → after ≡ set incoming k (getD incoming k 0 - 1)
@@ -29,7 +30,7 @@ shows-next : (incoming after : List ℕ) (blocked rest : Set) (k : ℕ) → k < 
 shows-next incoming after blocked rest k l pos e h s = record { counted = λ i q. rw (e, h i) (at i q (same? i k)) }
   where
     at : (i : ℕ) → i < 256 → {b : Bool} → Same i k b → not (b && eqb (getD incoming k 0 - 1) 0) && blocked i ≡ not (eqb (getD (set incoming k (getD incoming k 0 - 1)) i 0) 0)
-    at i q (same u) = rw (u, getD-set-same incoming k (getD incoming k 0 - 1) 0 l, s .counted k (rw u at q), eqb-other (getD incoming k 0) 0 (λ z. omega arith)) (and-true _)
+    at i q (same u) = rw (u, getD-set-same incoming k (getD incoming k 0 - 1) 0 l, s .counted k (rw u at q), ne-eqb (getD incoming k 0) 0 (λ z. omega arith)) (and-true _)
     at i q (other u) = rw (getD-set-other incoming k i (getD incoming k 0 - 1) 0 u) (s .counted i q)
 
 -- ALL OF THEM

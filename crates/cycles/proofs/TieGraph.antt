@@ -19,10 +19,13 @@ use Rattle.cycles.specs.Graph.{Graph, ownLabels, labelled, arrowAt, grap
 use Rattle.cycles.proofs.LabelLaws.{Labels, labels-all, small-labels}
 use Rattle.cycles.proofs.CycleLaws.{Small, small-graph, edge-at, edge-place, no-cycle-ways}
 
--- a path of arrows goes on inside the last group
+-- an arrow goes on inside the group that it enters, and so does a path of arrows
+further : {ts : List TieRecord} {x y z : ℕ} → Arrow ts x y → Way (grouped ts) y z → Arrow ts x z
+further a w = record { leader = a .leader; follower = a .follower; leaves = a .leaves; tie = a .tie; enters = way-join (a .enters) w }
+
 extend : {ts : List TieRecord} {x y z : ℕ} → Arrows ts x y → Way (grouped ts) y z → Arrows ts x z
-extend (one a) w = one (record { leader = a .leader; follower = a .follower; leaves = a .leaves; tie = a .tie; enters = way-join (a .enters) w })
-extend (more p a) w = more p (record { leader = a .leader; follower = a .follower; leaves = a .leaves; tie = a .tie; enters = way-join (a .enters) w })
+extend (one a) w = one (further a w)
+extend (more p a) w = more p (further a w)
 
 -- ties in bytes, and the labels of their groups
 module _ (bs : List ℕ) (ts : List TieRecord) (m : ℕ) (bytes : (i : ℕ) → getD bs i 0 < 256) (len : length ts ≡ m) (is : bs ≡ tieSection ts) (room : 4 * m ≤ length bs) where

@@ -1,5 +1,6 @@
 // Whether the arrows between groups of changes close a cycle (a topological sort of the groups).
 use layout::Ties;
+use passes::is_arrow;
 use sets::ChangeSet;
 use words::insert;
 use words::remove;
@@ -33,16 +34,6 @@ pub fn acyclic(ties: &[u8], count: usize) -> bool
         return eliminate(ties, count, &labels, &mut heads, &mut next, &mut incoming);
     }
     true
-}
-
-// Whether a tie of that kind is an arrow.
-fn is_arrow(kind: u8) -> bool
-    ensures { λ r. ⌜ r ≡ isArrow kind ⌝ }
-{
-    if kind == 1 {
-        return true;
-    }
-    kind == 2
 }
 
 // Whether an arrow stands.

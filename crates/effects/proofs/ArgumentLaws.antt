@@ -4,16 +4,18 @@ use mathlib.Core.Bool.{true, false, not}
 use mathlib.Core.List.{List}
 use Prim.Native.Nat.{ℕ, suc, _+_, _≤_, _<_}
 use native.Mathlib.Omega.{arith}
+use borrow.Author.Tests.{ltb-false}
 use Rattle.rules.specs.Window.{limits, noChange}
 use Rattle.rules.specs.Calls.{Initiate, Begin, Complete, Lock}
 use Rattle.rules.specs.Refusals.{_if_, checks, firstFailed}
-use Rattle.rules.proofs.BaseLaws.{ge-of, within-of}
+use Rattle.rules.proofs.BaseLaws.{within-of}
 use Rattle.rules.proofs.SoundParts.{inside-of}
 use Rattle.layout.specs.Codec.{decode}
 use Rattle.layout.specs.Memory.{soundBytes}
+use Rattle.layout.proofs.SoundCodec.{given-most}
 use Rattle.layout.proofs.MemoryLaws.{bytes-sound}
 use Rattle.replies.proofs.GiveLaws.{unrefused}
-use Rattle.reads.proofs.ReadLaws.{given-most, change-fits, entry-fits}
+use Rattle.reads.proofs.ReadLaws.{change-fits, entry-fits}
 
 module _ (bs : List ℕ) (s : soundBytes bs ≡ true) where
   pub begin-known : (c : ℕ) → firstFailed (checks limits (decode bs) (Begin c)) ≡ 0 → noChange (decode bs) c ≡ false
@@ -28,7 +30,7 @@ module _ (bs : List ℕ) (s : soundBytes bs ≡ true) where
   unfolding checks _if_ limits
   initiate-known p q g e = let k = unrefused (decode bs) (Initiate p) q in (
     omega (arith, within-of (suc (decode bs .given)) 255 (ap not (k .1 .1 .0))),
-    omega (arith, given-most (decode bs) (bytes-sound bs s), ge-of (decode bs .given) p (k .0)),
+    omega (arith, given-most (decode bs) (bytes-sound bs s), ltb-false (decode bs .given) p (k .0)),
   )
 
   pub lock-known : (c e m : ℕ) → firstFailed (checks limits (decode bs) (Lock c e m)) ≡ 0 → (c < 256) × (e < 256) × (1 ≤ m) × (m ≤ 2)

@@ -4,13 +4,12 @@ use mathlib.Core.Bool.{Bool, true, false}
 use mathlib.Core.List.{List}
 use Prim.Native.Nat.{ℕ, suc, _+_, _≤_, _<_}
 use native.Mathlib.Omega.{arith}
-use borrow.Author.Tests.{lt-leb}
+use borrow.Author.Tests.{lt-leb, le-leb}
 use lib.ListN.{take, drop, set}
 use Rattle.rules.specs.Base.{put, put2}
 use Rattle.rules.specs.Window.{Window, withStatus, withHeld}
 use Rattle.rules.specs.Calls.{Initiate, Lock, done}
 use Rattle.rules.specs.Effects.{effect, addChange, covers, grantable, putHeld, lockEntry}
-use Rattle.rules.proofs.BaseLaws.{leb-true}
 use Rattle.layout.specs.Codec.{changesAt, changesSize, locksAt, locksSize, figures, changeSection, lockSection, lay, decode, encode}
 use Rattle.layout.specs.Memory.{soundBytes}
 use Rattle.layout.proofs.PutLaws.{laidAt, withChanges}
@@ -59,17 +58,17 @@ module _ (bs : List ℕ) (s : soundBytes bs ≡ true) (r : Reply) where
   -- LOCK: a lock held covers the mode, others keep it from being granted, or it is granted
   pub lock-covered : (c e m h : ℕ) → h ≡ decode bs .held e c → m ≤ h → (r .answer ≡ 0) × (r .number ≡ 0) → Gives (written (effect (decode bs) (Lock c e m))) r bs
   unfolding effect lockEntry covers
-  lock-covered c e m h q l a = rw (leb-true m (decode bs .held e c) (omega arith)) (looked bs s 0 r a)
+  lock-covered c e m h q l a = rw (le-leb m (decode bs .held e c) (omega arith)) (looked bs s 0 r a)
 
   pub lock-blocked : (c e m h : ℕ) (b : Bool) → h ≡ decode bs .held e c → h < m → b ≡ grantable (decode bs) c e m → b ≡ false → (r .answer ≡ 20) × (r .number ≡ 0)
       → Gives (written (effect (decode bs) (Lock c e m))) r bs
   unfolding effect lockEntry covers
   lock-blocked c e m h b q l g n a = rw (lt-leb m (decode bs .held e c) (omega arith), sym g ∙ n) (left bs s 20 0 r (a .0) (a .1))
 
-  pub lock-granted : (c e m h : ℕ) (b : Bool) (out : List ℕ) → h ≡ decode bs .held e c → h < m → b ≡ grantable (decode bs) c e m → b ≡ true → m ≤ 2
+  pub lock-taken : (c e m h : ℕ) (b : Bool) (out : List ℕ) → h ≡ decode bs .held e c → h < m → b ≡ grantable (decode bs) c e m → b ≡ true → m ≤ 2
       → ((held : ℕ → ℕ → ℕ) → m ≤ 2 → take locksSize (drop locksAt bs) ≡ lockSection held → out ≡ lockSection (put2 held e c m))
       → (r .answer ≡ 0) × (r .number ≡ 0) → Gives (written (effect (decode bs) (Lock c e m))) r (laidAt bs locksAt locksSize out)
   unfolding effect lockEntry covers putHeld
-  lock-granted c e m h b out q l g t u f a =
+  lock-taken c e m h b out q l g t u f a =
       let W = decode bs in
       rw (lt-leb m (W .held e c) (omega arith), sym g ∙ t) (given-done 0 (withHeld W (put2 W.held e c m)) r _ a (locks-lent (figures W) W (laid-known bs s) _ (f W.held u) ∙ with-held W (put2 W.held e c m)))

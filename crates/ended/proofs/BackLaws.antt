@@ -10,33 +10,33 @@ use Rattle.rules.specs.Effects.{isUnowned, unowned, permitsLeft, tiesLeft}
 use Rattle.rules.proofs.ListLaws.{length-keep}
 use Rattle.layout.specs.Codec.{headAt, headSize, valuesAt, valuesSize, changesAt, changesSize, locksAt, locksSize, permitsAt, permitsSize, tiesAt, tiesSize, logAt, logSize, figures, valueSection, changeSection, lockSection, permitSection, tieSection, logSection, lay, encode}
 use Rattle.layout.specs.Records.{Tabled}
-use Rattle.layout.proofs.PartLaws.{changes-part, locks-part, permits-part, ties-part, log-part}
-use Rattle.layout.proofs.LentLaws.{lent, FigureStored, head-lent}
-use Rattle.layout.proofs.PutLaws.{laidAt, withChanges, values-put, changes-put, locks-put, permits-put, ties-put, log-put}
+use Rattle.layout.proofs.PartLaws.{permits-part, ties-part, log-part}
+use Rattle.layout.proofs.LentLaws.{lent, FigureStored, values-lent, changes-lent, locks-lent, figure-stored}
+use Rattle.layout.proofs.PutLaws.{laidAt, withChanges, permits-put, ties-put, log-put}
 
 module _ (W : Window) {bs : List ℕ} (e : bs ≡ encode W) where
   -- THE TABLES OF A FIXED SIZE
   pub statuses-back : (x : ℕ → ℕ) {out : List ℕ} → (take changesSize (drop changesAt bs) ≡ changeSection (W .status) (W .parent) → out ≡ changeSection x (W .parent)) → laidAt bs changesAt changesSize out ≡ encode (withStatus W x)
   unfolding encode figures withStatus withChanges lay
-  statuses-back x = lent changesAt changesSize (changes-part (figures W) W) (changes-put (figures W) W x (W .parent)) e
+  statuses-back x = changes-lent (figures W) W e x (W .parent)
 
   pub locks-back : (x : ℕ → ℕ → ℕ) {out : List ℕ} → (take locksSize (drop locksAt bs) ≡ lockSection (W .held) → out ≡ lockSection x) → laidAt bs locksAt locksSize out ≡ encode (withHeld W x)
   unfolding encode figures withHeld lay
-  locks-back x = lent locksAt locksSize (locks-part (figures W) W) (locks-put (figures W) W x) e
+  locks-back x = locks-lent (figures W) W e x
 
   pub values-back : (x : ℕ → ℕ) {out : List ℕ} → out ≡ valueSection x → laidAt bs valuesAt valuesSize out ≡ encode (withValue W x)
   unfolding encode figures withValue lay
-  values-back x h = ap (laidAt bs valuesAt valuesSize) h ∙ ap (λ l. laidAt l valuesAt valuesSize (valueSection x)) e ∙ values-put (figures W) W x
+  values-back x h = values-lent (figures W) W e x (λ q. h)
 
   -- A TABLE THAT LOST RECORDS, and then its figure stored
   module _ {A : Type 0} (section : List A → List ℕ) (l : List A) (after : List A → Window) (at n k : ℕ) where
     table-left : take n (drop at (lay (figures W) W)) ≡ section l → ((x : List A) → laidAt (lay (figures W) W) at n (section x) ≡ lay (figures W) (after x)) → k < 5
-        → ((x : List A) → lay (set (figures W) k (length x)) (after x) ≡ encode (after x)) → (x : List A) (r : ℕ) {out head : List ℕ}
+        → ((x : List A) → set (figures W) k (length x) ≡ figures (after x)) → (x : List A) (r : ℕ) {out head : List ℕ}
         → (take n (drop at bs) ≡ section l → Tabled section x r out) → FigureStored (laidAt bs at n out) k r head → laidAt (laidAt bs at n out) headAt headSize head ≡ encode (after x)
-    unfolding encode figures
+    unfolding encode
     table-left cut put h own x r {out} f g =
         let d = f (ap (λ b. take n (drop at b)) e ∙ cut) in
-        head-lent (figures W) (after x) (lent at n cut (put x) e (λ q. d .bytes)) k r (omega arith) g ∙ ap (λ c. lay (set (figures W) k c) (after x)) (d .count) ∙ own x
+        figure-stored W (after x) (lent at n cut (put x) e (λ q. d .bytes)) k r h g (ap (set (figures W) k) (d .count) ∙ own x)
 
   -- what is left of the log is counted in two bytes
   pub log-fits : (m : Set) (count r : ℕ) {out : List ℕ} → count ≡ length (W .log) → count ≤ 2048 → ((l : List LogRecord) → length l ≡ count → take logSize (drop logAt bs) ≡ logSection l → Tabled logSection (unowned m l) r out) → r < 65536

@@ -7,6 +7,7 @@ use Prim.Native.Nat.{ℕ, suc, _≤_}
 use native.Mathlib.Omega.{arith}
 use lib.Dec.{ltb, eqb}
 use lib.ListN.{length, take, drop}
+use borrow.Author.Tests.{not-true, not-false, eqb-true, ne-eqb, ltb-true}
 use Rattle.rules.specs.Base.{anyBelow, countBelow, lowestBelow}
 use Rattle.rules.specs.Sets.{Set, Rel, reach}
 use Rattle.rules.specs.Window.{limits, TieRecord, Window, live, noChange, withValue}
@@ -14,21 +15,20 @@ use Rattle.rules.specs.Ties.{isArrow, grouped, falling, groupOf, endSet}
 use Rattle.rules.specs.Calls.{Commit, Abort, Outcome, done, unchanged}
 use Rattle.rules.specs.Effects.{endAll, undo, size, commitBlockers, commitGroup, commitChange, abortAll, abortChange, effect, leadsTo, leadersOf}
 use Rattle.rules.specs.Refusals.{_if_, checks, firstFailed}
-use Rattle.rules.proofs.BaseLaws.{and-left, and-right, or-cases, both-ways, and-both, not-true, not-false, no-true, eqb-eq, eqb-same, eqb-other, lt-of, Below, under, over, below}
+use Rattle.rules.proofs.BaseLaws.{and-left, and-right, or-cases, both-ways, and-both, no-true, eqb-same, Below, under, over, below}
 use Rattle.rules.proofs.ListLaws.{find}
-use Rattle.rules.proofs.SoundParts.{status-none, live-below, live-of}
+use Rattle.rules.proofs.SoundParts.{status-none, live-below, live-of, ends-below}
 use Rattle.rules.proofs.SoundStep.{group-live, fall-live}
 use Rattle.layout.specs.Codec.{changesAt, changesSize, tiesAt, tiesSize, changeSection, tieSection, decode, encode}
 use Rattle.layout.specs.Memory.{soundBytes}
 use Rattle.layout.specs.Records.{endsBelow}
-use Rattle.layout.proofs.SoundCodec.{sound-again}
+use Rattle.layout.proofs.SoundCodec.{given-most, sound-again}
 use Rattle.layout.proofs.MemoryLaws.{bytes-sound}
 use Rattle.rules.proofs.BoundLaws.{any-bound, lowest-bound, count-bound}
-use Rattle.graph.proofs.WindowLaws.{sound-ends, blockers-leaders}
 use Rattle.replies.specs.declared.Reply.{Reply}
 use Rattle.replies.specs.Gives.{Gives, written}
 use Rattle.replies.proofs.GiveLaws.{left, looked, unrefused}
-use Rattle.reads.proofs.ReadLaws.{changes-known, ties-known, given-most}
+use Rattle.reads.proofs.ReadLaws.{changes-known, ties-known}
 use Rattle.ended.proofs.EndLaws.{undo-sound}
 
 module _ (bs : List ℕ) (s : soundBytes bs ≡ true) where
@@ -50,7 +50,7 @@ module _ (bs : List ℕ) (s : soundBytes bs ≡ true) where
     status-is z q = rw (sym e ∙ q) (eqb-same z)
 
     status-not : (z : ℕ) → st ≢ z → eqb (decode bs .status c) z ≡ false
-    status-not z n = eqb-other (decode bs .status c) z (λ q. n (e ∙ q))
+    status-not z n = ne-eqb (decode bs .status c) z (λ q. n (e ∙ q))
 
     still-live : noChange (decode bs) c ≡ false → st ≢ 4 → st ≢ 5 → live (decode bs) c ≡ true
     still-live known n m = live-of limits (decode bs) (bytes-sound bs s) c known (status-not 4 n) (status-not 5 m)
@@ -80,13 +80,13 @@ module _ (bs : List ℕ) (s : soundBytes bs ≡ true) where
 
     -- nor has what holds up its commit
     blockers-past : (k : ℕ) → suc (decode bs .given) ≤ k → commitBlockers (decode bs) m k ≡ false
-    unfolding leadersOf leadsTo endsBelow
+    unfolding commitBlockers leadersOf leadsTo
     blockers-past k h = no-true _ (λ q. ⊎-elim (λ a. omega (arith, live-below (decode bs) k (lives k (and-left (m k) _ a))))
-        (λ a. let t = find (leadsTo m k) (λ t. ltb t.leader (suc (decode bs .given)) && ltb t.follower (suc (decode bs .given))) (decode bs .ties) a (sound-ends limits (decode bs) (bytes-sound bs s)) in go (t .0) (t .1) (t .2))
-        (or-cases (m k && not (eqb (decode bs .status k) 3)) (leadersOf (decode bs .ties) m k) (sym (blockers-leaders (decode bs) m k) ∙ q)))
+        (λ a. let t = find (leadsTo m k) (λ t. ltb t.leader (suc (decode bs .given)) && ltb t.follower (suc (decode bs .given))) (decode bs .ties) a (ends-below (decode bs) (bytes-sound bs s .ties)) in go (t .0) (t .1) (t .2))
+        (or-cases (m k && not (eqb (decode bs .status k) 3)) (leadersOf (decode bs .ties) m k) q))
       where
         go : (t : TieRecord) → leadsTo m k t ≡ true → ltb t.leader (suc (decode bs .given)) && ltb t.follower (suc (decode bs .given)) ≡ true → ⊥
-        go t a b = omega (arith, eqb-eq t.leader k (and-right (isArrow t.kind) (eqb t.leader k) (and-left (isArrow t.kind && eqb t.leader k) (m t.follower) a)), lt-of t.leader (suc (decode bs .given)) (and-left (ltb t.leader (suc (decode bs .given))) _ b))
+        go t a b = omega (arith, eqb-true t.leader k (and-right (isArrow t.kind) (eqb t.leader k) (and-left (isArrow t.kind && eqb t.leader k) (m t.follower) a)), ltb-true t.leader (suc (decode bs .given)) (and-left (ltb t.leader (suc (decode bs .given))) _ b))
 
   -- THE GROUP AND THE END SET, read from the ties
   module _ (c count : ℕ) (n : count ≡ length (decode bs .ties)) (m : Set) where
@@ -94,7 +94,8 @@ module _ (bs : List ℕ) (s : soundBytes bs ≡ true) where
     ReachedBy r = (ts : List TieRecord) → length ts ≡ count → take tiesSize (drop tiesAt bs) ≡ tieSection ts → (i : ℕ) → endsBelow i ts ≡ true → (k : ℕ) → m k ≡ reach i (r ts) c k
 
     reached : (r : List TieRecord → Rel) → ReachedBy r → m ≡ reach (suc (decode bs .given)) (r (decode bs .ties)) c
-    reached r f = fun-ext (f (decode bs .ties) (sym n) (ties-known bs s) (suc (decode bs .given)) (sound-ends limits (decode bs) (bytes-sound bs s)))
+    unfolding endsBelow
+    reached r f = fun-ext (f (decode bs .ties) (sym n) (ties-known bs s) (suc (decode bs .given)) (ends-below (decode bs) (bytes-sound bs s .ties)))
 
     pub group-read : ReachedBy grouped → m ≡ groupOf (decode bs) c
     unfolding groupOf
@@ -109,15 +110,16 @@ module _ (bs : List ℕ) (s : soundBytes bs ≡ true) where
       → ((st pa : ℕ → ℕ) → take changesSize (drop changesAt bs) ≡ changeSection st pa → (k : ℕ) → completed k ≡ ltb k (suc given) && eqb (st k) 3)
       → ((ts : List TieRecord) → length ts ≡ count → take tiesSize (drop tiesAt bs) ≡ tieSection ts → (k : ℕ) → leaders k ≡ leadersOf ts g k)
       → ((k : ℕ) → rest k ≡ g k && not (completed k)) → ((k : ℕ) → all k ≡ rest k || leaders k) → (k : ℕ) → all k ≡ commitBlockers (decode bs) g k
+  unfolding commitBlockers
   blockers-read given count g completed rest leaders all x n f h r a k =
-      a k ∙ rw (r k, f (decode bs .status) (decode bs .parent) (changes-known bs s) k, h (decode bs .ties) (sym n) (ties-known bs s) k, is) (sym (blockers-leaders (decode bs) g k))
+      a k ∙ rw (r k, f (decode bs .status) (decode bs .parent) (changes-known bs s) k, h (decode bs .ties) (sym n) (ties-known bs s) k, is)
     where
       is : ltb k (suc given) && eqb (decode bs .status k) 3 ≡ eqb (decode bs .status k) 3
       is = both-ways _ _ (and-right (ltb k (suc given)) _) (λ q. and-both (ltb k (suc given)) _ (go (below k (suc given)) q) q)
         where
           go : {b : Bool} → Below k (suc given) b → eqb (decode bs .status k) 3 ≡ true → b ≡ true
           go (under l) q = refl
-          go (over l) q = absurd (omega (arith, eqb-eq (decode bs .status k) 3 q, status-none limits (decode bs) (bytes-sound bs s) k (omega arith)))
+          go (over l) q = absurd (omega (arith, eqb-true (decode bs .status k) 3 q, status-none limits (decode bs) (bytes-sound bs s) k (omega arith)))
 
   -- COMMIT
   module _ (c st : ℕ) (q : firstFailed (checks limits (decode bs) (Commit c)) ≡ 0) (e : st ≡ decode bs .status c) (n : st ≢ 4) (m : st ≢ 5) (g : Set) (is : g ≡ groupOf (decode bs) c) where
@@ -137,10 +139,10 @@ module _ (bs : List ℕ) (s : soundBytes bs ≡ true) where
           let t = sym any-blocks ∙ not-false (anyBelow 256 b) (sym x ∙ y) in
           not-ended c st e 4 5 _ n m (rw (← is) (rw t (left bs s 20 _ r a (l ∙ ap (lowestBelow 256) same ∙ lowest-bound (commitBlockers (decode bs) g) (suc (decode bs .given)) 256 given-below (blockers-past g group-lives) t))))
 
-      pub commit-done : (empty : Bool) → empty ≡ not (anyBelow 256 b) → empty ≡ true → (count : ℕ) → count ≡ countBelow 256 g → (r : Reply) → (r .answer ≡ 0) × (r .number ≡ count) → (after : List ℕ) → after ≡ encode (endAll 4 g (decode bs))
+      pub commit-ends : (empty : Bool) → empty ≡ not (anyBelow 256 b) → empty ≡ true → (count : ℕ) → count ≡ countBelow 256 g → (r : Reply) → (r .answer ≡ 0) × (r .number ≡ count) → (after : List ℕ) → after ≡ encode (endAll 4 g (decode bs))
           → Gives (written (effect (decode bs) (Commit c))) r after
       unfolding effect commitChange commitGroup written done
-      commit-done empty x y count k r a after w =
+      commit-ends empty x y count k r a after w =
           let t = sym any-blocks ∙ not-true (anyBelow 256 b) (sym x ∙ y) in
           not-ended c st e 4 5 _ n m (rw (← is) (rw t (record { answer = a .0; number = a .1 ∙ k ∙ all-counted g group-lives; bytes = w })))
 

@@ -5,11 +5,12 @@ use mathlib.Core.Bool.{Bool, true, false, not, _&&_, _||_, and-true, and-false, 
 use Prim.Native.Nat.{ℕ, _+_}
 use native.Mathlib.Numerals.{add-one}
 use lib.Dec.{eqb}
+use borrow.Author.Tests.{ne-eqb}
 use Rattle.rules.specs.Base.{anyBelow}
 use Rattle.rules.specs.Sets.{Set}
 use Rattle.rules.specs.Window.{PermitRecord}
 use Rattle.rules.specs.Locks.{contains, makePermit}
-use Rattle.rules.proofs.BaseLaws.{Same, same, other, same?, eqb-same, eqb-other}
+use Rattle.rules.proofs.BaseLaws.{Same, same, other, same?, eqb-same}
 use Rattle.rules.proofs.BoundLaws.{none-as}
 use Rattle.beside.specs.Permits.{anyOf}
 use Rattle.beside.specs.Beside.{containsHeld, beside, otherHolder, othersFit}
@@ -31,24 +32,25 @@ nothing-struck s m test t = rw (t, and-false m, and-true s)
 -- one permit g, t, e, o, beside the writer a: another change k is left just where the permit does not let it stand there
 module _ (r x : Set) (a k g t e o : ℕ) (others : k ≢ a) (s s′ : Bool) where
   -- the writer gives it to anybody
-  pub anybody-struck : g ≡ a → t ≡ 0 → (m : Bool) → m ≡ s && not (r k && (eqb o 1 || eqb o 3)) → s′ ≡ m && not (x k && (eqb o 2 || eqb o 3)) → s′ ≡ s && not (beside r x a k (makePermit g t e o))
-  unfolding beside containsHeld makePermit contains
-  anybody-struck eg et m em es = es ∙ rw (em, eg, et, eqb-same a, or-true (eqb 0 k), eqb-other a k (λ q. others (sym q)), or-false (r k && (eqb o 1 || eqb o 3) || x k && (eqb o 2 || eqb o 3)))
-      (not-either s (r k && (eqb o 1 || eqb o 3)) (x k && (eqb o 2 || eqb o 3)))
+  pub anybody-struck : g ≡ a → t ≡ 0 → (read write m : Bool) → read ≡ contains o 1 → write ≡ contains o 2
+      → m ≡ s && not (r k && read) → s′ ≡ m && not (x k && write) → s′ ≡ s && not (beside r x a k (makePermit g t e o))
+  unfolding beside containsHeld makePermit
+  anybody-struck eg et read write m er ew em es = es ∙ rw (em, er, ew, eg, et, eqb-same a, or-true (eqb 0 k), ne-eqb a k (λ q. others (sym q)), or-false (r k && contains o 1 || x k && contains o 2))
+      (not-either s (r k && contains o 1) (x k && contains o 2))
 
   -- it gives it to one
   pub taker-struck : g ≡ a → t ≢ 0 → (sv : Bool) → sv ≡ containsHeld o (r t) (x t) → s′ ≡ s && not (eqb t k && sv) → s′ ≡ s && not (beside r x a k (makePermit g t e o))
   unfolding beside makePermit
-  taker-struck eg et sv ev es = es ∙ rw (ev, eg, eqb-same a, eqb-other t 0 et, eqb-other a k (λ q. others (sym q))) (go (same? t k))
+  taker-struck eg et sv ev es = es ∙ rw (ev, eg, eqb-same a, ne-eqb t 0 et, ne-eqb a k (λ q. others (sym q))) (go (same? t k))
     where
       go : {b : Bool} → Same t k b → s && not (b && containsHeld o (r t) (x t)) ≡ s && not ((b || false) && containsHeld o (r k) (x k) || false)
       go (same q) = rw (q, or-false (containsHeld o (r k) (x k)))
       go (other n) = refl
 
   -- another gives it
-  pub giver-struck : g ≢ a → s′ ≡ s && not (eqb g k && ((eqb t a || eqb t 0) && (eqb o 2 || eqb o 3))) → s′ ≡ s && not (beside r x a k (makePermit g t e o))
-  unfolding beside makePermit contains
-  giver-struck n es = es ∙ rw (eqb-other g a n)
+  pub giver-struck : g ≢ a → (write : Bool) → write ≡ contains o 2 → s′ ≡ s && not (eqb g k && ((eqb t a || eqb t 0) && write)) → s′ ≡ s && not (beside r x a k (makePermit g t e o))
+  unfolding beside makePermit
+  giver-struck n write ew es = es ∙ rw (ew, ne-eqb g a n)
 
 -- ALL PERMITS
 module _ (t : ℕ → PermitRecord) (p : PermitRecord → Bool) where

@@ -1,4 +1,5 @@
 // An entry with few permits: for each writer one pass over them strikes out whom they let stand beside it.
+use beside::contains;
 use beside::contains_held;
 use layout::Permits;
 use sets::ChangeSet;
@@ -58,10 +59,10 @@ fn strike(
     let giver = permits[at + 1];
     let taker = permits[at + 2];
     let operations = permits[at + 3];
-    let write = (operations == 2) | (operations == 3);
+    let write = contains(operations, 2);
     if giver == writer {
         if taker == 0 {
-            strike_set(left, readers, (operations == 1) | (operations == 3));
+            strike_set(left, readers, contains(operations, 1));
             strike_set(left, writers, write);
             return;
         }

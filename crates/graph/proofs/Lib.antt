@@ -4,5 +4,3 @@ pub mod ReachLaws
 -- paths along ties; when one tie more lets a path of arrows return
 pub mod WayLaws
 pub mod ReturnLaws
--- the same in the rules' words of a window
-pub mod WindowLaws

@@ -2,18 +2,18 @@
 use mathlib.Core.Path.{_≡_, refl, sym, ap, fun-ext, _∙_}
 use mathlib.Core.Bool.{Bool, true, false, _&&_, _||_, or-false, and-true, or-comm}
 use mathlib.Core.List.{List}
-use mathlib.Core.Logic.{_≢_}
 use Prim.Native.Nat.{ℕ, _+_, _*_, _≤_, _<_}
 use native.Mathlib.Numerals.{add-one}
 use native.Mathlib.Omega.{arith}
 use lib.Dec.{ltb, eqb}
 use lib.ListN.{length, getD}
+use borrow.Author.Tests.{ltb-true, lt-ltb}
 use Rattle.rules.specs.Base.{anyBelow}
 use Rattle.rules.specs.Sets.{Set, only, closure, reach}
 use Rattle.rules.specs.Window.{TieRecord}
 use Rattle.rules.specs.Ties.{isWait, isFall, isArrow}
 use Rattle.rules.specs.Effects.{leadsTo, leadersOf}
-use Rattle.rules.proofs.BaseLaws.{and-both, both-ways, lt-of, ltb-true, any-intro, any-elim, eqb-other, eqb-sym, Same, same, other, same?}
+use Rattle.rules.proofs.BaseLaws.{and-both, both-ways, any-intro, any-elim, eqb-sym, Same, same, other, same?}
 use Rattle.rules.proofs.ListLaws.{all-places, any-at, any-place}
 use Rattle.rules.proofs.TieLaws.{grouped-ends, falling-ends, leading-ends}
 use Rattle.rules.proofs.PathLaws.{Bounded, closure-bound}
@@ -28,14 +28,14 @@ use Rattle.sets.specs.Closure.{relation}
 section-below : (bs : List ℕ) (ts : List TieRecord) (m : ℕ) → ((i : ℕ) → getD bs i 0 < 256) → 4 * m ≤ length bs → length ts ≡ m → bs ≡ tieSection ts → endsBelow 256 ts ≡ true
 unfolding endsBelow
 section-below bs ts m bytes room len e = all-places (λ t. ltb t.leader 256 && ltb t.follower 256) noTie ts
-    (λ j h. let q = section-ends bs ts m room e bytes j (omega arith) in and-both (ltb (getD ts j noTie .leader) 256) _ (ltb-true _ 256 (q .0)) (ltb-true _ 256 (q .1)))
+    (λ j h. let q = section-ends bs ts m room e bytes j (omega arith) in and-both (ltb (getD ts j noTie .leader) 256) _ (lt-ltb _ 256 (q .0)) (lt-ltb _ 256 (q .1)))
 
 -- a bound on the ends bounds the relation
 relation-bounded : (along : Along) (n : ℕ) (ts : List TieRecord) → endsBelow n ts ≡ true → Bounded n (relation along ts)
 unfolding relation endsBelow
-relation-bounded Groups n ts h a b e = let m = grouped-ends (λ x. ltb x n) ts h a b e in (lt-of a n (m .0), lt-of b n (m .1))
-relation-bounded Falls n ts h a b e = let m = falling-ends (λ x. ltb x n) ts h a b e in (lt-of a n (m .0), lt-of b n (m .1))
-relation-bounded Arrows n ts h a b e = let m = leading-ends (λ x. ltb x n) ts h a b e in (lt-of a n (m .0), lt-of b n (m .1))
+relation-bounded Groups n ts h a b e = let m = grouped-ends (λ x. ltb x n) ts h a b e in (ltb-true a n (m .0), ltb-true b n (m .1))
+relation-bounded Falls n ts h a b e = let m = falling-ends (λ x. ltb x n) ts h a b e in (ltb-true a n (m .0), ltb-true b n (m .1))
+relation-bounded Arrows n ts h a b e = let m = leading-ends (λ x. ltb x n) ts h a b e in (ltb-true a n (m .0), ltb-true b n (m .1))
 
 -- the empty set with one added
 pub one-added : (c : ℕ) (o s : Set) → ((k : ℕ) → o k ≡ false) → ((k : ℕ) → s k ≡ eqb k c || o k) → s ≡ only c
@@ -89,8 +89,3 @@ arrow-of k h l = go (same? k 1)
     go : {b : Bool} → Same k 1 b → eqb k 1 || eqb k 2 ≡ true
     go (same e) = rw e
     go (other u) = let e : k ≡ 2 = omega arith in rw e
-
--- other kinds are none
-pub no-arrow : (k : ℕ) → k ≢ 1 → k ≢ 2 → isArrow k ≡ false
-unfolding isArrow isWait isFall
-no-arrow k a b = rw (eqb-other k 1 a, eqb-other k 2 b)

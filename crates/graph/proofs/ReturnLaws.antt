@@ -7,11 +7,12 @@ use mathlib.Core.Logic.{_⊎_, inl, inr, ⊎-elim}
 use Prim.Native.Nat.{ℕ, _<_, min, max, Ordering, Ordering·lt, Ordering·eq, Ordering·gt}
 use native.Mathlib.Omega.{arith}
 use lib.Dec.{ltb, eqb}
+use borrow.Author.Tests.{eqb-true, ne-eqb, lt-ltb, ltb-false}
 use Rattle.rules.specs.Base.{Key, any, insert, byOrder, order, outside}
 use Rattle.rules.specs.Sets.{reach}
 use Rattle.rules.specs.Window.{TieRecord, tieKey}
 use Rattle.rules.specs.Ties.{isGroup, isArrow, makeTie, addTie, tied, grouped, leading, acyclic}
-use Rattle.rules.proofs.BaseLaws.{or-left, or-right, or-cases, or-map, or-none, and-both, and-left, and-right, eqb-eq, eqb-other, no-true, ltb-true, ge-of, Below, under, over, below}
+use Rattle.rules.proofs.BaseLaws.{or-left, or-right, or-cases, or-map, or-none, and-both, and-left, and-right, no-true, Below, under, over, below}
 use Rattle.rules.proofs.SortLaws.{all-insert}
 use Rattle.rules.proofs.PathLaws.{Way, stay, on, way-join, way-map, by-arrow, NoReturn, acyclic-clear, clear-acyclic}
 use Rattle.rules.proofs.DemandEnds.{tie-old, tie-new}
@@ -35,7 +36,7 @@ module _ (t : TieRecord) (ts : List TieRecord) where
   tied-added : (k : ℕ → Bool) (a b : ℕ) → tied (addTie t ts) k a b ≡ true → (tied ts k a b ≡ true) ⊎ ((k t.kind ≡ true) × (t .leader ≡ a) × (t .follower ≡ b))
   unfolding tied addTie
   tied-added k a b e = ⊎-elim (λ q. let u = and-left (k t.kind && eqb t.leader a) (eqb t.follower b) q in
-      inr (and-left (k t.kind) (eqb t.leader a) u, eqb-eq t.leader a (and-right (k t.kind) (eqb t.leader a) u), eqb-eq t.follower b (and-right (k t.kind && eqb t.leader a) (eqb t.follower b) q)))
+      inr (and-left (k t.kind) (eqb t.leader a) u, eqb-true t.leader a (and-right (k t.kind) (eqb t.leader a) u), eqb-true t.follower b (and-right (k t.kind && eqb t.leader a) (eqb t.follower b) q)))
       inl (any-inserted tieKey (λ u. k u.kind && eqb u.leader a && eqb u.follower b) t ts e)
 
   -- the old steps are there
@@ -138,7 +139,7 @@ beq-comm false false = refl
 module _ (n : ℕ) (t : TieRecord) (ts : List TieRecord) (ends : endsBelow n ts ≡ true) (hl : t .leader < n) (hf : t .follower < n) (h : acyclic n ts ≡ true) where
   ends-added : endsBelow n (addTie t ts) ≡ true
   unfolding endsBelow addTie
-  ends-added = all-insert tieKey (λ x y. y) (λ x y. refl) (λ u. ltb u.leader n && ltb u.follower n) t (and-both (ltb t.leader n) _ (ltb-true t.leader n hl) (ltb-true t.follower n hf)) (λ y e. e) ts ends
+  ends-added = all-insert tieKey (λ x y. y) (λ x y. refl) (λ u. ltb u.leader n && ltb u.follower n) t (and-both (ltb t.leader n) _ (lt-ltb t.leader n hl) (lt-ltb t.follower n hf)) (λ y e. e) ts ends
 
   clear : NoReturn ts
   unfolding endsBelow
@@ -177,7 +178,7 @@ module _ (n : ℕ) (ts : List TieRecord) (ends : endsBelow n ts ≡ true) (k l f
   pub arrow-made : outside 1 3 k ≡ false → (k ≡ 3 → ⊥) → reach n (leading ts) f l ≡ not (acyclic n (addTie (makeTie k l f) ts))
   unfolding makeTie isGroup outside
   arrow-made r u = let m = or-none (ltb k 1) (ltb 3 k) r in
-      rw (eqb-other k 3 u) (arrow-test n (record { kind = k; leader = l; follower = f }) ts ends hl hf h (arrow-of k (omega (arith, ge-of k 1 (m .0))) (omega (arith, ge-of 3 k (m .1)))))
+      rw (ne-eqb k 3 u) (arrow-test n (record { kind = k; leader = l; follower = f }) ts ends hl hf h (arrow-of k (omega (arith, ltb-false k 1 (m .0))) (omega (arith, ltb-false 3 k (m .1)))))
 
   -- a group tie, stored with the lower number as leader
   pub group-made : k ≡ 3 → not (Bool·beq (reach n (leading ts) f l) (reach n (leading ts) l f)) ≡ not (acyclic n (addTie (makeTie k l f) ts))

@@ -1,5 +1,6 @@
 // Groups, end sets and leaders of changes, read from the first `count` ties of a section.
 use layout::Ties;
+use passes::is_arrow;
 use sets::Along;
 use sets::ChangeSet;
 ghost use mathlib.Core.Path.{_≡_};
@@ -80,13 +81,7 @@ pub fn leaders(ties: &[u8], count: usize, followers: ChangeSet) -> ChangeSet
 fn with_leader(s: ChangeSet, followers: ChangeSet, kind: u8, leader: u8, follower: u8) -> ChangeSet
     ensures { λ r. ⌜ ((k : ℕ) → members r k ≡ members s k || leadsTo (members followers) k (tieOf kind leader follower)) ⌝ }
 {
-    if kind == 0 {
-        return s;
-    }
-    if kind > 2 {
-        return s;
-    }
-    if followers.has(follower) {
+    if is_arrow(kind) & followers.has(follower) {
         return s.add(leader);
     }
     s

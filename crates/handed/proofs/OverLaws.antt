@@ -1,18 +1,18 @@
 -- The two tables copied over a window's, its log handed over and its figure of permits stored: the window handed over. Assumes nothing.
 use mathlib.Core.Path.{_≡_, refl, sym, _∙_, ap}
 use mathlib.Core.List.{List, _++_}
-use Prim.Native.Nat.{ℕ, _+_, _≤_, _<_}
+use Prim.Native.Nat.{ℕ, _+_, _≤_}
 use native.Mathlib.Omega.{arith}
 use lib.Dec.{lit≤}
 use lib.ListN.{length, take, drop, set, length-map}
 use Rattle.rules.specs.Sets.{Set}
 use Rattle.rules.specs.Window.{PermitRecord, Window, withHeld, withLog, withPermits}
 use Rattle.rules.specs.Effects.{moveLog, handOver}
-use Rattle.layout.specs.Codec.{headAt, headSize, locksAt, locksSize, permitsAt, permitsSize, logAt, logSize, windowSize, figures, headSection, lockSection, permitSection, logSection, lay, encode}
+use Rattle.layout.specs.Codec.{locksAt, locksSize, permitsAt, permitsSize, logAt, logSize, windowSize, figures, lockSection, permitSection, logSection, lay, encode}
 use Rattle.layout.proofs.CodecLaws.{length-encode}
 use Rattle.layout.proofs.LengthLaws.{length-locks, length-permits}
-use Rattle.layout.proofs.PartLaws.{head-part, log-part}
-use Rattle.layout.proofs.PutLaws.{laidAt, head-put, locks-put, permits-put, log-put}
+use Rattle.layout.proofs.PutLaws.{laidAt, locks-put, permits-put}
+use Rattle.layout.proofs.LentLaws.{headLaid, FigureStored, log-lent, figure-stored}
 use Rattle.cells.specs.Part.{patch}
 use Rattle.cells.proofs.PartLaws.{patch-append}
 use Rattle.handed.specs.Tables.{tablesSize, tablesOf, AreTables}
@@ -34,7 +34,7 @@ tables-fit e q = rw (e, q) (lit≤ tt)
 -- the figures of the window handed over: only the permits may be fewer
 figures-handed : (W : Window) (from to : ℕ) (on : Set) (n : ℕ) → n ≡ length (handOver W from to on .permits) → set (figures W) 3 n ≡ figures (handOver W from to on)
 unfolding figures handOver moveLog
-figures-handed W from to on n e = rw (e, length-map) refl
+figures-handed W from to on n e = rw (e, length-map)
 
 -- TAKEN OVER: o1, o2 and o3 are what the copy, the hand-over of the log and the store of the figure leave
 module _ (W : Window) (from to : ℕ) (on : Set) where
@@ -42,29 +42,11 @@ module _ (W : Window) (from to : ℕ) (on : Set) where
   moved : Window
   moved = withPermits (withHeld W (handOver W from to on .held)) (handOver W from to on .permits)
 
-  log-kept : take logSize (drop logAt (lay (figures W) moved)) ≡ logSection W.log
-  unfolding moved withPermits withHeld
-  log-kept = log-part (figures W) moved
-
-  all-moved : (n : ℕ) → n ≡ length (handOver W from to on .permits) → lay (set (figures W) 3 n) (withLog moved (moveLog from to on W.log)) ≡ encode (handOver W from to on)
-  unfolding moved encode lay withLog withPermits withHeld handOver
-  all-moved n e = rw (figures-handed W from to on n e) refl
-
-  some-figures : 3 < length (figures W)
-  unfolding figures
-  some-figures = omega arith
-
   pub taken-over : (n : ℕ) (bs ts o1 o2 o3 : List ℕ) → encode W ≡ bs → AreTables (handOver W from to on) n ts
       → o1 ≡ patch bs locksAt ts
       → (take logSize (drop logAt o1) ≡ logSection W.log → o2 ≡ logSection (moveLog from to on W.log))
-      → ((fs : List ℕ) → take headSize (drop headAt (laidAt o1 logAt logSize o2)) ≡ headSection fs → 3 < length fs → o3 ≡ headSection (set fs 3 n))
-      → laidAt (laidAt o1 logAt logSize o2) headAt headSize o3 ≡ encode (handOver W from to on)
-  unfolding tablesOf moved
+      → FigureStored (laidAt o1 logAt logSize o2) 3 n o3 → headLaid (laidAt o1 logAt logSize o2) o3 ≡ encode (handOver W from to on)
+  unfolding tablesOf moved withHeld withPermits withLog handOver
   taken-over n bs ts o1 o2 o3 is h e f g =
-      let fs = figures W in
-      let l = moveLog from to on W.log in
-      let b1 : o1 ≡ lay fs moved = e ∙ ap (patch bs locksAt) (h .table-bytes) ∙ ap (λ b. patch b locksAt (tablesOf (handOver W from to on))) (sym is) ∙ tables-put W (handOver W from to on .held) (handOver W from to on .permits) in
-      let x : o2 ≡ logSection l = f (ap (λ b. take logSize (drop logAt b)) b1 ∙ log-kept) in
-      let b2 : laidAt o1 logAt logSize o2 ≡ lay fs (withLog moved l) = ap (laidAt o1 logAt logSize) x ∙ ap (λ b. laidAt b logAt logSize (logSection l)) b1 ∙ log-put fs moved l in
-      let y : o3 ≡ headSection (set fs 3 n) = g fs (ap (λ b. take headSize (drop headAt b)) b2 ∙ head-part fs (withLog moved l)) some-figures in
-      ap (laidAt (laidAt o1 logAt logSize o2) headAt headSize) y ∙ ap (λ b. laidAt b headAt headSize (headSection (set fs 3 n))) b2 ∙ head-put fs (withLog moved l) (set fs 3 n) ∙ all-moved n (h .permit-count)
+      let b1 : o1 ≡ lay (figures W) moved = e ∙ ap (patch bs locksAt) (h .table-bytes) ∙ ap (λ b. patch b locksAt (tablesOf (handOver W from to on))) (sym is) ∙ tables-put W (handOver W from to on .held) (handOver W from to on .permits) in
+      figure-stored W (handOver W from to on) (log-lent (figures W) moved b1 (moveLog from to on W.log) f) 3 n (omega arith) g (figures-handed W from to on n (h .permit-count))

@@ -13,6 +13,7 @@ use Rattle.layout.specs.Codec.{locksSize, permitsSize, lockSection, permitSecti
 use Rattle.layout.specs.Records.{Tabled}
 use Rattle.layout.proofs.LengthLaws.{length-locks, length-permits}
 use Rattle.layout.proofs.PutLaws.{laidAt}
+use Rattle.layout.proofs.LentLaws.{lent}
 use Rattle.sets.specs.Entries.{onEntries}
 use Rattle.clashes.specs.LocksAndPermits.{LocksAndPermits}
 use Rattle.handed.specs.Tables.{tablesOf, AreTables}
@@ -58,15 +59,11 @@ pub tables-handed : (W : Window) (from to : ℕ) (on : Set) (bytes xs ys : List 
     → AreTables (handOver W from to on) n (laidAt (laidAt bytes 0 locksSize xs) locksSize permitsSize ys)
 unfolding withHeld withPermits handOver tablesOf
 tables-handed W from to on bytes xs ys n e f g =
-    let x = f (ap (take locksSize) e ∙ locks-cut W) in
-    let b1 : laidAt bytes 0 locksSize xs ≡ tablesOf (withHeld W (moveHeld from to on W.held)) =
-    ap (λ l. laidAt bytes 0 locksSize l) x ∙ ap (λ l. laidAt l 0 locksSize (lockSection (moveHeld from to on W.held))) e ∙ locks-back W (moveHeld from to on W.held) in
-    let y = g (ap (λ l. take permitsSize (drop locksSize l)) b1 ∙ permits-cut (withHeld W (moveHeld from to on W.held))) in
+    let W1 = withHeld W (moveHeld from to on W.held) in
+    let b1 : laidAt bytes 0 locksSize xs ≡ tablesOf W1 = lent 0 locksSize (locks-cut W) (locks-back W (moveHeld from to on W.held)) e f in
     record {
-      permit-count = y .count;
-      table-bytes = ap (λ l. laidAt (laidAt bytes 0 locksSize xs) locksSize permitsSize l) (y .bytes)
-          ∙ ap (λ l. laidAt l locksSize permitsSize (permitSection (movePermits from to on W.permits))) b1
-          ∙ permits-back (withHeld W (moveHeld from to on W.held)) (movePermits from to on W.permits);
+      permit-count = g (ap (λ l. take permitsSize (drop locksSize l)) b1 ∙ permits-cut W1) .count;
+      table-bytes = lent locksSize permitsSize (permits-cut W1) (permits-back W1 (movePermits from to on W.permits)) b1 (λ q. g q .bytes);
     }
 
 -- with the number of entries as it was read

@@ -8,12 +8,13 @@ use native.Mathlib.Omega.{arith}
 use native.Mathlib.Nat.{mod-eq-of-lt}
 use lib.Dec.{eqb}
 use lib.ListN.{take}
+use borrow.Author.Tests.{not-false}
 use Rattle.rules.specs.Window.{limits, Window, live}
 use Rattle.rules.specs.Locks.{clashesPermitted}
 use Rattle.rules.specs.Calls.{Delegate, done}
 use Rattle.rules.specs.Effects.{every, entriesNamed, handOver, effect}
 use Rattle.rules.specs.Refusals.{_if_, checks, firstFailed, step}
-use Rattle.rules.proofs.BaseLaws.{and-right, not-false}
+use Rattle.rules.proofs.BaseLaws.{and-right}
 use Rattle.rules.proofs.SoundParts.{Sound}
 use Rattle.layout.specs.Codec.{decode, encode}
 use Rattle.layout.specs.Memory.{soundBytes}

@@ -11,11 +11,11 @@ use Rattle.rules.specs.Sets.{Set}
 use Rattle.rules.specs.Window.{limits, Window, live}
 use Rattle.rules.specs.Sound.{heldSound}
 use Rattle.rules.specs.Effects.{handOver}
-use Rattle.rules.proofs.BaseLaws.{within-of}
 use Rattle.rules.proofs.SoundParts.{Sound, held-most, held-no-change}
 use Rattle.rules.proofs.SoundDelegate.{hand-held, hand-order}
 use Rattle.layout.specs.Codec.{locksAt, locksSize, permitsSize, windowSize, decode}
 use Rattle.layout.specs.Memory.{soundBytes}
+use Rattle.layout.proofs.SoundCodec.{given-most}
 use Rattle.cells.specs.Part.{part, patch}
 use Rattle.cells.proofs.PartLaws.{length-part}
 use Rattle.locks.specs.Held.{Modes}
@@ -47,14 +47,14 @@ module _ (W : Window) (from to : ℕ) (on : Set) (k : Sound limits W) (lives : l
   handed-helds = hand-held limits W from to on k lives
 
   pub handed-tables : (n : ℕ) (ts : List ℕ) → AreTables (handOver W from to on) n ts → LocksAndPermits (take locksSize ts) (take permitsSize (drop locksSize ts)) W.entries n (handOver W from to on)
-  unfolding handOver limits Modes
+  unfolding handOver Modes
   handed-tables n ts h = record {
     lock-bytes = ap (take locksSize) (h .table-bytes) ∙ locks-cut (handOver W from to on);
     permit-bytes = ap (λ l. take permitsSize (drop locksSize l)) (h .table-bytes) ∙ permits-cut (handOver W from to on);
     entry-count = refl;
     permit-count = sym (h .permit-count);
     modes = held-most (handOver W from to on) handed-helds;
-    given = omega (arith, within-of W.given 255 (k .changes));
+    given = omega (arith, given-most W k);
     none-above = held-no-change (handOver W from to on) handed-helds;
     in-order = hand-order limits W from to on k lives;
   }

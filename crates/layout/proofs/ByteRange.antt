@@ -8,19 +8,21 @@ use native.Mathlib.Omega.{arith}
 use native.Mathlib.Nat.{mod-lt}
 use lib.Dec.{ltb, eqb}
 use lib.ListN.{getD, drop}
+use borrow.Author.Tests.{ltb-true, lt-ltb, eqb-true, not-true}
 use Rattle.rules.specs.Base.{all, table}
 use Rattle.rules.specs.Window.{limits, fresh, LogRecord, PermitRecord, TieRecord, Window, live, noChange}
 use Rattle.rules.specs.Calls.{Call, fits, Reply, Outcome}
 use Rattle.rules.specs.Refusals.{step}
 use Rattle.rules.specs.Sound.{statusSound, parentSound, recordSound, permitSound, tieSound}
-use Rattle.rules.proofs.BaseLaws.{and-right, or-cases, lt-of, ltb-true, eqb-eq, within-of, ge-of, not-true, or-false-right}
+use Rattle.rules.proofs.BaseLaws.{and-right, or-cases}
 use Rattle.rules.proofs.ListLaws.{all-weaken, all-join, all-getD, all-table}
 use Rattle.rules.proofs.RuleLaws.{is-open}
 use Rattle.rules.proofs.SoundStep.{step-sound, opened-sound}
-use Rattle.rules.proofs.SoundParts.{Sound, live-below, record-parts, permit-parts, tie-parts, inside-of, status-range}
+use Rattle.rules.proofs.SoundParts.{Sound, live-below, record-parts, permit-parts, tie-parts, inside-of, status-range, numbered}
 use Rattle.layout.specs.Codec.{lineByte, headSize, valuesSize, changesSize, lineSize, locksSize, permitsSize, tiesSize, logSize, byte, noRecord, noPermit, noTie, headByte, valueByte, changeByte, lockByte, recordBytes, logByte, permitBytes, permitByte, tieBytes, tieByte, figures, encode, windowSize}
 use Rattle.layout.specs.Memory.{windowOf, handBack, layInto, perform}
 use Rattle.layout.proofs.CodecLaws.{pack-most}
+use Rattle.layout.proofs.SoundCodec.{entries-most, given-most}
 use Rattle.layout.proofs.MemoryLaws.{Performed, refused, ruled, opened, performed, Anewed, begun, kept, anewed, memory-sound}
 use Rattle.layout.proofs.SectionLaws.{Section, section, sections, layOut, encode-sections}
 
@@ -29,7 +31,7 @@ small x = ltb x 256
 
 byte-small : (k v : ℕ) → small (byte k v) ≡ true
 unfolding byte
-byte-small k v = ltb-true (v / 256 ^ k % 256) 256 (mod-lt (v / 256 ^ k) (omega arith))
+byte-small k v = lt-ltb (v / 256 ^ k % 256) 256 (mod-lt (v / 256 ^ k) (omega arith))
 
 all-none : (p : ℕ → Bool) → all p (layOut []) ≡ true
 unfolding all layOut
@@ -47,12 +49,10 @@ place-small bytes l none p f h z j i = all-getD small (bytes (getD l j none)) i 
 
 module _ (W : Window) (k : Sound limits W) where
   live-small : (c : ℕ) → live W c ≡ true → small c ≡ true
-  unfolding limits
-  live-small c h = ltb-true c 256 (omega (arith, live-below W c h, within-of W.given 255 (k .changes)))
+  live-small c h = lt-ltb c 256 (omega (arith, live-below W c h, given-most W k))
 
   entry-small : (e : ℕ) → ltb e W.entries ≡ true → small e ≡ true
-  unfolding limits
-  entry-small e h = ltb-true e 256 (omega (arith, lt-of e W.entries h, within-of W.entries 256 (k .entries)))
+  entry-small e h = lt-ltb e 256 (omega (arith, ltb-true e W.entries h, entries-most W k))
 
   head-small : (i : ℕ) → small (headByte (figures W) i) ≡ true
   unfolding headByte
@@ -63,16 +63,16 @@ module _ (W : Window) (k : Sound limits W) where
   status-small c = go (noChange W c) refl
     where
       go : (b : Bool) → noChange W c ≡ b → small (W .status c) ≡ true
-      go true h = rw (eqb-eq (W .status c) 0 (rw h at (k .statuses c)))
-      go false h = ltb-true (W .status c) 256 (omega (arith, status-range limits W k c h .1))
+      go true h = rw (eqb-true (W .status c) 0 (rw h at (k .statuses c)))
+      go false h = lt-ltb (W .status c) 256 (omega (arith, status-range limits W k c h .1))
 
   parent-small : (c : ℕ) → small (W .parent c) ≡ true
-  unfolding parentSound noChange limits
+  unfolding parentSound noChange
   parent-small c = go (noChange W c) refl
     where
       go : (b : Bool) → noChange W c ≡ b → small (W .parent c) ≡ true
-      go true h = rw (eqb-eq (W .parent c) 0 (rw h at (k .parents c)))
-      go false h = ltb-true (W .parent c) 256 (omega (arith, lt-of (W .parent c) c (rw h at (k .parents c)), ge-of W.given c (or-false-right (eqb c 0) (ltb W.given c) h), within-of W.given 255 (k .changes)))
+      go true h = rw (eqb-true (W .parent c) 0 (rw h at (k .parents c)))
+      go false h = lt-ltb (W .parent c) 256 (omega (arith, ltb-true (W .parent c) c (rw h at (k .parents c)), numbered W c h, given-most W k))
 
   change-small : (i : ℕ) → small (changeByte (W .status) (W .parent) i) ≡ true
   unfolding changeByte all
@@ -80,7 +80,7 @@ module _ (W : Window) (k : Sound limits W) where
 
   lock-small : (i : ℕ) → small (lockByte (W .held) i) ≡ true
   unfolding lockByte
-  lock-small i = ltb-true _ 256 (pack-most 8 (λ b. eqb (W .held (i / 64) (i % 32 * 8 + b)) (suc (i % 64 / 32))))
+  lock-small i = lt-ltb _ 256 (pack-most 8 (λ b. eqb (W .held (i / 64) (i % 32 * 8 + b)) (suc (i % 64 / 32))))
 
   sound-record : (r : LogRecord) → recordSound W.entries (live W) W.held r ≡ true → all small (recordBytes r) ≡ true
   unfolding recordBytes all
@@ -94,8 +94,8 @@ module _ (W : Window) (k : Sound limits W) where
   sound-permit : (p : PermitRecord) → permitSound W.entries (live W) p ≡ true → all small (permitBytes p) ≡ true
   unfolding permitBytes all
   sound-permit p h = let x = permit-parts W.entries (live W) p h in
-      let t : small p.taker ≡ true = ⊎-elim (λ q. rw (eqb-eq p.taker 0 q)) (live-small p.taker) (or-cases (eqb p.taker 0) (live W p.taker) (x .1)) in
-      rw (entry-small p.entry (x .2), live-small p.giver (x .0), t, ltb-true p.ops 256 (omega (arith, inside-of 1 3 p.ops (not-true _ (x .3)) .1)))
+      let t : small p.taker ≡ true = ⊎-elim (λ q. rw (eqb-true p.taker 0 q)) (live-small p.taker) (or-cases (eqb p.taker 0) (live W p.taker) (x .1)) in
+      rw (entry-small p.entry (x .2), live-small p.giver (x .0), t, lt-ltb p.ops 256 (omega (arith, inside-of 1 3 p.ops (not-true _ (x .3)) .1)))
 
   permit-small : (i : ℕ) → small (permitByte (W .permits) i) ≡ true
   unfolding permitByte
@@ -104,7 +104,7 @@ module _ (W : Window) (k : Sound limits W) where
   sound-tie : (t : TieRecord) → tieSound (live W) t ≡ true → all small (tieBytes t) ≡ true
   unfolding tieBytes all
   sound-tie t h = let x = tie-parts (live W) t h in
-      rw (ltb-true t.kind 256 (omega (arith, inside-of 1 3 t.kind (not-true _ (x .0)) .1)), live-small t.leader (x .1), live-small t.follower (x .2))
+      rw (lt-ltb t.kind 256 (omega (arith, inside-of 1 3 t.kind (not-true _ (x .0)) .1)), live-small t.leader (x .1), live-small t.follower (x .2))
 
   tie-small : (i : ℕ) → small (tieByte (W .ties) i) ≡ true
   unfolding tieByte

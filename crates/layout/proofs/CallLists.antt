@@ -7,13 +7,14 @@ use native.Mathlib.Omega.{arith}
 use lib.Dec.{eqb}
 use lib.ListN.{length, take, length-append, drop-of-length-le}
 use lib.Seq.{take-at, drop-at, take-all}
+use borrow.Author.Tests.{le-leb}
 use Rattle.rules.specs.Base.{all}
 use Rattle.rules.specs.Window.{limits, Window, fresh}
 use Rattle.rules.specs.Calls.{Call, Open, fits, Reply, Outcome}
 use Rattle.rules.specs.Refusals.{step}
 use Rattle.rules.specs.Events.{isOpen}
 use Rattle.rules.specs.Lists.{answers}
-use Rattle.rules.proofs.BaseLaws.{and-left, and-right, leb-true}
+use Rattle.rules.proofs.BaseLaws.{and-left, and-right}
 use Rattle.rules.proofs.RuleLaws.{open-number}
 use Rattle.rules.proofs.SoundStep.{opened-fresh}
 use Rattle.layout.specs.Codec.{windowSize}
@@ -53,11 +54,11 @@ module _ (bs t : List ℕ) (size : length bs ≡ windowSize) where
 
   long-alone : long bs ≡ true
   unfolding long
-  long-alone = leb-true windowSize (length bs) (omega arith)
+  long-alone = le-leb windowSize (length bs) (omega arith)
 
   long-past : long (bs ++ t) ≡ true
   unfolding long
-  long-past = leb-true windowSize (length (bs ++ t)) (omega (arith, length-append bs t))
+  long-past = le-leb windowSize (length (bs ++ t)) (omega (arith, length-append bs t))
 
   sound-past : soundMemory (bs ++ t) ≡ soundMemory bs
   unfolding soundMemory

@@ -2,7 +2,7 @@
 use mathlib.Core.Path.{_≡_, refl, sym, _∙_, ap, fun-ext}
 use mathlib.Core.Bool.{Bool, true, false, cond, _&&_}
 use Prim.Native.Nat.{ℕ, zero, suc, _+_, _*_, _/_, _%_, _^_, _≤_, _<_}
-use native.Mathlib.Nat.{pow-suc, mul-comm, zero-div, div-div-eq-div-mul, add-zero, not-suc-le-zero, le-of-suc-le-suc}
+use native.Mathlib.Nat.{pow-suc, mul-comm, zero-div, div-div-eq-div-mul, not-suc-le-zero, le-of-suc-le-suc}
 use native.Mathlib.Omega.{arith}
 use lib.Dec.{eqb}
 use lib.ListN.{getD, length}
@@ -11,6 +11,7 @@ use Rattle.rules.specs.Window.{Window}
 use Rattle.rules.proofs.BaseLaws.{Below, under, over, below}
 use Rattle.layout.specs.Codec.{byte, bit, pack, noRecord, noPermit, noTie, figures, headByte, valueByte, changeByte, lockByte, permitByte, tieByte, recordBytes, logByte, permitBytes, tieBytes, headSize, valuesSize, changesSize, locksSize, permitsSize, tiesSize, logSize, headAt, valuesAt, changesAt, locksAt, permitsAt, tiesAt, logAt, windowSize, encode, inside, join2, join4, unpack, readFigure, readValue, readStatus, readParent, readHeld, readRecord, readPermit, readTie, decode}
 use Rattle.layout.proofs.SectionLaws.{section, sections, encode-sections, length-layOut, layOut-at, table-list}
+use Rattle.layout.proofs.RecordLaws.{first-byte, permit-again, tie-again}
 
 -- the size of a window; the bytes of its sections but the line, read
 module _ (W : Window) where
@@ -209,10 +210,10 @@ module _ (W : Window) where
   record-at j i h l = let q : (j * 6 + i) / 6 ≡ j = omega arith in let r : (j * 6 + i) % 6 ≡ i = omega arith in
       log-at W (j * 6 + i) (omega arith) ∙ rw (q, r)
 
-  record-again : (j : ℕ) → j < 2048 → getD W.log j noRecord .before < 4294967296 → readRecord (encode W) j ≡ getD W.log j noRecord
+  record-there : (j : ℕ) → j < 2048 → getD W.log j noRecord .before < 4294967296 → readRecord (encode W) j ≡ getD W.log j noRecord
   unfolding readRecord recordBytes
-  record-again j h m = λ i. record {
-    owner = (ap (inside logAt (encode W)) (sym (add-zero (j * 6))) ∙ record-at j 0 h (omega arith)) i;
+  record-there j h m = λ i. record {
+    owner = (first-byte (inside logAt (encode W)) (j * 6) ∙ record-at j 0 h (omega arith)) i;
     entry = record-at j 1 h (omega arith) i;
     before = (join4-same (λ k. inside logAt (encode W) (j * 6 + (k + 2))) (λ k. byte k (getD W.log j noRecord .before)) (λ k l. record-at j (k + 2) h (omega arith) ∙ before-byte k l) ∙ join4-byte (getD W.log j noRecord .before) m) i;
   }
@@ -228,42 +229,33 @@ module _ (W : Window) where
   unfolding permitByte
   permit-at j i h l = permits-at W (j * 4 + i) (omega arith) ∙ rw (slot4 j i l, rest4 j i l)
 
-  permit-again : (j : ℕ) → j < 1024 → readPermit (encode W) j ≡ getD W.permits j noPermit
-  unfolding readPermit permitBytes
-  permit-again j h = λ i. record {
-    entry = (ap (inside permitsAt (encode W)) (sym (add-zero (j * 4))) ∙ permit-at j 0 h (omega arith)) i;
-    giver = permit-at j 1 h (omega arith) i;
-    taker = permit-at j 2 h (omega arith) i;
-    ops = permit-at j 3 h (omega arith) i;
-  }
+  permit-there : (j : ℕ) → j < 1024 → readPermit (encode W) j ≡ getD W.permits j noPermit
+  unfolding readPermit
+  permit-there j h = permit-again (inside permitsAt (encode W)) (getD W.permits j noPermit) j (λ k l. permit-at j k h l)
 
   tie-at : (j i : ℕ) → j < 512 → i < 4 → inside tiesAt (encode W) (j * 4 + i) ≡ getD (tieBytes (getD W.ties j noTie)) i 0
   unfolding tieByte
   tie-at j i h l = ties-at W (j * 4 + i) (omega arith) ∙ rw (slot4 j i l, rest4 j i l)
 
-  tie-again : (j : ℕ) → j < 512 → readTie (encode W) j ≡ getD W.ties j noTie
-  unfolding readTie tieBytes
-  tie-again j h = λ i. record {
-    kind = (ap (inside tiesAt (encode W)) (sym (add-zero (j * 4))) ∙ tie-at j 0 h (omega arith)) i;
-    leader = tie-at j 1 h (omega arith) i;
-    follower = tie-at j 2 h (omega arith) i;
-  }
+  tie-there : (j : ℕ) → j < 512 → readTie (encode W) j ≡ getD W.ties j noTie
+  unfolding readTie
+  tie-there j h = tie-again (inside tiesAt (encode W)) (getD W.ties j noTie) j (λ k l. tie-at j k h l)
 
 module _ (W : Window) (k : Canonical W) where
   log-again : table (readFigure (encode W) 2) 0 (readRecord (encode W)) ≡ W .log
   unfolding figures
   log-again = rw (figure-again W 2 (length W.log) (omega arith) refl (omega (arith, k .log-most)))
-      (table-list noRecord W.log (readRecord (encode W)) (λ j l. record-again W j (omega (arith, k .log-most)) (k .before-most j)))
+      (table-list noRecord W.log (readRecord (encode W)) (λ j l. record-there W j (omega (arith, k .log-most)) (k .before-most j)))
 
   permits-again : table (readFigure (encode W) 3) 0 (readPermit (encode W)) ≡ W .permits
   unfolding figures
   permits-again = rw (figure-again W 3 (length W.permits) (omega arith) refl (omega (arith, k .permits-most)))
-      (table-list noPermit W.permits (readPermit (encode W)) (λ j l. permit-again W j (omega (arith, k .permits-most))))
+      (table-list noPermit W.permits (readPermit (encode W)) (λ j l. permit-there W j (omega (arith, k .permits-most))))
 
   ties-again : table (readFigure (encode W) 4) 0 (readTie (encode W)) ≡ W .ties
   unfolding figures
   ties-again = rw (figure-again W 4 (length W.ties) (omega arith) refl (omega (arith, k .ties-most)))
-      (table-list noTie W.ties (readTie (encode W)) (λ j l. tie-again W j (omega (arith, k .ties-most))))
+      (table-list noTie W.ties (readTie (encode W)) (λ j l. tie-there W j (omega (arith, k .ties-most))))
 
   pub decode-encode : decode (encode W) ≡ W
   unfolding decode figures

@@ -1,6 +1,6 @@
 -- A section of a window's bytes lent to a function and handed back, with any figures in the header; and a figure stored after it. Assumes nothing.
 use mathlib.Core.Path.{_≡_, _∙_, ap}
-use mathlib.Core.List.{List, _++_}
+use mathlib.Core.List.{List}
 use Prim.Native.Nat.{ℕ, _<_}
 use lib.ListN.{length, take, drop, set}
 use Rattle.rules.specs.Window.{LogRecord, PermitRecord, TieRecord, Window, withValue, withHeld, withLog, withPermits, withTies}
@@ -8,9 +8,9 @@ use Rattle.layout.specs.Codec.{headAt, headSize, valuesAt, valuesSize, c
 use Rattle.layout.proofs.PartLaws.{head-part, values-part, changes-part, locks-part, permits-part, ties-part, log-part}
 use Rattle.layout.proofs.PutLaws.{laidAt, withChanges, head-put, values-put, changes-put, locks-put, permits-put, ties-put, log-put}
 
--- the bytes with another header, which nothing stands before
+-- the bytes with another header
 abbrev pub headLaid : List ℕ → List ℕ → List ℕ
-headLaid bs out = out ++ drop headSize (drop headAt bs)
+headLaid bs = laidAt bs headAt headSize
 
 -- the part that is cut out is s, and t comes back in its place
 pub lent : (at n : ℕ) {bs out old new s t : List ℕ} → take n (drop at old) ≡ s → laidAt old at n t ≡ new → bs ≡ old → (take n (drop at bs) ≡ s → out ≡ t) → laidAt bs at n out ≡ new

@@ -8,12 +8,13 @@ use native.Mathlib.Omega.{arith}
 use lib.Dec.{leb, eqb}
 use lib.ListN.{length, take, drop, take-append-drop, length-append, length-drop}
 use lib.Seq.{take-at, drop-at}
+use borrow.Author.Tests.{eqb-true, leb-true, le-leb}
 use Rattle.rules.specs.Window.{limits, Window, fresh}
 use Rattle.rules.specs.Sound.{sound}
 use Rattle.rules.specs.Calls.{Call, Open, fits, Reply, Outcome}
 use Rattle.rules.specs.Refusals.{step}
 use Rattle.rules.specs.Events.{actionOf, isOpening, isOpen}
-use Rattle.rules.proofs.BaseLaws.{and-left, and-right, and-both, eqb-eq, eqb-same, Same, same, other, same?, le-of, leb-true}
+use Rattle.rules.proofs.BaseLaws.{and-left, and-right, and-both, eqb-same, Same, same, other, same?}
 use Rattle.rules.proofs.RuleLaws.{quiet, open-answer, open-number}
 use Rattle.rules.proofs.SoundParts.{Sound, sound-parts, parts-sound}
 use Rattle.rules.proofs.SoundStep.{step-sound, opened-sound, opened-fresh}
@@ -27,7 +28,7 @@ unfolding sameBytes
 sameBytes-eq [] [] e = refl
 sameBytes-eq [] (y ∷ l) e = absurd (false≢true e)
 sameBytes-eq (x ∷ k) [] e = absurd (false≢true e)
-sameBytes-eq (x ∷ k) (y ∷ l) e = λ i. eqb-eq x y (and-left (eqb x y) (sameBytes k l) e) i ∷ sameBytes-eq k l (and-right (eqb x y) (sameBytes k l) e) i
+sameBytes-eq (x ∷ k) (y ∷ l) e = λ i. eqb-true x y (and-left (eqb x y) (sameBytes k l) e) i ∷ sameBytes-eq k l (and-right (eqb x y) (sameBytes k l) e) i
 
 sameBytes-refl : (l : List ℕ) → sameBytes l l ≡ true
 unfolding sameBytes
@@ -78,7 +79,7 @@ pub record Holds (mem : List ℕ) (W : Window) : Type 0 where
 pub laid : (W : Window) → Sound limits W → (tail : List ℕ) → Holds (encode W ++ tail) W
 unfolding soundMemory long
 laid W k tail = let t : take windowSize (encode W ++ tail) ≡ encode W = take-at (encode W) tail windowSize (length-encode W) in record {
-  sound = and-both (leb windowSize (length (encode W ++ tail))) _ (leb-true windowSize (length (encode W ++ tail)) (omega (arith, length-append (encode W) tail, length-encode W))) (rw t (encode-sound W k));
+  sound = and-both (leb windowSize (length (encode W ++ tail))) _ (le-leb windowSize (length (encode W ++ tail)) (omega (arith, length-append (encode W) tail, length-encode W))) (rw t (encode-sound W k));
   window = ap decode t ∙ sound-again W k;
 }
 
@@ -239,7 +240,7 @@ module _ (mem : List ℕ) where
       lay : (o : Outcome) → long mem ≡ true → Tail (layInto mem o .after)
       lay o l = unfold layInto long in record {
         same = drop-at (encode (o .after)) (drop windowSize mem) windowSize (length-encode (o .after));
-        size = omega (arith, length-append (encode (o .after)) (drop windowSize mem), length-encode (o .after), length-drop windowSize mem, le-of windowSize (length mem) (unfold long in l));
+        size = omega (arith, length-append (encode (o .after)) (drop windowSize mem), length-encode (o .after), length-drop windowSize mem, leb-true windowSize (length mem) (unfold long in l));
       }
 
       back : (a : ℕ) → Tail (handBack mem a .after)

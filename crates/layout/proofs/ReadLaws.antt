@@ -6,37 +6,27 @@ use Prim.Native.Nat.{ℕ, _+_, _*_, _≤_, _<_}
 use native.Mathlib.Omega.{arith}
 use lib.Dec.{eqb}
 use lib.ListN.{length, getD}
+use borrow.Author.Tests.{eqb-true}
 use Rattle.rules.specs.Window.{PermitRecord, TieRecord}
-use Rattle.rules.specs.Locks.{makePermit}
 use Rattle.rules.specs.Ties.{tied}
-use Rattle.rules.proofs.BaseLaws.{and-left, and-right, eqb-eq, eqb-same}
+use Rattle.rules.proofs.BaseLaws.{and-left, and-right, eqb-same}
 use Rattle.rules.proofs.ListLaws.{any-at, any-place}
 use Rattle.layout.specs.Codec.{noPermit, permitBytes, permitByte, permitSection, noTie, tieBytes, tieByte, tieSection}
 use Rattle.layout.specs.Records.{permitAt, tieAt}
 use Rattle.layout.proofs.LengthLaws.{length-ties}
-use Rattle.layout.proofs.RecordLaws.{placeByte, place-at, first-byte}
+use Rattle.layout.proofs.RecordLaws.{placed, place-at, permit-again, tie-again}
 
 -- PERMITS
--- a place with a permit's bytes holds the permit
-pub permit-again : (bs : List ℕ) (x : PermitRecord) (j : ℕ) → ((k : ℕ) → k < 4 → getD bs (j * 4 + k) 0 ≡ getD (permitBytes x) k 0) → permitAt bs j ≡ x
-unfolding permitAt makePermit permitBytes
-permit-again bs x j f = λ i. record { entry = (first-byte bs (j * 4) ∙ f 0 (omega arith)) i; giver = f 1 (omega arith) i; taker = f 2 (omega arith) i; ops = f 3 (omega arith) i }
-
--- so does each place of a section
+-- each place of a section holds its permit
 pub permit-read : (ps : List PermitRecord) (j : ℕ) → j < 1024 → permitAt (permitSection ps) j ≡ getD ps j noPermit
-unfolding permitSection permitByte placeByte
-permit-read ps j h = permit-again (permitSection ps) (getD ps j noPermit) j (λ k l. place-at 4 (omega arith) permitBytes noPermit 1024 ps j k h l)
+unfolding permitAt permitSection permitByte placed
+permit-read ps j h = permit-again (λ i. getD (permitSection ps) i 0) (getD ps j noPermit) j (λ k l. place-at 4 (omega arith) permitBytes noPermit 1024 ps j k h l)
 
 -- TIES
--- a place with a tie's bytes holds the tie
-pub tie-again : (bs : List ℕ) (x : TieRecord) (j : ℕ) → ((k : ℕ) → k < 4 → getD bs (j * 4 + k) 0 ≡ getD (tieBytes x) k 0) → tieAt bs j ≡ x
-unfolding tieAt tieBytes
-tie-again bs x j f = λ i. record { kind = (first-byte bs (j * 4) ∙ f 0 (omega arith)) i; leader = f 1 (omega arith) i; follower = f 2 (omega arith) i }
-
 -- the ties read from a section are those that it holds
 tie-read : (ts : List TieRecord) (j : ℕ) → j < 512 → tieAt (tieSection ts) j ≡ getD ts j noTie
-unfolding tieSection tieByte placeByte
-tie-read ts j h = tie-again (tieSection ts) (getD ts j noTie) j (λ k l. place-at 4 (omega arith) tieBytes noTie 512 ts j k h l)
+unfolding tieAt tieSection tieByte placed
+tie-read ts j h = tie-again (λ i. getD (tieSection ts) i 0) (getD ts j noTie) j (λ k l. place-at 4 (omega arith) tieBytes noTie 512 ts j k h l)
 
 -- of the first n ties of a section
 pub section-read : (bs : List ℕ) (ts : List TieRecord) (n : ℕ) → 4 * n ≤ length bs → bs ≡ tieSection ts → (j : ℕ) → j < n → tieAt bs j ≡ getD ts j noTie
@@ -69,8 +59,8 @@ module _ (ts : List TieRecord) (kind : ℕ → Bool) where
             place = j;
             below = h;
             has = and-left (kind (t .kind)) (eqb (t .leader) a) r;
-            leads = eqb-eq (t .leader) a (and-right (kind (t .kind)) (eqb (t .leader) a) r);
-            follow = eqb-eq (t .follower) b (and-right (kind (t .kind) && eqb (t .leader) a) (eqb (t .follower) b) q);
+            leads = eqb-true (t .leader) a (and-right (kind (t .kind)) (eqb (t .leader) a) r);
+            follow = eqb-true (t .follower) b (and-right (kind (t .kind) && eqb (t .leader) a) (eqb (t .follower) b) q);
           }
 
   -- a tie at a place ties its leader to its follower

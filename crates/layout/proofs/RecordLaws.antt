@@ -1,7 +1,7 @@
 -- A section of records, each of so many bytes: its records' bytes one after the other, and zeros. Assumes nothing.
 use mathlib.Core.Path.{_≡_, refl, sym, _∙_, ap, fun-ext}
 use mathlib.Core.Bool.{Bool}
-use mathlib.Core.List.{List, [], _∷_, _++_, append-assoc}
+use mathlib.Core.List.{List, [], _∷_, _++_, append-assoc, flatMap}
 use Prim.Native.Nat.{ℕ, zero, suc, _+_, _-_, _*_, _/_, _%_, _≤_, _<_}
 use native.Mathlib.Nat.{div-add-mod', div-lt-iff-lt-mul, mul-le-mul-right, le-div-iff-mul-le, add-zero, add-div-right, add-mod-right, div-eq-of-lt, mod-eq-of-lt, mod-lt, suc-mul, add-comm, zero-add, suc-add, sub-zero, suc-sub-suc, le-of-suc-le-suc, not-suc-le-zero}
 use native.Mathlib.Numerals.{add-one}
@@ -12,7 +12,7 @@ use lib.Seq.{ext-getD}
 use Rattle.rules.specs.Base.{table}
 use Rattle.rules.specs.Window.{LogRecord, PermitRecord, TieRecord}
 use Rattle.rules.proofs.BaseLaws.{Below, under, over, below}
-use Rattle.layout.specs.Codec.{noRecord, noPermit, noTie, byte, permitBytes, permitByte, tieBytes, tieByte, recordBytes, logByte, permitSection, tieSection, logSection}
+use Rattle.layout.specs.Codec.{noRecord, noPermit, noTie, byte, permitBytes, permitByte, tieBytes, tieByte, recordBytes, logByte, permitSection, tieSection, logSection, permitIn, tieIn}
 use Rattle.layout.proofs.SectionLaws.{length-table, getD-table0, table-list}
 
 -- tables
@@ -31,34 +31,33 @@ unfolding table
 table-zeros zero i f h = refl
 table-zeros (suc k) i f h = rw (h i) (ap (λ l. 0 ∷ l) (table-zeros k (suc i) f h))
 
--- the records' bytes, one after the other
-unfoldable pub flat {ℓ} : {A : Type ℓ} → (A → List ℕ) → List A → List ℕ
-flat bytes [] = []
-flat bytes (x ∷ l) = bytes x ++ flat bytes l
+-- byte i of a section of w bytes for each place, where place k has the bytes f k
+unfoldable pub placed : ℕ → (ℕ → List ℕ) → ℕ → ℕ
+placed w f i = getD (f (i / w)) (i % w) 0
 
--- byte i of a section of records of w bytes
-unfoldable pub placeByte {ℓ} : {A : Type ℓ} → ℕ → (A → List ℕ) → A → List A → ℕ → ℕ
-placeByte w bytes none l i = getD (bytes (getD l (i / w) none)) (i % w) 0
+-- of one whose places have the bytes of records
+abbrev pub placeByte {ℓ} : {A : Type ℓ} → ℕ → (A → List ℕ) → A → List A → ℕ → ℕ
+placeByte w bytes none l = placed w (λ j. bytes (getD l j none))
 
 module _ {ℓ} {A : Type ℓ} (w : ℕ) (pos : 0 < w) (bytes : A → List ℕ) (none : A) (size : (x : A) → length (bytes x) ≡ w) (blank : bytes none ≡ replicate w 0) where
   no-place : (i : ℕ) → placeByte w bytes none [] i ≡ 0
-  unfolding placeByte
+  unfolding placed
   no-place i = rw blank (getD-replicate w (i % w) 0 0 (mod-lt i pos))
 
   first-place : (x : A) (l : List A) → table w 0 (placeByte w bytes none (x ∷ l)) ≡ bytes x
-  unfolding placeByte
+  unfolding placed
   first-place x l = ap (λ k. table k 0 (placeByte w bytes none (x ∷ l))) (sym (size x)) ∙ table-list 0 (bytes x) (placeByte w bytes none (x ∷ l)) (λ j h. go j (rw size at h))
     where
       go : (j : ℕ) → j < w → getD (bytes (getD (x ∷ l) (j / w) none)) (j % w) 0 ≡ getD (bytes x) j 0
       go j h = rw (div-eq-of-lt h, mod-eq-of-lt h)
 
   next-place : (x : A) (l : List A) (j : ℕ) → placeByte w bytes none (x ∷ l) (j + w) ≡ placeByte w bytes none l j
-  unfolding placeByte
+  unfolding placed
   next-place x l j = rw (add-div-right j pos, add-mod-right j w, add-one)
 
   -- the section is the records' bytes and zeros
-  pub records-flat : (most : ℕ) (l : List A) → length l ≤ most → table (most * w) 0 (placeByte w bytes none l) ≡ flat bytes l ++ replicate ((most - length l) * w) 0
-  unfolding flat
+  pub records-flat : (most : ℕ) (l : List A) → length l ≤ most → table (most * w) 0 (placeByte w bytes none l) ≡ flatMap bytes l ++ replicate ((most - length l) * w) 0
+  unfolding flatMap
   records-flat most [] h = rw (sub-zero most) (table-zeros (most * w) 0 (placeByte w bytes none []) no-place)
   records-flat zero (x ∷ l) h = absurd (not-suc-le-zero h)
   records-flat (suc most) (x ∷ l) h =
@@ -66,31 +65,36 @@ module _ {ℓ} {A : Type ℓ} (w : ℕ) (pos : 0 < w) (bytes : A → List ℕ) (
       ∙ table-append w (most * w) 0 (placeByte w bytes none (x ∷ l))
       ∙ ap (λ r. r ++ table (most * w) (0 + w) (placeByte w bytes none (x ∷ l))) (first-place x l)
       ∙ ap (λ r. bytes x ++ r) (table-shift (most * w) 0 w (placeByte w bytes none (x ∷ l)) ∙ ap (table (most * w) 0) (fun-ext (next-place x l)) ∙ records-flat most l (le-of-suc-le-suc h))
-      ∙ sym (append-assoc (bytes x) (flat bytes l) (replicate ((most - length l) * w) 0))
-      ∙ ap (λ k. (bytes x ++ flat bytes l) ++ replicate (k * w) 0) (sym (suc-sub-suc most (length l)))
+      ∙ sym (append-assoc (bytes x) (flatMap bytes l) (replicate ((most - length l) * w) 0))
+      ∙ ap (λ k. (bytes x ++ flatMap bytes l) ++ replicate (k * w) 0) (sym (suc-sub-suc most (length l)))
 
 -- the three sections of records
-pub permits-flat : (l : List PermitRecord) → length l ≤ 1024 → permitSection l ≡ flat permitBytes l ++ replicate ((1024 - length l) * 4) 0
-unfolding permitSection permitByte permitBytes placeByte
+pub permits-flat : (l : List PermitRecord) → length l ≤ 1024 → permitSection l ≡ flatMap permitBytes l ++ replicate ((1024 - length l) * 4) 0
+unfolding permitSection permitByte permitBytes placed
 permits-flat l h = records-flat 4 (omega arith) permitBytes noPermit (λ p. refl) refl 1024 l h
 
-pub ties-flat : (l : List TieRecord) → length l ≤ 512 → tieSection l ≡ flat tieBytes l ++ replicate ((512 - length l) * 4) 0
-unfolding tieSection tieByte tieBytes placeByte
+pub ties-flat : (l : List TieRecord) → length l ≤ 512 → tieSection l ≡ flatMap tieBytes l ++ replicate ((512 - length l) * 4) 0
+unfolding tieSection tieByte tieBytes placed
 ties-flat l h = records-flat 4 (omega arith) tieBytes noTie (λ p. refl) refl 512 l h
 
-pub log-flat : (l : List LogRecord) → length l ≤ 2048 → logSection l ≡ flat recordBytes l ++ replicate ((2048 - length l) * 6) 0
-unfolding logSection logByte recordBytes placeByte byte
+pub log-flat : (l : List LogRecord) → length l ≤ 2048 → logSection l ≡ flatMap recordBytes l ++ replicate ((2048 - length l) * 6) 0
+unfolding logSection logByte recordBytes placed byte
 log-flat l h = records-flat 6 (omega arith) recordBytes noRecord (λ p. refl) refl 2048 l h
 
 -- the first byte of a place
-pub first-byte : (bs : List ℕ) (at : ℕ) → getD bs at 0 ≡ getD bs (at + 0) 0
-first-byte bs at = ap (λ i. getD bs i 0) (sym (add-zero at))
+pub first-byte : (f : ℕ → ℕ) (at : ℕ) → f at ≡ f (at + 0)
+first-byte f at = ap f (sym (add-zero at))
+
+-- a place with a record's bytes holds the record
+pub permit-again : (f : ℕ → ℕ) (x : PermitRecord) (j : ℕ) → ((k : ℕ) → k < 4 → f (j * 4 + k) ≡ getD (permitBytes x) k 0) → permitIn f j ≡ x
+unfolding permitBytes
+permit-again f x j h = λ i. record { entry = (first-byte f (j * 4) ∙ h 0 (omega arith)) i; giver = h 1 (omega arith) i; taker = h 2 (omega arith) i; ops = h 3 (omega arith) i }
+
+pub tie-again : (f : ℕ → ℕ) (x : TieRecord) (j : ℕ) → ((k : ℕ) → k < 4 → f (j * 4 + k) ≡ getD (tieBytes x) k 0) → tieIn f j ≡ x
+unfolding tieBytes
+tie-again f x j h = λ i. record { kind = (first-byte f (j * 4) ∙ h 0 (omega arith)) i; leader = h 1 (omega arith) i; follower = h 2 (omega arith) i }
 
 -- A SECTION THAT HAS w BYTES FOR EACH PLACE
--- byte i where place k has the bytes f k
-unfoldable pub placed : ℕ → (ℕ → List ℕ) → ℕ → ℕ
-placed w f i = getD (f (i / w)) (i % w) 0
-
 module _ (w : ℕ) (pos : 0 < w) (n : ℕ) where
   -- byte j of place k
   pub cell-read : (f : ℕ → List ℕ) (k j : ℕ) → k < n → j < w → getD (table (n * w) 0 (placed w f)) (k * w + j) 0 ≡ getD (f k) j 0
@@ -111,7 +115,6 @@ module _ (w : ℕ) (pos : 0 < w) (n : ℕ) where
 -- the places of a list of records
 module _ {ℓ} {A : Type ℓ} (w : ℕ) (pos : 0 < w) (bytes : A → List ℕ) (none : A) (most : ℕ) where
   pub place-at : (l : List A) (j k : ℕ) → j < most → k < w → getD (table (most * w) 0 (placeByte w bytes none l)) (j * w + k) 0 ≡ getD (bytes (getD l j none)) k 0
-  unfolding placeByte placed
   place-at l j k = cell-read w pos most (λ i. bytes (getD l i none)) j k
 
   module _ (blank : bytes none ≡ replicate w 0) (n : ℕ) (bs : List ℕ) where
@@ -122,7 +125,6 @@ module _ {ℓ} {A : Type ℓ} (w : ℕ) (pos : 0 < w) (bytes : A → List ℕ) (
     -- n places that hold what the bytes say there, and zeros after them
     pub places-again : (read : ℕ → A) → length bs ≡ most * w → ((j k : ℕ) → j < n → k < w → getD (bytes (read j)) k 0 ≡ getD bs (j * w + k) 0)
         → ((i : ℕ) → n * w ≤ i → i < most * w → getD bs i 0 ≡ 0) → bs ≡ table (most * w) 0 (placeByte w bytes none (table n 0 read))
-    unfolding placeByte placed
     places-again read size used rest = by-cells w pos most bs (λ j. bytes (getD (table n 0 read) j none)) size (λ j k h t. go j k h t (below j n))
       where
         go : (j k : ℕ) → j < most → k < w → {b : Bool} → Below j n b → getD bs (j * w + k) 0 ≡ getD (bytes (getD (table n 0 read) j none)) k 0

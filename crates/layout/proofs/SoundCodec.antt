@@ -2,24 +2,35 @@
 use mathlib.Core.Path.{_≡_, refl}
 use mathlib.Core.List.{List}
 use mathlib.Core.Bool.{and-false}
-use Prim.Native.Nat.{ℕ}
+use Prim.Native.Nat.{ℕ, _≤_}
 use lib.Dec.{ltb}
 use lib.ListN.{getD, length}
+use borrow.Author.Tests.{le-ltb, ltb-true}
 use Rattle.rules.specs.Window.{limits, Window, live}
 use Rattle.rules.specs.Sound.{recordSound}
-use Rattle.rules.proofs.BaseLaws.{ltb-false, lt-of, within-of}
+use Rattle.rules.proofs.BaseLaws.{within-of}
 use Rattle.rules.proofs.ListLaws.{all-weaken, all-getD}
 use Rattle.rules.proofs.SoundParts.{Sound, Blank, sound-blank, value-most, record-parts, held-most}
 use Rattle.layout.specs.Codec.{decode, encode, noRecord, readValue, readStatus, readParent, readHeld}
 use Rattle.layout.proofs.CodecLaws.{Canonical, decode-encode}
 
+-- how many entries and changes a sound window has
+module _ (W : Window) (k : Sound limits W) where
+  pub entries-most : W .entries ≤ 256
+  unfolding limits
+  entries-most = within-of W.entries 256 (k .entries)
+
+  pub given-most : W .given ≤ 255
+  unfolding limits
+  given-most = within-of W.given 255 (k .changes)
+
 -- a sound window has what bytes can say
 pub sound-canonical : (W : Window) → Sound limits W → Canonical W
 unfolding limits
 sound-canonical W k = let b = sound-blank limits W k in record {
-  entries-most = within-of W.entries 256 (k .entries);
-  given-most = within-of W.given 255 (k .changes);
-  value-most = λ e. lt-of (W .value e) 4294967296 (value-most limits W k e);
+  entries-most = entries-most W k;
+  given-most = given-most W k;
+  value-most = λ e. ltb-true (W .value e) 4294967296 (value-most limits W k e);
   value-none = b .value;
   status-none = b .status;
   parent-none = b .parent;
@@ -27,7 +38,7 @@ sound-canonical W k = let b = sound-blank limits W k in record {
   held-none-entry = b .held-entry;
   held-none-change = b .held-change;
   log-most = within-of (length W.log) 2048 (k .room-log);
-  before-most = λ j. lt-of (getD W.log j noRecord .before) 4294967296 (all-getD (λ r. ltb r.before 4294967296) W.log j noRecord (all-weaken (recordSound W.entries (live W) W.held) _ (λ r h. record-parts W.entries (live W) W.held r h .2) W.log (k .records)) refl);
+  before-most = λ j. ltb-true (getD W.log j noRecord .before) 4294967296 (all-getD (λ r. ltb r.before 4294967296) W.log j noRecord (all-weaken (recordSound W.entries (live W) W.held) _ (λ r h. record-parts W.entries (live W) W.held r h .2) W.log (k .records)) refl);
   permits-most = within-of (length W.permits) 1024 (k .room-permits);
   ties-most = within-of (length W.ties) 512 (k .room-ties);
 }
@@ -40,9 +51,9 @@ sound-again W k = decode-encode W (sound-canonical W k)
 pub decode-blank : (bs : List ℕ) → Blank limits (decode bs)
 unfolding limits decode readValue readStatus readParent readHeld
 decode-blank bs = record {
-  value = λ e h. rw (ltb-false e 256 h);
-  status = λ c h. rw (ltb-false c 256 h);
-  parent = λ c h. rw (ltb-false c 256 h);
-  held-entry = λ e c h. rw (ltb-false e 256 h);
-  held-change = λ e c h. rw (ltb-false c 256 h, and-false);
+  value = λ e h. rw (le-ltb e 256 h);
+  status = λ c h. rw (le-ltb c 256 h);
+  parent = λ c h. rw (le-ltb c 256 h);
+  held-entry = λ e c h. rw (le-ltb e 256 h);
+  held-change = λ e c h. rw (le-ltb c 256 h, and-false);
 }

@@ -204,14 +204,24 @@ readParent bs c = cond (ltb c 256) (inside changesAt bs (c * 4 + 1)) 0
 unfoldable pub readHeld : List ℕ → ℕ → ℕ → ℕ
 readHeld bs e c = cond (ltb e 256 && ltb c 256) (cond (unpack (inside locksAt bs (e * 64 + 32 + c / 8)) (c % 8)) 2 (bit (unpack (inside locksAt bs (e * 64 + c / 8)) (c % 8)))) 0
 
+-- record j of a section, by the section's bytes
+abbrev pub permitIn : (ℕ → ℕ) → ℕ → PermitRecord
+permitIn f j = record { entry = f (j * 4); giver = f (j * 4 + 1); taker = f (j * 4 + 2); ops = f (j * 4 + 3) }
+
+abbrev pub tieIn : (ℕ → ℕ) → ℕ → TieRecord
+tieIn f j = record { kind = f (j * 4); leader = f (j * 4 + 1); follower = f (j * 4 + 2) }
+
+abbrev pub recordIn : (ℕ → ℕ) → ℕ → LogRecord
+recordIn f j = record { owner = f (j * 6); entry = f (j * 6 + 1); before = join4 (λ k. f (j * 6 + (k + 2))) }
+
 unfoldable pub readPermit : List ℕ → ℕ → PermitRecord
-readPermit bs j = record { entry = inside permitsAt bs (j * 4); giver = inside permitsAt bs (j * 4 + 1); taker = inside permitsAt bs (j * 4 + 2); ops = inside permitsAt bs (j * 4 + 3) }
+readPermit bs j = permitIn (inside permitsAt bs) j
 
 unfoldable pub readTie : List ℕ → ℕ → TieRecord
-readTie bs j = record { kind = inside tiesAt bs (j * 4); leader = inside tiesAt bs (j * 4 + 1); follower = inside tiesAt bs (j * 4 + 2) }
+readTie bs j = tieIn (inside tiesAt bs) j
 
 unfoldable pub readRecord : List ℕ → ℕ → LogRecord
-readRecord bs j = record { owner = inside logAt bs (j * 6); entry = inside logAt bs (j * 6 + 1); before = join4 (λ k. inside logAt bs (j * 6 + (k + 2))) }
+readRecord bs j = recordIn (inside logAt bs) j
 
 unfoldable pub decode : List ℕ → Window
 decode bs = record {

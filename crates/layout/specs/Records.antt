@@ -2,28 +2,26 @@
 use mathlib.Core.Path.{_≡_}
 use mathlib.Core.Bool.{Bool, _&&_}
 use mathlib.Core.List.{List}
-use Prim.Native.Nat.{ℕ, _+_, _*_}
+use Prim.Native.Nat.{ℕ}
 use lib.Dec.{ltb}
 use lib.ListN.{getD, length}
 use Rattle.rules.specs.Base.{all}
 use Rattle.rules.specs.Window.{LogRecord, PermitRecord, TieRecord}
-use Rattle.rules.specs.Locks.{makePermit}
-use Rattle.layout.specs.Codec.{join4}
+use Rattle.layout.specs.Codec.{permitIn, tieIn, recordIn}
 
--- a permit: entry, giver, taker, operations in its four bytes
+-- a permit, a tie and a log record at a place of their section
 unfoldable pub permitAt : List ℕ → ℕ → PermitRecord
-permitAt bs j = makePermit (getD bs (j * 4 + 1) 0) (getD bs (j * 4 + 2) 0) (getD bs (j * 4) 0) (getD bs (j * 4 + 3) 0)
-
--- a tie by its parts, and at a place: kind, leader and follower in the first three of its four bytes
-abbrev pub tieOf : ℕ → ℕ → ℕ → TieRecord
-tieOf kind leader follower = record { kind = kind; leader = leader; follower = follower }
+permitAt bs j = permitIn (λ i. getD bs i 0) j
 
 unfoldable pub tieAt : List ℕ → ℕ → TieRecord
-tieAt bs j = tieOf (getD bs (j * 4) 0) (getD bs (j * 4 + 1) 0) (getD bs (j * 4 + 2) 0)
+tieAt bs j = tieIn (λ i. getD bs i 0) j
 
--- a log record: owner, entry, and the value before in four bytes
 unfoldable pub recordAt : List ℕ → ℕ → LogRecord
-recordAt bs j = record { owner = getD bs (j * 6) 0; entry = getD bs (j * 6 + 1) 0; before = join4 (λ k. getD bs (j * 6 + (k + 2)) 0) }
+recordAt bs j = recordIn (λ i. getD bs i 0) j
+
+-- a tie by its parts
+abbrev pub tieOf : ℕ → ℕ → ℕ → TieRecord
+tieOf kind leader follower = record { kind = kind; leader = leader; follower = follower }
 
 -- both ends of each tie are below n
 unfoldable pub endsBelow : ℕ → List TieRecord → Bool

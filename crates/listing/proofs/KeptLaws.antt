@@ -9,7 +9,7 @@ use native.Mathlib.Omega.{arith}
 use lib.Dec.{eqb, leb}
 use lib.ListN.{length, take}
 use lib.Seq.{take-all, length-take-le}
-use Rattle.rules.proofs.BaseLaws.{le-of, gt-of}
+use borrow.Author.Tests.{leb-true, leb-false}
 use Rattle.layout.specs.Memory.{sameBytes}
 use Rattle.text.specs.Decimal.{ascii}
 use Rattle.text.specs.Parts.{partedBy}
@@ -29,8 +29,8 @@ unfolding lineCall
 call-kept l = go (leb (length l) 64) refl
   where
     go : (b : Bool) → leb (length l) 64 ≡ b → cond (leb (length (take 65 l)) 64) (fielded (partedBy 44 (take 65 l))) none ≡ cond (leb (length l) 64) (fielded (partedBy 44 l)) none
-    go true e = ap (λ (r : List ℕ). cond (leb (length r) 64) (fielded (partedBy 44 r)) none) (take-all 65 l (omega (arith, le-of (length l) 64 e)))
-    go false e = rw (length-take-le 65 l (omega (arith, gt-of (length l) 64 e)), e)
+    go true e = ap (λ (r : List ℕ). cond (leb (length r) 64) (fielded (partedBy 44 r)) none) (take-all 65 l (omega (arith, leb-true (length l) 64 e)))
+    go false e = rw (length-take-le 65 l (omega (arith, leb-false (length l) 64 e)), e)
 
 pub reply-kept : (mem l : List ℕ) → replyTo mem (take 65 l) ≡ replyTo mem l
 unfolding replyTo

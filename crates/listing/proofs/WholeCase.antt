@@ -7,9 +7,9 @@ use Prim.Native.Nat.{ℕ, suc}
 use native.Mathlib.Omega.{arith}
 use lib.Dec.{leb}
 use lib.ListN.{length, replicate, length-replicate}
+use borrow.Author.Tests.{le-leb}
 use Rattle.rules.specs.Calls.{Call, Open, Initiate, Begin, Lock, Write, Depend, Abort, Value}
 use Rattle.rules.specs.Lists.{answers}
-use Rattle.rules.proofs.BaseLaws.{leb-true}
 use Rattle.layout.specs.Codec.{windowSize}
 use Rattle.layout.specs.Memory.{sameBytes, long, handBack, perform}
 use Rattle.layout.proofs.Cases.{whole-case-on-memory}
@@ -37,7 +37,7 @@ replies-calls p mem (l ∷ ls) (c ∷ cs) e =
     rw this (ap (λ (r : List ℕ). printed p (perform mem c .answer) (perform mem c .number) ++ r) (replies-calls (suc p) (perform mem c .after) ls cs rest))
 
 zeros-long : (n : ℕ) → leb n (length (replicate {A = ℕ} n 0)) ≡ true
-zeros-long n = leb-true n (length (replicate {A = ℕ} n 0)) (omega (arith, length-replicate {A = ℕ} n 0))
+zeros-long n = le-leb n (length (replicate {A = ℕ} n 0)) (omega (arith, length-replicate {A = ℕ} n 0))
 
 long-zero : long zeroMemory ≡ true
 unfolding long zeroMemory
@@ -48,9 +48,12 @@ first-right : (ls : List (List ℕ)) → answered (firstLine ∷ ls) ≡ replies
 unfolding answered sameBytes firstLine ascii
 first-right ls = refl
 
--- WHOLE CASE: the input, its lines, the calls that they are, and what is printed
-script : List ℕ
+-- WHOLE CASE: the input, what is printed, the input's lines and the calls that they are
+pub script : List ℕ
 script = ascii "call,a,b,c,d\nopen,2,0,0,0\ninitiate,0,0,0,0\ninitiate,0,0,0,0\nbegin,1,0,0,0\nlock,1,0,2,0\nwrite,1,0,7,0\ndepend,3,1,2,0\nabort,2,0,0,0\nvalue,0,0,0,0\n"
+
+pub output : List ℕ
+output = ascii "line,answer,number\n1,0,0\n2,0,1\n3,0,2\n4,0,0\n5,0,0\n6,0,0\n7,0,0\n8,0,2\n9,0,0\n"
 
 callLines : List (List ℕ)
 callLines =
@@ -73,23 +76,17 @@ calls-answers : (mem : List ℕ) → long mem ≡ true
 unfolding calls
 calls-answers mem enough = ap (shown 1) (whole-case-on-memory mem enough)
 
-answers-shown : header ++ shown 1 ((0, 0) ∷ (0, 1) ∷ (0, 2) ∷ (0, 0) ∷ (0, 0) ∷ (0, 0) ∷ (0, 0) ∷ (0, 2) ∷ (0, 0) ∷ [])
-    ≡ ascii "line,answer,number\n1,0,0\n2,0,1\n3,0,2\n4,0,0\n5,0,0\n6,0,0\n7,0,0\n8,0,2\n9,0,0\n"
-unfolding shown printed digitsBefore shownBefore header ascii
+answers-shown : header ++ shown 1 ((0, 0) ∷ (0, 1) ∷ (0, 2) ∷ (0, 0) ∷ (0, 0) ∷ (0, 0) ∷ (0, 0) ∷ (0, 2) ∷ (0, 0) ∷ []) ≡ output
+unfolding output shown printed digitsBefore shownBefore header ascii
 answers-shown = refl
 
-script-listing : listing script ≡ ascii "line,answer,number\n1,0,0\n2,0,1\n3,0,2\n4,0,0\n5,0,0\n6,0,0\n7,0,0\n8,0,2\n9,0,0\n"
+-- "Whole case"
+pub whole-case : listing script ≡ output
 unfolding listing
-script-listing =
+whole-case =
     ap (λ (ls : List (List ℕ)). header ++ answered ls) script-lines
     ∙ ap (λ (r : List ℕ). header ++ r) (first-right callLines ∙ replies-calls 1 zeroMemory callLines calls lines-calls ∙ calls-answers zeroMemory long-zero)
     ∙ answers-shown
-
--- "Whole case"
-pub whole-case : listing (ascii "call,a,b,c,d\nopen,2,0,0,0\ninitiate,0,0,0,0\ninitiate,0,0,0,0\nbegin,1,0,0,0\nlock,1,0,2,0\nwrite,1,0,7,0\ndepend,3,1,2,0\nabort,2,0,0,0\nvalue,0,0,0,0\n")
-    ≡ ascii "line,answer,number\n1,0,0\n2,0,1\n3,0,2\n4,0,0\n5,0,0\n6,0,0\n7,0,0\n8,0,2\n9,0,0\n"
-unfolding script
-whole-case = script-listing
 
 -- "empty input prints the header only"
 pub empty-input : listing [] ≡ ascii "line,answer,number\n"

@@ -6,9 +6,10 @@ use Prim.Native.Nat.{ℕ, suc, _+_, _*_, _/_, _%_, _≤_, _<_}
 use native.Mathlib.Nat.{zero-add}
 use native.Mathlib.Omega.{arith}
 use lib.Dec.{ltb, eqb}
+use borrow.Author.Tests.{le-leb}
 use Rattle.rules.specs.Base.{put2, table}
 use Rattle.rules.specs.Sets.{Set}
-use Rattle.rules.proofs.BaseLaws.{Below, under, over, below, Same, same, other, same?, leb-true, eqb-same}
+use Rattle.rules.proofs.BaseLaws.{Below, under, over, below, Same, same, other, same?, eqb-same}
 use Rattle.layout.specs.Codec.{pack, unpack, lockByte, lockSection, locksSize}
 use Rattle.layout.proofs.CodecLaws.{pack-same, unpack-pack}
 use Rattle.layout.proofs.SectionLaws.{length-table, getD-table0}
@@ -63,7 +64,7 @@ module _ (t : Bits) (e m at : ℕ) (he : e < 256) (hm : m < 2) (place : at ≡ e
   -- all read as a set
   pub bits-loaded : (k : ℕ) → loaded (bitsSection t) at k ≡ ltb k 256 && t e m k
   unfolding loaded bitsSection
-  bits-loaded k = rw (length-table, leb-true (at + 32) locksSize (omega arith)) (go (below k 256))
+  bits-loaded k = rw (length-table, le-leb (at + 32) locksSize (omega arith)) (go (below k 256))
     where
       go : {b : Bool} → Below k 256 b → b && true && bytesHave (table locksSize 0 (bitsByte t)) at k ≡ b && t e m k
       go (under h) = bits-read k h
@@ -72,7 +73,7 @@ module _ (t : Bits) (e m at : ℕ) (he : e < 256) (hm : m < 2) (place : at ≡ e
 -- a set put there
 pub bits-stored : (t : Bits) (e m at : ℕ) (s : Set) → e < 256 → m < 2 → at ≡ e * 64 + m * 32 → stored s (bitsSection t) at ≡ bitsSection (put2 t e m s)
 unfolding stored setBytes bitsSection bitsByte put2
-bits-stored t e m at s he hm place = rw (length-table, leb-true (at + 32) locksSize (omega arith))
+bits-stored t e m at s he hm place = rw (length-table, le-leb (at + 32) locksSize (omega arith))
     (patch-table locksSize at 32 (bitsByte t) (setByte s) (bitsByte (put2 t e m s)) (omega arith) inner outer)
   where
     inner : (i : ℕ) → i < 32 → setByte s i ≡ bitsByte (put2 t e m s) (at + i)

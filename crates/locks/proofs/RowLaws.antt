@@ -5,10 +5,11 @@ use mathlib.Core.Bool.{Bool, true, false, not, cond, and-true, _&&_, _||_, and-f
 use Prim.Native.Nat.{ℕ, zero, suc, _≤_, _<_}
 use native.Mathlib.Omega.{arith}
 use lib.Dec.{ltb, eqb}
+use borrow.Author.Tests.{lt-ltb, ne-eqb}
 use Rattle.rules.specs.Base.{put, anyBelow}
 use Rattle.rules.specs.Sets.{Set, putAll}
 use Rattle.rules.specs.Locks.{clash}
-use Rattle.rules.proofs.BaseLaws.{Same, same, other, same?, ltb-true, eqb-other, anyBelow-none, eqb-same, or-false-left, or-false-right}
+use Rattle.rules.proofs.BaseLaws.{Same, same, other, same?, anyBelow-none, eqb-same, or-false-left, or-false-right}
 use Rattle.locks.specs.Held.{inMode, holding, clashesWith}
 
 -- TESTS OF A MODE
@@ -30,8 +31,8 @@ clash-write (suc (suc (suc x))) h = absurd (omega arith)
 clash-other : (x m : ℕ) → x ≤ 2 → 0 < m → m ≢ 2 → clash x m ≡ eqb x 2
 unfolding clash
 clash-other zero m h p n = refl
-clash-other (suc zero) m h p n = rw (ltb-true 0 m p, eqb-other m 2 n)
-clash-other (suc (suc zero)) m h p n = rw (ltb-true 0 m p)
+clash-other (suc zero) m h p n = rw (lt-ltb 0 m p, ne-eqb m 2 n)
+clash-other (suc (suc zero)) m h p n = rw (lt-ltb 0 m p)
 clash-other (suc (suc (suc x))) m h p n = absurd (omega arith)
 
 -- SETS OF A ROW
@@ -62,13 +63,13 @@ module _ (row : ℕ → ℕ) (c v m : ℕ) (hc : c < 256) where
   set-lock k = go (same? k c)
     where
       go : {b : Bool} → Same k c b → ltb k 256 && eqb (cond b v (row k)) m ≡ cond b (eqb v m) (ltb k 256 && eqb (row k) m)
-      go (same p) = rw (p, ltb-true c 256 hc)
+      go (same p) = rw (p, lt-ltb c 256 hc)
       go (other p) = refl
 
   module _ (s t : Set) (old : (k : ℕ) → s k ≡ inMode m row k) (without : (k : ℕ) → t k ≡ not (eqb k c) && s k) where
     -- a set that it is not to be in
     pub lock-left : v ≢ m → (k : ℕ) → t k ≡ inMode m (put row c v) k
-    lock-left n k = without k ∙ rw (old k, set-lock k) (go (eqb k c) (eqb v m) (eqb-other v m n))
+    lock-left n k = without k ∙ rw (old k, set-lock k) (go (eqb k c) (eqb v m) (ne-eqb v m n))
       where
         go : (b x : Bool) → x ≡ false → not b && inMode m row k ≡ cond b x (inMode m row k)
         go true x q = sym q
@@ -84,7 +85,7 @@ module _ (row : ℕ → ℕ) (c v m : ℕ) (hc : c < 256) where
 
 -- a lock taken away or left
 without-mode : (b : Bool) (x m : ℕ) → eqb (cond b 0 x) (suc m) ≡ eqb x (suc m) && not b
-without-mode true x m = eqb-other 0 (suc m) (omega arith) ∙ sym (and-false (eqb x (suc m)))
+without-mode true x m = ne-eqb 0 (suc m) (omega arith) ∙ sym (and-false (eqb x (suc m)))
 without-mode false x m = sym (and-true (eqb x (suc m)))
 
 -- a row's readers or writers without a set
@@ -102,7 +103,7 @@ pub row-without-none : (row : ℕ → ℕ) (s readers writers taken : Set) → (
     → (m c : ℕ) → m < 2 → c < 256 → eqb (row c) (suc m) ≡ eqb (putAll s 0 row c) (suc m)
 unfolding inMode putAll
 row-without-none row s readers writers taken r w common none m c hm h =
-    let e : taken c ≡ (eqb (row c) 1 || eqb (row c) 2) && s c = common c h ∙ rw (r c, w c, ltb-true c 256 h) in
+    let e : taken c ≡ (eqb (row c) 1 || eqb (row c) 2) && s c = common c h ∙ rw (r c, w c, lt-ltb c 256 h) in
     go m hm (s c) (sym e ∙ anyBelow-none 256 taken none c h)
   where
     go : (m : ℕ) → m < 2 → (d : Bool) → (eqb (row c) 1 || eqb (row c) 2) && d ≡ false → eqb (row c) (suc m) ≡ eqb (cond d 0 (row c)) (suc m)

@@ -6,9 +6,10 @@ use Prim.Native.Nat.{ℕ, zero, suc, _+_, _*_, _/_, _%_, _^_, _≤_, _<_}
 use native.Mathlib.Omega.{arith}
 use lib.Dec.{eqb}
 use lib.ListN.{getD}
+use borrow.Author.Tests.{lt-ltb}
 use Rattle.rules.specs.Base.{put, put2}
 use Rattle.rules.specs.Sets.{Set}
-use Rattle.rules.proofs.BaseLaws.{Same, same, other, same?, ltb-true}
+use Rattle.rules.proofs.BaseLaws.{Same, same, other, same?}
 use Rattle.layout.specs.Codec.{bit, unpack, lockSection}
 use Rattle.sets.specs.Members.{loaded, stored}
 use Rattle.locks.specs.Held.{Modes, inMode}
@@ -46,8 +47,8 @@ row-stored held e row r w he hr hw =
   where
     go : (x m c : ℕ) → c < 256 → m < 2 → {b : Bool} → Same x e b
         → cond (b && eqb m 1) w (cond (b && eqb m 0) r (λ d. eqb (held x d) (suc m))) c ≡ eqb (cond b row (held x) c) (suc m)
-    go x zero c hc hm (same p) = hr c ∙ rw (ltb-true c 256 hc)
-    go x (suc zero) c hc hm (same p) = hw c ∙ rw (ltb-true c 256 hc)
+    go x zero c hc hm (same p) = hr c ∙ rw (lt-ltb c 256 hc)
+    go x (suc zero) c hc hm (same p) = hw c ∙ rw (lt-ltb c 256 hc)
     go x (suc (suc m)) c hc hm (same p) = absurd (omega arith)
     go x m c hc hm (other p) = refl
 

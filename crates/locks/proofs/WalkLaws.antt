@@ -5,8 +5,9 @@ use mathlib.Core.List.{List}
 use Prim.Native.Nat.{ℕ, _+_}
 use native.Mathlib.Omega.{arith}
 use lib.Dec.{ltb}
+use borrow.Author.Tests.{le-ltb}
 use Rattle.rules.specs.Sets.{Set, everything, only}
-use Rattle.rules.proofs.BaseLaws.{Below, under, over, below, Same, same, other, same?, ltb-false}
+use Rattle.rules.proofs.BaseLaws.{Below, under, over, below, Same, same, other, same?}
 use Rattle.layout.specs.Codec.{lockSection}
 use Rattle.locks.specs.Held.{NoneFrom, changedOn}
 
@@ -18,7 +19,7 @@ module _ (rule : (ℕ → ℕ) → ℕ → ℕ) (held : ℕ → ℕ → ℕ) whe
   -- no entry yet
   walk-none : held ≡ changedOn (firstEntries 0) rule held
   unfolding changedOn firstEntries
-  walk-none = fun-ext λ e. fun-ext λ c. rw (ltb-false e 0 (omega arith))
+  walk-none = fun-ext λ e. fun-ext λ c. rw (le-ltb e 0 (omega arith))
 
   -- one more
   walk-next : (i : ℕ) → changedOn (only i) rule (changedOn (firstEntries i) rule held) ≡ changedOn (firstEntries (i + 1)) rule held

@@ -163,7 +163,7 @@ pub fn release(locks: &mut [u8], entries: usize, ended: ChangeSet)
     requires { ⌜ entries ≤ 256 ⌝ }
     ensures { λ _. ⌜ ((held : ℕ → ℕ → ℕ) → NoneFrom entries held → now (locks .entry) ≡ lockSection held → now (locks .exit) ≡ lockSection (released (members ended) held)) ⌝ }
 {
-    if locks.len() < layout::Locks::SIZE {
+    if locks.len() < Locks::SIZE {
         return;
     }
     let mut bytes = [0u8; Locks::SET];

@@ -1,7 +1,7 @@
 -- The log closed up when changes have ended: one record moved, one turn of the loop, and its end. Assumes nothing.
 use mathlib.Core.Path.{_≡_, refl, sym, ap, _∙_}
 use mathlib.Core.Bool.{Bool, true, false, not, cond}
-use mathlib.Core.List.{List, [], _∷_, _++_}
+use mathlib.Core.List.{List, [], _∷_, _++_, flatMap}
 use Prim.Native.Nat.{ℕ, suc, _+_, _-_, _*_, _≤_, _<_}
 use native.Mathlib.Omega.{arith}
 use native.Mathlib.Nat.{add-zero}
@@ -14,7 +14,7 @@ use Rattle.rules.specs.Effects.{isUnowned, unowned}
 use Rattle.rules.proofs.ListLaws.{length-keep}
 use Rattle.layout.specs.Codec.{noRecord, recordBytes, logSection}
 use Rattle.layout.specs.Records.{Tabled}
-use Rattle.layout.proofs.RecordLaws.{flat, log-flat}
+use Rattle.layout.proofs.RecordLaws.{log-flat}
 use Rattle.cells.specs.Part.{part, patch}
 use Rattle.cells.proofs.PartLaws.{getD-part, part-cons, sets-patch}
 use Rattle.cells.proofs.NumLaws.{part4}
@@ -70,9 +70,9 @@ module _ (s : Set) (l : List LogRecord) (log : List ℕ) (i j : ℕ) (m : Droppi
       go false e p q = rw (p, q) (turn false e)
 
 -- records and zeros are the section
-cleared : (l : List LogRecord) (x y : ℕ) → length l ≤ 2048 → x + y ≡ (2048 - length l) * 6 → flat recordBytes l ++ (replicate x 0 ++ replicate y 0) ≡ logSection l
+cleared : (l : List LogRecord) (x y : ℕ) → length l ≤ 2048 → x + y ≡ (2048 - length l) * 6 → flatMap recordBytes l ++ (replicate x 0 ++ replicate y 0) ≡ logSection l
 cleared l x y h e =
-    ap (λ (t : List ℕ). flat recordBytes l ++ t) (replicate-append-replicate x y 0 ∙ ap (λ (z : ℕ). replicate z 0) e) ∙ sym (log-flat l h)
+    ap (λ (t : List ℕ). flatMap recordBytes l ++ t) (replicate-append-replicate x y 0 ∙ ap (λ (z : ℕ). replicate z 0) e) ∙ sym (log-flat l h)
 
 -- all were read, and the rest is cleared
 pub dropping-all : (s : Set) (l : List LogRecord) (log : List ℕ) (n j : ℕ) (out : List ℕ) → length l ≡ n → n ≤ 2048 → Dropping s l log n j

@@ -10,7 +10,6 @@ use lib.Dec.{eqb}
 use lib.ListN.{getD}
 use Rattle.rules.specs.Base.{anyBelow}
 use Rattle.rules.specs.Window.{PermitRecord}
-use Rattle.rules.specs.Locks.{makePermit}
 use Rattle.rules.proofs.BaseLaws.{both-ways, any-intro, any-elim, anyBelow-none}
 use Rattle.layout.specs.Records.{permitAt}
 use Rattle.cells.specs.Part.{byteIs}
@@ -52,11 +51,11 @@ module _ (p : PermitRecord → Bool) (bs : List ℕ) (start : ℕ) where
 -- one byte more
 pub byte-next : (bs : List ℕ) (at b i : ℕ) (found : Bool) → found ≡ anyBelow i (byteIs bs at b) → found || eqb (getD bs (at + i) 0) b ≡ anyBelow (i + 1) (byteIs bs at b)
 unfolding anyBelow byteIs
-byte-next bs at b i found e = rw (add-one, ← e) refl
+byte-next bs at b i found e = rw (add-one, ← e)
 
 -- a change whose number is none of its bytes gives and takes none of its permits
 pub block-none : (bs : List ℕ) (c j : ℕ) (found : Bool) → found ≡ anyBelow 64 (byteIs bs (j * 4) c) → found ≡ false → (k : ℕ) → j ≤ k → k < j + 16 → involves c (permitAt bs k) ≡ false
-unfolding byteIs involves permitAt makePermit
+unfolding byteIs involves permitAt
 block-none bs c j found e f k h l =
     let byte : (i : ℕ) → i < 4 → eqb (getD bs (k * 4 + i) 0) c ≡ false = λ i m. let q : j * 4 + ((k - j) * 4 + i) ≡ k * 4 + i = omega arith in rw q at (anyBelow-none 64 (byteIs bs (j * 4) c) (sym e ∙ f) ((k - j) * 4 + i) (omega arith)) in
     rw (byte 1 (omega arith), byte 2 (omega arith))

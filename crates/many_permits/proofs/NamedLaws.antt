@@ -3,11 +3,12 @@ use mathlib.Core.Path.{_≡_, refl, sym, _∙_, ap, ap₂}
 use mathlib.Core.Bool.{Bool, true, false, not, _&&_, _||_, and-true, and-false, or-false, or-assoc, or-comm, or-true, and-or-distrib-right, false≢true}
 use Prim.Native.Nat.{ℕ}
 use lib.Dec.{eqb}
+use borrow.Author.Tests.{not-true}
 use Rattle.rules.specs.Base.{anyBelow}
 use Rattle.rules.specs.Sets.{Set}
 use Rattle.rules.specs.Window.{PermitRecord}
 use Rattle.rules.specs.Locks.{contains, makePermit}
-use Rattle.rules.proofs.BaseLaws.{Same, same, other, same?, allBelow-intro, anyBelow-none, not-true}
+use Rattle.rules.proofs.BaseLaws.{Same, same, other, same?, allBelow-intro, anyBelow-none}
 use Rattle.rules.proofs.BoundLaws.{all-ext, any-or, any-and, none-as}
 use Rattle.beside.specs.Permits.{anyOf}
 use Rattle.beside.specs.Beside.{containsHeld, beside, otherHolder, othersFit, entryFits}
@@ -21,13 +22,13 @@ pub unite-passed : (s m s′ test : Bool) → test ≡ true → s′ ≡ s || m 
 unite-passed s m s′ test t e = e ∙ rw (t, and-true m)
 
 -- whom a permit g, t, o names beside the writer a
-pub named-added : (r x : Set) (a k g t e o : ℕ) (s sv : Bool) → sv ≡ containsHeld o (r t) (x t)
-    → s || eqb t k && (eqb g a && sv) || eqb g k && (eqb t a && (eqb o 2 || eqb o 3)) ≡ s || names r x a k (makePermit g t e o)
-unfolding names makePermit contains
-named-added r x a k g t e o s sv h = rw h (go (same? t k))
+pub named-added : (r x : Set) (a k g t e o : ℕ) (s sv write : Bool) → sv ≡ containsHeld o (r t) (x t) → write ≡ contains o 2
+    → s || eqb t k && (eqb g a && sv) || eqb g k && (eqb t a && write) ≡ s || names r x a k (makePermit g t e o)
+unfolding names makePermit
+named-added r x a k g t e o s sv write h w = rw (h, w) (go (same? t k))
   where
     rest : Bool
-    rest = eqb g k && (eqb t a && (eqb o 2 || eqb o 3))
+    rest = eqb g k && (eqb t a && contains o 2)
 
     go : {b : Bool} → Same t k b → s || b && (eqb g a && containsHeld o (r t) (x t)) || rest ≡ s || (eqb g a && (b && containsHeld o (r k) (x k)) || rest)
     go (same q) = or-assoc s (eqb g a && containsHeld o (r t) (x t)) rest ∙ ap (λ c. s || (eqb g a && containsHeld o (r c) (x c) || rest)) q

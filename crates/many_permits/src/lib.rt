@@ -1,4 +1,5 @@
 // An entry with many permits: those to anybody by sets, and those that name a writer past blocks without its number.
+use beside::contains;
 use beside::contains_held;
 use layout::Permits;
 use sets::ChangeSet;
@@ -91,9 +92,8 @@ fn add_giver(s: ChangeSet, permits: &[u8], place: usize, mode: u8) -> ChangeSet
     ensures { λ r. ⌜ ((k : ℕ) → members r k ≡ members s k || permitsAnybody mode k (permitAt (now (permits .entry)) place)) ⌝ }
 {
     let at = place * Permits::RECORD;
-    let operations = permits[at + 3];
-    let contains = (operations == mode) | (operations == 3);
-    add_if(s, permits[at + 1], (permits[at + 2] == 0) & contains)
+    let contained = contains(permits[at + 3], mode);
+    add_if(s, permits[at + 1], (permits[at + 2] == 0) & contained)
 }
 
 // The givers of the permits to anybody that contain a mode.
@@ -127,7 +127,7 @@ fn add_named(
     let taker = permits[at + 2];
     let operations = permits[at + 3];
     let out = (giver == writer) & contains_held(operations, readers.has(taker), writers.has(taker));
-    let into = (taker == writer) & ((operations == 2) | (operations == 3));
+    let into = (taker == writer) & contains(operations, 2);
     add_if(add_if(s, taker, out), giver, into)
 }
 

@@ -4,16 +4,17 @@ use mathlib.Core.Logic.{_≢_}
 use mathlib.Core.Bool.{Bool, true, false, not, cond, _&&_}
 use mathlib.Core.List.{List, [], _∷_}
 use Prim.Native.Nat.{ℕ, zero, suc, _≤_, _<_}
-use lib.Dec.{ltb, eqb}
+use lib.Dec.{eqb}
 use lib.ListN.{take, drop}
+use borrow.Author.Tests.{ltb-false, leb-false, not-true, not-false}
 use Rattle.rules.specs.Base.{outside, all}
-use Rattle.rules.specs.Window.{limits, Window, noChange, noEntry}
+use Rattle.rules.specs.Window.{limits, Window, noEntry}
 use Rattle.rules.specs.Ties.{makeTie, addTie, acyclic}
 use Rattle.rules.specs.Calls.{Permit, Delegate, Depend}
 use Rattle.rules.specs.Effects.{every}
 use Rattle.rules.specs.Refusals.{Check, _if_, checks, firstFailed}
-use Rattle.rules.proofs.BaseLaws.{ge-of, gt-of, not-true, not-false, or-false-right}
 use Rattle.rules.proofs.SoundStep.{Passed, passed}
+use Rattle.rules.proofs.SoundParts.{numbered}
 use Rattle.refusals.proofs.RefusalLaws.{Checked, fails, passes, first}
 
 -- a test of an entry x that may be every entry
@@ -53,11 +54,6 @@ went-on (suc n) [] r p q = q
 went-on (suc n) (k ∷ l) r p q = rw (p .0) (went-on n l r (p .1) q)
 
 -- PERMIT, DELEGATE AND DEPEND
--- a change that there is
-numbered : (W : Window) (c : ℕ) → noChange W c ≡ false → c ≤ W .given
-unfolding noChange
-numbered W c h = ge-of (W .given) c (or-false-right (eqb c 0) (ltb W.given c) h)
-
 -- no number of a permit is refused
 module _ (W : Window) (g t e o r : ℕ) (q : r ≡ firstFailed (take 5 (checks limits W (Permit g t e o)))) (z : r ≡ 0) where
   permit-passed : Passed (take 5 (checks limits W (Permit g t e o)))
@@ -66,7 +62,7 @@ module _ (W : Window) (g t e o r : ℕ) (q : r ≡ firstFailed (take 5 (checks l
 
   pub permit-numbers : (g ≤ W .given) × (t ≤ W .given) × (e < W .entries)
   unfolding checks _if_ noEntry
-  permit-numbers = let p = permit-passed in (numbered W g (p .0), ge-of (W .given) t (p .1 .0), gt-of (W .entries) e (p .1 .1 .0))
+  permit-numbers = let p = permit-passed in (numbered W g (p .0), ltb-false (W .given) t (p .1 .0), leb-false (W .entries) e (p .1 .1 .0))
 
   pub permit-rest : {s : ℕ} → Checked (drop 5 (checks limits W (Permit g t e o))) s → s ≡ firstFailed (checks limits W (Permit g t e o))
   permit-rest k = went-on 5 (checks limits W (Permit g t e o)) _ permit-passed (first k)

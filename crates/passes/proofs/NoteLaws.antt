@@ -6,7 +6,7 @@ use Prim.Native.Nat.{ℕ, _+_, _*_, _/_, _%_, _^_, _<_}
 use native.Mathlib.Decide.{ℕ-discrete, decLt}
 use native.Mathlib.Numerals.{add-one}
 use native.Mathlib.Omega.{arith}
-use borrow.Author.Tests.{eq-eqb, ne-eqb}
+use borrow.Author.Tests.{eq-eqb, ne-eqb, eqb-true, lt-ltb, le-ltb}
 use lib.Bits.{bitOr}
 use lib.Dec.{eqb, ltb}
 use lib.ListN.{length, getD, set}
@@ -14,7 +14,7 @@ use lib.Seq.{getD-set-same, getD-set-other}
 use Rattle.rules.specs.Base.{anyBelow}
 use Rattle.rules.specs.Window.{TieRecord}
 use Rattle.rules.specs.Ties.{isGroup}
-use Rattle.rules.proofs.BaseLaws.{and-left, and-right, eqb-eq, no-true, ltb-true, ltb-false}
+use Rattle.rules.proofs.BaseLaws.{and-left, and-right, no-true}
 use Rattle.layout.specs.Codec.{unpack}
 use Rattle.layout.specs.Records.{tieAt}
 use Rattle.cells.proofs.Digits.{unpack-or}
@@ -29,7 +29,7 @@ unfolding rowHas
 noted rows a b len ha hb x y = go (decLt y 256)
   where
     apart : (x * 4 + y / 64 ≡ a * 4 + b / 64 → ⊥) → eqb x a && eqb y b ≡ false
-    apart n = no-true _ (λ e. n (ap₂ (λ (p q : ℕ). p * 4 + q / 64) (eqb-eq x a (and-left (eqb x a) (eqb y b) e)) (eqb-eq y b (and-right (eqb x a) (eqb y b) e))))
+    apart n = no-true _ (λ e. n (ap₂ (λ (p q : ℕ). p * 4 + q / 64) (eqb-true x a (and-left (eqb x a) (eqb y b) e)) (eqb-true y b (and-right (eqb x a) (eqb y b) e))))
 
     at : y < 256 → Dec (x * 4 + y / 64 ≡ a * 4 + b / 64)
         → unpack (getD (set rows (a * 4 + b / 64) (bitOr (getD rows (a * 4 + b / 64) 0) ((1 * 2 ^ (b % 64)) % 2 ^ 64))) (x * 4 + y / 64) 0) (y % 64)
@@ -45,8 +45,8 @@ noted rows a b len ha hb x y = go (decLt y 256)
     go : Dec (y < 256)
         → ltb y 256 && unpack (getD (set rows (a * 4 + b / 64) (bitOr (getD rows (a * 4 + b / 64) 0) ((1 * 2 ^ (b % 64)) % 2 ^ 64))) (x * 4 + y / 64) 0) (y % 64)
         ≡ ltb y 256 && unpack (getD rows (x * 4 + y / 64) 0) (y % 64) || eqb x a && eqb y b
-    go (yes h) = rw (ltb-true y 256 h) (at h (ℕ-discrete (x * 4 + y / 64) (a * 4 + b / 64)))
-    go (no n) = rw (ltb-false y 256 (omega arith), ne-eqb y b (λ e. n (omega arith)), and-false (eqb x a))
+    go (yes h) = rw (lt-ltb y 256 h) (at h (ℕ-discrete (x * 4 + y / 64) (a * 4 + b / 64)))
+    go (no n) = rw (le-ltb y 256 (omega arith), ne-eqb y b (λ e. n (omega arith)), and-false (eqb x a))
 
 -- A TIE, by whether it is gone along and whether it is a group's
 along-as : (low : ℕ) (t : TieRecord) (f g : Bool) → follows low t.kind ≡ f → isGroup t.kind ≡ g → (x y : ℕ) → goneAlong low t x y ≡ eqb x t.leader && (eqb y t.follower && f) || eqb x t.follower && (eqb y t.leader && g)

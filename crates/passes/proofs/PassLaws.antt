@@ -7,10 +7,11 @@ use native.Mathlib.Nat.{not-suc-le-zero}
 use native.Mathlib.Numerals.{add-one}
 use native.Mathlib.Omega.{arith}
 use lib.Dec.{leb, eqb}
+use borrow.Author.Tests.{eqb-true, leb-true, le-leb}
 use Rattle.rules.specs.Sets.{Set}
 use Rattle.rules.specs.Window.{TieRecord}
 use Rattle.rules.specs.Ties.{isGroup}
-use Rattle.rules.proofs.BaseLaws.{or-left, or-right, or-cases, and-both, and-left, and-right, both-ways, eqb-eq, eqb-same, le-of, leb-true, Same, same, other, same?}
+use Rattle.rules.proofs.BaseLaws.{or-left, or-right, or-cases, and-both, and-left, and-right, both-ways, eqb-same, Same, same, other, same?}
 use Rattle.passes.specs.Passes.{follows, placeFrom, pulled, passed}
 
 -- a member of the one is a member of the other
@@ -21,16 +22,16 @@ Inside s u = (k : ℕ) → s k ≡ true → u k ≡ true
 -- a kind from the lowest one to 3 is gone along
 pub follows-of : (low k : ℕ) → low ≤ k → k ≤ 3 → follows low k ≡ true
 unfolding follows
-follows-of low k h l = rw (leb-true low k h, leb-true k 3 l)
+follows-of low k h l = rw (le-leb low k h, le-leb k 3 l)
 
 -- what such a kind is
 pub follows-low : (low k : ℕ) → follows low k ≡ true → low ≤ k
 unfolding follows
-follows-low low k e = le-of low k (and-left (leb low k) (leb k 3) e)
+follows-low low k e = leb-true low k (and-left (leb low k) (leb k 3) e)
 
 pub follows-high : (low k : ℕ) → follows low k ≡ true → k ≤ 3
 unfolding follows
-follows-high low k e = le-of k 3 (and-right (leb low k) (leb k 3) e)
+follows-high low k e = leb-true k 3 (and-right (leb low k) (leb k 3) e)
 
 -- ONE TIE
 and-three : (a b c : Bool) → a && (b && c) ≡ true → (a ≡ true) × (b ≡ true) × (c ≡ true)
@@ -59,8 +60,8 @@ module _ (low : ℕ) (t : TieRecord) (s : Set) where
       → Inside (pulled low t s) u
   unfolding pulled
   pulled-within u w f g k e = ⊎-elim
-      (λ p. ⊎-elim (w k) (λ q. let r = and-three (eqb k t.follower) (follows low t.kind) (s t.leader) q in rw (eqb-eq k t.follower (r .0)) (f (r .1) (r .2))) (or-cases (s k) _ p))
-      (λ q. let r = and-three (eqb k t.leader) (isGroup t.kind) (s t.follower) q in rw (eqb-eq k t.leader (r .0)) (g (r .1) (r .2)))
+      (λ p. ⊎-elim (w k) (λ q. let r = and-three (eqb k t.follower) (follows low t.kind) (s t.leader) q in rw (eqb-true k t.follower (r .0)) (f (r .1) (r .2))) (or-cases (s k) _ p))
+      (λ q. let r = and-three (eqb k t.leader) (isGroup t.kind) (s t.follower) q in rw (eqb-true k t.leader (r .0)) (g (r .1) (r .2)))
       (or-cases (s k || eqb k t.follower && (follows low t.kind && s t.leader)) _ e)
 
   -- nothing to add
@@ -69,7 +70,7 @@ module _ (low : ℕ) (t : TieRecord) (s : Set) where
 
   -- one number more, and no other
   one-more : (c : ℕ) → pulled low t s c ≡ true → Inside (pulled low t s) (λ k. eqb k c || s k) → (k : ℕ) → eqb k c || s k ≡ pulled low t s k
-  one-more c e w k = both-ways (eqb k c || s k) (pulled low t s k) (λ q. ⊎-elim (λ p. rw (eqb-eq k c p) e) (pulled-keeps k) (or-cases (eqb k c) (s k) q)) (w k)
+  one-more c e w k = both-ways (eqb k c || s k) (pulled low t s k) (λ q. ⊎-elim (λ p. rw (eqb-true k c p) e) (pulled-keeps k) (or-cases (eqb k c) (s k) q)) (w k)
 
   -- what is added is the follower
   pub pulled-add-follower : follows low t.kind ≡ true → s t.leader ≡ true → (k : ℕ) → eqb k t.follower || s k ≡ pulled low t s k

@@ -8,7 +8,7 @@ use Rattle.rules.specs.Window.{TieRecord}
 use Rattle.rules.specs.Ties.{isGroup}
 use Rattle.layout.specs.Records.{tieAt}
 
--- a tie of the kind is gone along from leader to follower
+-- a tie of the kind is gone along from leader to follower, where `low` is the lowest kind that is
 unfoldable pub follows : ℕ → ℕ → Bool
 follows low kind = leb low kind && leb kind 3
 

@@ -1,4 +1,4 @@
-// Passes over the ties of a section: what one adds to a set whose four words are lent, and what one notes in rows.
+// The ties of a section: which are arrows, what a pass over them adds to a set whose four words are lent, and what one notes in rows.
 // Rows have four words for each number: the numbers to which a tie is gone along from it.
 use layout::Ties;
 use words::among;
@@ -8,10 +8,18 @@ ghost use mathlib.Core.Bool.{_||_, _&&_};
 ghost use Prim.Native.Nat.{ℕ, _*_, _<_, _≤_};
 ghost use lib.Dec.{eqb};
 ghost use lib.ListN.{length};
+ghost use Rattle.rules.specs.Ties.{isArrow};
 ghost use Rattle.layout.specs.Records.{tieOf};
 ghost use Rattle.words.specs.Members.{wordsHave};
 ghost use Rattle.passes.specs.Passes.{placeFrom, tieFrom, pulled, passed};
 ghost use Rattle.passes.specs.TieRows.{goneAlong, goneIn, rowHas};
+
+// Whether a tie of that kind is an arrow.
+pub fn is_arrow(kind: u8) -> bool
+    ensures { λ r. ⌜ r ≡ isArrow kind ⌝ }
+{
+    (kind == 1) | (kind == 2)
+}
 
 // What one tie adds to the set of these words.
 fn pull(words: &mut [u64; 4], low: u8, kind: u8, leader: u8, follower: u8)

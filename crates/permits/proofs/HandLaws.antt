@@ -1,19 +1,17 @@
 -- What a hand-over of permits comes to: the rows that move, those that stay, and the first added to the second. Assumes nothing.
 use mathlib.Core.Path.{_≡_, refl, sym, ap, ap₂, _∙_}
-use mathlib.Core.Bool.{true, false, not, false≢true}
+use mathlib.Core.Bool.{true, false}
 use mathlib.Core.List.{List, [], _∷_, _++_, append-nil, map, foldr}
 use Prim.Native.Nat.{ℕ, _+_, _≤_}
 use native.Mathlib.Omega.{arith}
-use lib.Dec.{eqb}
 use lib.ListN.{length, replicate, length-map, length-replicate, drop-of-length-le}
 use Rattle.rules.specs.Base.{insert, keep, rising}
 use Rattle.rules.specs.Sets.{Set}
 use Rattle.rules.specs.Window.{PermitRecord, permitKey}
 use Rattle.rules.specs.Locks.{unitePermits, addPermit}
 use Rattle.rules.specs.Effects.{permitGiven, permitMoves, permitKept, movedPermit, movePermits}
-use Rattle.rules.proofs.BaseLaws.{and-left, not-true}
-use Rattle.rules.proofs.ListLaws.{length-parts}
 use Rattle.rules.proofs.SortLaws.{rising-keep, length-inserts}
+use Rattle.rules.proofs.SoundDelegate.{hand-parts}
 use Rattle.rules.proofs.SoundPermit.{unite-key}
 use Rattle.layout.specs.Codec.{permitSection}
 use Rattle.layout.specs.Records.{Tabled}
@@ -63,9 +61,7 @@ module _ (ps : List PermitRecord) (n : ℕ) (bytes : List ℕ) (len : length ps 
 
   -- together they are no more than the largest figure
   pub hand-fits : left + m ≤ 1024
-  unfolding permitMoves permitKept
-  hand-fits =
-      omega (arith, here .count, how-many, length-parts (permitMoves from to on) (permitKept from on) (λ q a b. false≢true (sym (not-true (permitGiven from on q) b) ∙ and-left (permitGiven from on q) (not (eqb q.taker to)) a)) ps)
+  hand-fits = omega (arith, here .count, how-many, hand-parts from to on ps)
 
   -- what is left is in order
   pub hand-rising : rising permitKey ps ≡ true → rising rowKey (rows left rest) ≡ true

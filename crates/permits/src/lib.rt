@@ -1,4 +1,5 @@
 // The table of permits in its lent section: one for each giver, taker and entry, in rising order of entry, giver, taker.
+use beside::contains;
 use cells::clear;
 use cells::copy_in;
 use layout::Permits;
@@ -155,8 +156,7 @@ fn is_served(s: &[u8], i: usize, taker: u8, mode: u8) -> bool
 {
     let at = 4 * i;
     let to = s[at + 2];
-    let operations = s[at + 3];
-    ((to == taker) | (to == 0)) & ((operations == mode) | (operations == 3))
+    ((to == taker) | (to == 0)) & contains(s[at + 3], mode)
 }
 
 // The giver of the row at a place is put into the set, if the row serves the taker.

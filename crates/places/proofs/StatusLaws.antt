@@ -8,11 +8,11 @@ use native.Mathlib.Omega.{arith}
 use native.Mathlib.Numerals.{add-one}
 use lib.Dec.{ltb, eqb}
 use lib.Bits.{bitOr}
-use borrow.Author.Tests.{eq-eqb}
+use borrow.Author.Tests.{eq-eqb, lt-ltb, le-ltb, eqb-true, ltb-true}
 use lib.ListN.{getD}
 use Rattle.rules.specs.Base.{put, outside}
 use Rattle.rules.specs.Sets.{Set, putAll}
-use Rattle.rules.proofs.BaseLaws.{Same, same, other, same?, ltb-true, ltb-false, Below, under, over, below, and-right, both-ways, eqb-eq, lt-of}
+use Rattle.rules.proofs.BaseLaws.{Same, same, other, same?, Below, under, over, below, and-right, both-ways}
 use Rattle.layout.specs.Codec.{changeSection, bit, unpack}
 use Rattle.cells.proofs.Digits.{unpack-zero, unpack-power, unpack-or, unpack-mod}
 use Rattle.sets.proofs.WalkLaws.{Lowest, lowest-rises}
@@ -80,9 +80,9 @@ ltb-more : (k c : ℕ) → ltb k (c + 1) ≡ eqb k c || ltb k c
 ltb-more k c = go (same? k c) (below k c)
   where
     go : {a b : Bool} → Same k c a → Below k c b → ltb k (c + 1) ≡ a || b
-    go (same e) b = ltb-true k (c + 1) (omega arith)
-    go (other e) (under h) = ltb-true k (c + 1) (omega arith)
-    go (other e) (over h) = ltb-false k (c + 1) (omega arith)
+    go (same e) b = lt-ltb k (c + 1) (omega arith)
+    go (other e) (under h) = lt-ltb k (c + 1) (omega arith)
+    go (other e) (over h) = le-ltb k (c + 1) (omega arith)
 
 -- one member more
 firsts-more : (s : Set) (c k : ℕ) → eqb k c && s c || firsts c s k ≡ firsts (c + 1) s k
@@ -94,18 +94,18 @@ firsts-more s c k = go (same? k c) ∙ ap (λ (b : Bool). b && s k) (sym (ltb-mo
     last false = refl
 
     go : {a : Bool} → Same k c a → a && s c || (ltb k c && s k) ≡ (a || ltb k c) && s k
-    go (same e) = rw (e, ltb-false c c (omega arith)) (last (s c))
+    go (same e) = rw (e, le-ltb c c (omega arith)) (last (s c))
     go (other e) = refl
 
 -- bounds that agree on a number
 firsts-same : (s : Set) (m n k : ℕ) → (k < m → k < n) → (k < n → k < m) → firsts m s k ≡ firsts n s k
 unfolding firsts
-firsts-same s m n k f g = ap (λ (b : Bool). b && s k) (both-ways _ _ (λ e. ltb-true k n (f (lt-of k m e))) (λ e. ltb-true k m (g (lt-of k n e))))
+firsts-same s m n k f g = ap (λ (b : Bool). b && s k) (both-ways _ _ (λ e. lt-ltb k n (f (ltb-true k m e))) (λ e. lt-ltb k m (g (ltb-true k n e))))
 
 -- a number that is not below the bound
 pub firsts-above : (s : Set) (n k : ℕ) → n ≤ k → firsts n s k ≡ false
 unfolding firsts
-firsts-above s n k h = rw (ltb-false k n h)
+firsts-above s n k h = rw (le-ltb k n h)
 
 -- a bit moved up to place i
 bit-moved : (t : Bool) (i j : ℕ) → j < 64 → unpack ((bit t * 2 ^ i) % 2 ^ 64) j ≡ eqb j i && t
@@ -129,7 +129,7 @@ word-more s first c w b t h e f inv j l =
     ∙ or-comm (firsts c s (first + j)) (eqb (first + j) c && s c) ∙ firsts-more s c (first + j)
   where
     here : eqb j (c - first) ≡ eqb (first + j) c
-    here = both-ways _ _ (λ q. eq-eqb (first + j) c (omega (arith, eqb-eq j (c - first) q))) (λ q. eq-eqb j (c - first) (omega (arith, eqb-eq (first + j) c q)))
+    here = both-ways _ _ (λ q. eq-eqb (first + j) c (omega (arith, eqb-true j (c - first) q))) (λ q. eq-eqb j (c - first) (omega (arith, eqb-true (first + j) c q)))
 
 -- all up to the end, which may lie before the first
 pub word-all : (s : Set) (first c end w : ℕ) → end ≤ c → c ≤ max first end

@@ -1,40 +1,31 @@
 -- What the sections of sound bytes say of the window that they are: its figures, places and tests. Assumes nothing.
-use mathlib.Core.Path.{_≡_, refl, sym, ap}
+use mathlib.Core.Path.{_≡_, sym, ap}
 use mathlib.Core.Bool.{Bool, true, false, not, _&&_, _||_}
 use mathlib.Core.List.{List}
 use Prim.Native.Nat.{ℕ, suc, _≤_, _<_, _^_}
 use native.Mathlib.Omega.{arith}
 use lib.Dec.{leb, ltb, eqb}
 use lib.ListN.{length, getD, take, drop}
+use borrow.Author.Tests.{leb-false, leb-true, ltb-true, le-leb, lt-ltb}
 use Rattle.rules.specs.Base.{outside}
 use Rattle.rules.specs.Window.{limits, Window, noChange, noEntry, live, running}
-use Rattle.rules.specs.Sound.{valueSound}
-use Rattle.rules.proofs.BaseLaws.{and-left, or-false-right, ge-of, gt-of, both-ways, le-of, lt-of, leb-true, ltb-true, within-of}
-use Rattle.rules.proofs.SoundParts.{Sound, held-most, held-no-entry}
+use Rattle.rules.proofs.BaseLaws.{both-ways, within-of}
+use Rattle.rules.proofs.SoundParts.{Sound, value-most, held-most, held-no-entry, numbered}
 use Rattle.layout.specs.Codec.{headAt, headSize, valuesAt, valuesSize, changesAt, changesSize, locksAt, locksSize, permitsAt, permitsSize, tiesAt, tiesSize, logAt, logSize, figures, headSection, valueSection, changeSection, lockSection, permitSection, tieSection, logSection, lay, decode, encode}
 use Rattle.layout.specs.Memory.{soundBytes}
 use Rattle.layout.proofs.PartLaws.{head-part, values-part, changes-part, locks-part, permits-part, ties-part, log-part}
-use Rattle.layout.proofs.SoundCodec.{decode-blank}
+use Rattle.layout.proofs.SoundCodec.{entries-most, given-most, decode-blank}
 use Rattle.layout.proofs.MemoryLaws.{bytes-sound, bytes-again, part-of}
 use Rattle.locks.specs.Held.{Modes, NoneFrom}
 
--- numbers that a sound window has
+-- the numbers of changes and entries that there are
 module _ (W : Window) (k : Sound limits W) where
-  pub given-most : W .given ≤ 255
-  unfolding limits
-  given-most = within-of _ 255 (k .changes)
-
-  pub entries-most : W .entries ≤ 256
-  unfolding limits
-  entries-most = within-of _ 256 (k .entries)
-
   pub change-fits : (c : ℕ) → noChange W c ≡ false → c < 256
-  unfolding noChange
-  change-fits c h = omega (arith, given-most, ge-of (W .given) c (or-false-right (eqb c 0) (ltb (W .given) c) h))
+  change-fits c h = omega (arith, given-most W k, numbered W c h)
 
   pub entry-fits : (e : ℕ) → noEntry W e ≡ false → e < 256
   unfolding noEntry
-  entry-fits e h = omega (arith, gt-of (W .entries) e h, entries-most)
+  entry-fits e h = omega (arith, leb-false (W .entries) e h, entries-most W k)
 
 -- the window of sound bytes, and the sections that they have
 module _ (bs : List ℕ) (s : soundBytes bs ≡ true) where
@@ -99,8 +90,7 @@ module _ (bs : List ℕ) (s : soundBytes bs ≡ true) where
   ties-read = figure-read 4 512 (within-of _ 512 (bytes-sound bs s .room-ties)) (omega arith)
 
   pub value-fits : (e : ℕ) → decode bs .value e < 2 ^ 32
-  unfolding valueSound
-  value-fits e = lt-of _ (2 ^ 32) (and-left _ _ (bytes-sound bs s .values e))
+  value-fits e = ltb-true _ (2 ^ 32) (value-most limits (decode bs) (bytes-sound bs s) e)
 
 -- a place beyond the largest figures has 0
 module _ (bs : List ℕ) where
@@ -140,7 +130,7 @@ module _ (W : Window) where
 
   pub live-read : (c n s : ℕ) (b : Bool) → n ≡ W .given → s ≡ W .status c → b ≡ outside 1 3 s → leb c n && not b ≡ live W c
   unfolding live
-  live-read c n s b e q h = rw (h, q, e, at-most) refl
+  live-read c n s b e q h = rw (h, q, e, at-most)
     where
       at-most : leb c (W .given) ≡ ltb c (suc (W .given))
-      at-most = both-ways _ _ (λ h. ltb-true c (suc (W .given)) (omega (arith, le-of c (W .given) h))) (λ h. leb-true c (W .given) (omega (arith, lt-of c (suc (W .given)) h)))
+      at-most = both-ways _ _ (λ h. lt-ltb c (suc (W .given)) (omega (arith, leb-true c (W .given) h))) (λ h. le-leb c (W .given) (omega (arith, ltb-true c (suc (W .given)) h)))

@@ -5,19 +5,21 @@ use mathlib.Core.List.{List}
 use Prim.Native.Nat.{ℕ, suc, _≤_, _<_}
 use native.Mathlib.Omega.{arith}
 use lib.ListN.{length}
+use borrow.Author.Tests.{ltb-false}
 use Rattle.rules.specs.Base.{exceeds}
 use Rattle.rules.specs.Window.{limits}
 use Rattle.rules.specs.Locks.{makePermit, addPermit}
 use Rattle.rules.specs.Ties.{makeTie, addTie}
 use Rattle.rules.specs.Calls.{Write, Permit, Depend}
 use Rattle.rules.specs.Refusals.{_if_, checks, firstFailed}
-use Rattle.rules.proofs.BaseLaws.{ge-of, within-of}
+use Rattle.rules.proofs.BaseLaws.{within-of}
 use Rattle.rules.proofs.SoundParts.{inside-of}
 use Rattle.layout.specs.Codec.{windowSize, decode}
 use Rattle.layout.specs.Memory.{soundBytes}
+use Rattle.layout.proofs.SoundCodec.{given-most}
 use Rattle.layout.proofs.MemoryLaws.{bytes-sound}
 use Rattle.replies.proofs.GiveLaws.{unrefused}
-use Rattle.reads.proofs.ReadLaws.{given-most, change-fits, entry-fits}
+use Rattle.reads.proofs.ReadLaws.{change-fits, entry-fits}
 
 -- a part that ends within a window ends within bytes of a window's length
 pub ends-within : {n m : ℕ} → n ≤ windowSize → m ≡ windowSize → n ≤ m
@@ -41,7 +43,7 @@ module _ (bs : List ℕ) (s : soundBytes bs ≡ true) where
   unfolding checks _if_
   permit-known g t e o q = let k = unrefused (decode bs) (Permit g t e o) q in (
     change-fits (decode bs) (bytes-sound bs s) g (k .0),
-    omega (arith, given-most (decode bs) (bytes-sound bs s), ge-of (decode bs .given) t (k .1 .0)),
+    omega (arith, given-most (decode bs) (bytes-sound bs s), ltb-false (decode bs .given) t (k .1 .0)),
     entry-fits (decode bs) (bytes-sound bs s) e (k .1 .1 .0),
     omega (arith, inside-of 1 3 o (k .1 .1 .1 .0)),
     k .1 .1 .1 .1 .1 .1 .1 .0,

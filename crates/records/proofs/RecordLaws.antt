@@ -31,7 +31,7 @@ withRecord W c e before = withLog W (addRecord c e before (W .log))
 module _ (W : Window) where
   one-logged : (m c e before : ℕ) → m ≡ length (W .log) → set (figures W) 2 (m + 1) ≡ figures (withRecord W c e before)
   unfolding figures addRecord withLog
-  one-logged m c e before q = rw (q, length-append W.log (record { owner = c; entry = e; before = before } ∷ [])) refl
+  one-logged m c e before q = rw (q, length-append W.log (record { owner = c; entry = e; before = before } ∷ []))
 
   with-value : (c e v before : ℕ) → before ≡ W .value e → {bs out : List ℕ} → bs ≡ encode (withRecord W c e before) → ((x : ℕ → ℕ) → take valuesSize (drop valuesAt bs) ≡ valueSection x → out ≡ valueSection (put x e v))
       → laidAt bs valuesAt valuesSize out ≡ encode (writeEntry W c e v)

@@ -6,10 +6,11 @@ use mathlib.Core.List.{List, [], _∷_}
 use Prim.Native.Nat.{ℕ, suc, _≤_, _<_}
 use native.Mathlib.Omega.{arith}
 use lib.Dec.{ltb, eqb}
+use borrow.Author.Tests.{ne-eqb, lt-ltb, le-ltb}
 use Rattle.rules.specs.Base.{exceeds}
 use Rattle.rules.specs.Window.{Window, noChange}
 use Rattle.rules.specs.Refusals.{Check, _if_, checks, firstFailed}
-use Rattle.rules.proofs.BaseLaws.{eqb-same, eqb-other, ltb-true, ltb-false, over-false, over-true}
+use Rattle.rules.proofs.BaseLaws.{eqb-same, over-false, over-true}
 use Rattle.refusals.specs.Shared.{ChangeRefusal}
 
 -- checks made in order give a number: t is the code's test
@@ -32,17 +33,17 @@ change-refusal q = record { commit = first q; abort = first q; status = first q;
 
 -- tests of a figure x that is read
 module _ {x y : ℕ} (e : x ≡ y) (n : ℕ) where
-  pub below : x < n → ltb y n ≡ true
-  below h = ltb-true y n (omega arith)
+  pub reads-below : x < n → ltb y n ≡ true
+  reads-below h = lt-ltb y n (omega arith)
 
-  pub not-below : n ≤ x → ltb y n ≡ false
-  not-below h = ltb-false y n (omega arith)
+  pub reads-not-below : n ≤ x → ltb y n ≡ false
+  reads-not-below h = le-ltb y n (omega arith)
 
-  pub same : x ≡ n → eqb y n ≡ true
-  same h = rw (sym e, h) (eqb-same n)
+  pub reads-same : x ≡ n → eqb y n ≡ true
+  reads-same h = rw (sym e, h) (eqb-same n)
 
-  pub other : x ≢ n → eqb y n ≡ false
-  other h = eqb-other y n (λ q. h (e ∙ q))
+  pub reads-other : x ≢ n → eqb y n ≡ false
+  reads-other h = ne-eqb y n (λ q. h (e ∙ q))
 
   -- one more exceeds a largest figure, or does not
   pub full : n ≤ x → exceeds (suc y) n ≡ true

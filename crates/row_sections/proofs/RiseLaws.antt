@@ -6,9 +6,8 @@ use Prim.Native.Nat.{ℕ, _+_, _-_, _≤_, _<_}
 use native.Mathlib.Numerals.{add-one}
 use native.Mathlib.Omega.{arith}
 use lib.Dec.{leb}
-use borrow.Author.Tests.{lt-leb}
+use borrow.Author.Tests.{lt-leb, not-true, not-false, le-leb, ne-eqb}
 use Rattle.rules.specs.Base.{allBelow}
-use Rattle.rules.proofs.BaseLaws.{not-true, not-false, leb-true, eqb-other}
 use Rattle.layout.proofs.SectionLaws.{Bytes}
 use Rattle.rules.proofs.TurnLaws.{none-yet, turn-failed, turn-passed}
 use Rattle.rows.specs.Rows.{rank, rowAt}
@@ -28,7 +27,7 @@ module _ (bs : List ℕ) (fits : ℕ → Bool) where
 
   pub none-risen : Risen 0 0
   unfolding inOrder
-  none-risen = record { passed = none-yet fits; bound = sym (leb-true 0 (rank (rowAt bs 0)) (omega arith)) }
+  none-risen = record { passed = none-yet fits; bound = sym (le-leb 0 (rank (rowAt bs 0)) (omega arith)) }
 
   -- row j fits where it passes a test of its own and is in order; r is what the code found of that test
   module _ (j : ℕ) (r own : Bool) (found : r ≡ own) (split : fits j ≡ own && inOrder bs j) where
@@ -42,6 +41,6 @@ module _ (bs : List ℕ) (fits : ℕ → Bool) where
     pub row-rises : (next key : ℕ) → Risen next j → not r ≡ false → key ≡ rank (rowAt bs j) → next ≤ key → Risen (key + 1) (j + 1)
     unfolding inOrder
     row-rises next key w t k l = record {
-      passed = turn-passed j fits true (w .passed) (sym (split ∙ rw (sym found ∙ not-false r t, w .bound, leb-true next (rank (rowAt bs j)) (omega arith)))) refl;
-      bound = let here : j + 1 - 1 ≡ j = omega arith in rw (eqb-other (j + 1) 0 (λ z. omega arith), here, k, add-one (rank (rowAt bs j)));
+      passed = turn-passed j fits true (w .passed) (sym (split ∙ rw (sym found ∙ not-false r t, w .bound, le-leb next (rank (rowAt bs j)) (omega arith)))) refl;
+      bound = let here : j + 1 - 1 ≡ j = omega arith in rw (ne-eqb (j + 1) 0 (λ z. omega arith), here, k, add-one (rank (rowAt bs j)));
     }

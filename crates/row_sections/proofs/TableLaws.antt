@@ -8,19 +8,18 @@ use native.Mathlib.Nat.{mul-comm}
 use native.Mathlib.Omega.{arith}
 use lib.Dec.{eqb}
 use lib.ListN.{getD, length, replicate}
+use borrow.Author.Tests.{ltb-true, lt-ltb, eqb-true}
 use Rattle.rules.specs.Base.{Key, allBelow, all, rising, table}
 use Rattle.rules.specs.Sets.{Set}
 use Rattle.rules.specs.Window.{PermitRecord, TieRecord, permitKey, tieKey}
-use Rattle.rules.specs.Locks.{makePermit}
 use Rattle.rules.specs.Sound.{permitSound, tieSound}
-use Rattle.rules.proofs.BaseLaws.{and-both, and-left, and-right, or-cases, or-right, lt-of, ltb-true, eqb-eq, allBelow-at, allBelow-intro}
+use Rattle.rules.proofs.BaseLaws.{and-both, and-left, and-right, or-cases, or-right, allBelow-at, allBelow-intro}
 use Rattle.rules.proofs.ListLaws.{all-at, all-table}
 use Rattle.rules.proofs.SortLaws.{rising-at, rising-table}
 use Rattle.layout.specs.Codec.{noPermit, noTie, permitBytes, tieBytes, permitByte, tieByte, permitSection, tieSection}
 use Rattle.layout.specs.Records.{tieAt, permitAt}
-use Rattle.layout.proofs.RecordLaws.{placeByte, place-at, places-again, places-rest, first-byte}
+use Rattle.layout.proofs.RecordLaws.{placed, placeByte, place-at, places-again, places-rest, first-byte, tie-again, permit-again}
 use Rattle.layout.proofs.SectionLaws.{Bytes, length-table}
-use Rattle.layout.proofs.ReadLaws.{tie-again, permit-again}
 use Rattle.cells.specs.Part.{byteIs}
 use Rattle.cells.proofs.ZeroLaws.{zeros-at, zeros-all}
 use Rattle.rows.specs.Rows.{rowKey, rank, rowAt}
@@ -32,12 +31,12 @@ use Rattle.row_sections.specs.Sections.{PermitsSound, TiesSound}
 in-order-at : (bs : List ℕ) (j : ℕ) → inOrder bs (suc j) ≡ true → rank (rowAt bs j) < rank (rowAt bs (suc j))
 unfolding inOrder
 in-order-at bs j h = let e : suc j - 1 ≡ j = omega arith in
-    ⊎-elim (λ q. absurd (let z = eqb-eq (suc j) 0 q in omega arith)) (λ q. rw e at (lt-of (rank (rowAt bs (suc j - 1))) (rank (rowAt bs (suc j))) q)) (or-cases (eqb (suc j) 0) _ h)
+    ⊎-elim (λ q. absurd (let z = eqb-true (suc j) 0 q in omega arith)) (λ q. rw e at (ltb-true (rank (rowAt bs (suc j - 1))) (rank (rowAt bs (suc j))) q)) (or-cases (eqb (suc j) 0) _ h)
 
 order-at : (bs : List ℕ) (j : ℕ) → (j ≢ 0 → rank (rowAt bs (j - 1)) < rank (rowAt bs j)) → inOrder bs j ≡ true
 unfolding inOrder
 order-at bs zero h = refl
-order-at bs (suc j) h = or-right (eqb (suc j) 0) _ (ltb-true (rank (rowAt bs (suc j - 1))) (rank (rowAt bs (suc j))) (h (λ e. omega arith)))
+order-at bs (suc j) h = or-right (eqb (suc j) 0) _ (lt-ltb (rank (rowAt bs (suc j - 1))) (rank (rowAt bs (suc j))) (h (λ e. omega arith)))
 
 -- the first three bytes of a place are its row's key
 key-place : (bs : List ℕ) (j : ℕ) → record { k1 = getD bs (j * 4) 0; k2 = getD bs (j * 4 + 1) 0; k3 = getD bs (j * 4 + 2) 0 } ≡ rowKey (rowAt bs j)
@@ -108,7 +107,7 @@ module _ {A : Type 0} (R : Rows A) (p : A → Bool) (most : ℕ) (bs : List ℕ)
 
 -- PERMITS
 permitRows : Rows PermitRecord
-unfolding permitBytes permitKey permitAt makePermit
+unfolding permitBytes permitKey permitAt
 permitRows = record {
   bytes = permitBytes;
   none = noPermit;
@@ -116,7 +115,7 @@ permitRows = record {
   read = permitAt;
   blank = refl;
   keyed = key-place;
-  again = permit-again;
+  again = λ bs. permit-again (λ i. getD bs i 0);
 }
 
 module _ (bs : List ℕ) (b : Bytes bs) (size : length bs ≡ 4096) (n entries : ℕ) (lives : Set) (fits : n ≤ 1024) where
@@ -129,10 +128,10 @@ module _ (bs : List ℕ) (b : Bytes bs) (size : length bs ≡ 4096) (n entries :
   }
     where
       go : (k : ℕ) → k < 4 → getD (permitBytes (permitAt bs j)) k 0 ≡ getD bs (j * 4 + k) 0
-      go zero l = unfold permitBytes permitAt makePermit in first-byte bs (j * 4)
-      go (suc zero) l = unfold permitBytes permitAt makePermit in refl
-      go (suc (suc zero)) l = unfold permitBytes permitAt makePermit in refl
-      go (suc (suc (suc zero))) l = unfold permitBytes permitAt makePermit in refl
+      go zero l = unfold permitBytes permitAt in first-byte (λ i. getD bs i 0) (j * 4)
+      go (suc zero) l = unfold permitBytes permitAt in refl
+      go (suc (suc zero)) l = unfold permitBytes permitAt in refl
+      go (suc (suc (suc zero))) l = unfold permitBytes permitAt in refl
       go (suc (suc (suc (suc k)))) l = absurd (omega arith)
 
   -- both tests
@@ -141,12 +140,12 @@ module _ (bs : List ℕ) (b : Bytes bs) (size : length bs ≡ 4096) (n entries :
     pub rest : allBelow (4096 - n * 4) (byteIs bs (n * 4) 0) ≡ true
 
   pub permits-of : PermitTests → PermitsSound bs n entries lives
-  unfolding permitSection permitByte placeByte permitRows
+  unfolding permitSection permitByte placed permitRows
   permits-of t = let s = stands permitRows (permitSound entries lives) 1024 bs b size n fits (λ j h. permit-turn j (allBelow-at n (permitFits bs entries lives) (t .fine) j h)) (zeros-at bs (n * 4) 4096 (t .rest)) in
       record { permits = s .rows; size = s .count; bytes = s .is; fine = s .fine; order = s .order }
 
   pub of-permits : PermitsSound bs n entries lives → PermitTests
-  unfolding permitSection permitByte placeByte permitRows permitFits
+  unfolding permitSection permitByte placed permitRows permitFits
   of-permits s =
       let r : Stands permitRows (permitSound entries lives) 1024 bs b size n fits = record { rows = s .permits; count = s .size; is = s .bytes; fine = s .fine; order = s .order } in record {
         fine = allBelow-intro n _ (λ j h. let t = turn permitRows (permitSound entries lives) 1024 bs b size n fits r j h in and-both (permitSound entries lives (permitAt bs j)) _ (t .fine) (t .order));
@@ -163,7 +162,7 @@ tieRows = record {
   read = tieAt;
   blank = refl;
   keyed = key-place;
-  again = tie-again;
+  again = λ bs. tie-again (λ i. getD bs i 0);
 }
 
 module _ (bs : List ℕ) (b : Bytes bs) (size : length bs ≡ 2048) (n : ℕ) (lives : Set) (fits : n ≤ 512) where
@@ -176,10 +175,10 @@ module _ (bs : List ℕ) (b : Bytes bs) (size : length bs ≡ 2048) (n : ℕ) (l
   }
     where
       go : (k : ℕ) → k < 4 → getD (tieBytes (tieAt bs j)) k 0 ≡ getD bs (j * 4 + k) 0
-      go zero l = unfold tieBytes tieAt in first-byte bs (j * 4)
+      go zero l = unfold tieBytes tieAt in first-byte (λ i. getD bs i 0) (j * 4)
       go (suc zero) l = unfold tieBytes tieAt in refl
       go (suc (suc zero)) l = unfold tieBytes tieAt in refl
-      go (suc (suc (suc zero))) l = unfold tieBytes in sym (eqb-eq _ 0 (and-right (tieSound lives (tieAt bs j)) _ (and-left (tieSound lives (tieAt bs j) && eqb (getD bs (j * 4 + 3) 0) 0) _ h)))
+      go (suc (suc (suc zero))) l = unfold tieBytes in sym (eqb-true _ 0 (and-right (tieSound lives (tieAt bs j)) _ (and-left (tieSound lives (tieAt bs j) && eqb (getD bs (j * 4 + 3) 0) 0) _ h)))
       go (suc (suc (suc (suc k)))) l = absurd (omega arith)
 
   -- both tests
@@ -188,12 +187,12 @@ module _ (bs : List ℕ) (b : Bytes bs) (size : length bs ≡ 2048) (n : ℕ) (l
     pub rest : allBelow (2048 - n * 4) (byteIs bs (n * 4) 0) ≡ true
 
   pub ties-of : TieTests → TiesSound bs n lives
-  unfolding tieSection tieByte placeByte tieRows
+  unfolding tieSection tieByte placed tieRows
   ties-of t = let s = stands tieRows (tieSound lives) 512 bs b size n fits (λ j h. tie-turn j (allBelow-at n (tieFits bs lives) (t .fine) j h)) (zeros-at bs (n * 4) 2048 (t .rest)) in
       record { ties = s .rows; size = s .count; bytes = s .is; fine = s .fine; order = s .order }
 
   pub of-ties : TiesSound bs n lives → TieTests
-  unfolding tieSection tieByte placeByte tieRows tieFits
+  unfolding tieSection tieByte placed tieRows tieFits
   of-ties s =
       let r : Stands tieRows (tieSound lives) 512 bs b size n fits = record { rows = s .ties; count = s .size; is = s .bytes; fine = s .fine; order = s .order } in record {
         fine = allBelow-intro n _ (λ j h. let t = turn tieRows (tieSound lives) 512 bs b size n fits r j h in

@@ -10,7 +10,7 @@ use Rattle.rules.proofs.ListLaws.{length-keep}
 use Rattle.cells.specs.Part.{part, patch}
 use Rattle.cells.proofs.CloseLaws.{Closing, closing-none, closing-few, closing-here, closing-turn, closing-all}
 use Rattle.rows.specs.Rows.{Row, row, rowBytes, rowsBytes, rowAt, rows, Closed}
-use Rattle.rows.proofs.RowLaws.{length-rows, length-bytes, bytes-flat, row-part, rows-bytes, rows-rest}
+use Rattle.rows.proofs.RowLaws.{length-rows, length-bytes, row-part, rows-bytes, rows-rest}
 
 -- no more than there were
 pub closed-few : (q : Row → Bool) (n : ℕ) (l : List ℕ) (r : ℕ) (after : List ℕ) → Closed q n l r after → r ≤ n
@@ -40,8 +40,7 @@ Moved q n l₀ l i j = Closing 4 rowBytes q (rows n l₀) (drop (4 * n) l₀) l 
 module _ (q : Row → Bool) (n : ℕ) (l₀ : List ℕ) where
   -- before the first row
   pub moved-none : 4 * n ≤ length l₀ → Moved q n l₀ l₀ 0 0
-  moved-none h = closing-none 4 rowBytes q (rows n l₀) (drop (4 * n) l₀) l₀
-      (sym (rows-rest l₀ n h) ∙ ap (λ (t : List ℕ). t ++ drop (4 * n) l₀) (bytes-flat (rows n l₀)))
+  moved-none h = closing-none 4 rowBytes q (rows n l₀) (drop (4 * n) l₀) l₀ (sym (rows-rest l₀ n h))
 
   -- no more are kept than were read
   pub moved-few : (l : List ℕ) (i j : ℕ) → Moved q n l₀ l i j → i ≤ n → j ≤ i
@@ -66,6 +65,5 @@ module _ (q : Row → Bool) (n : ℕ) (l₀ : List ℕ) where
       let whole : length (rowsBytes kept ++ z) ≡ 4 * n = simp (length-append, length-bytes, length-replicate) (omega (arith, a .0, length-keep q (rows n l₀), length-rows n l₀)) in
       record {
         count = a .0;
-        bytes = e ∙ a .1 ∙ ap (λ (y : List ℕ). y ++ (z ++ drop (4 * n) l₀)) (sym (bytes-flat kept))
-            ∙ sym (ap (λ (k : ℕ). (rowsBytes kept ++ z) ++ drop k l₀) whole ∙ append-assoc (rowsBytes kept) z (drop (4 * n) l₀));
+        bytes = e ∙ a .1 ∙ sym (ap (λ (k : ℕ). (rowsBytes kept ++ z) ++ drop k l₀) whole ∙ append-assoc (rowsBytes kept) z (drop (4 * n) l₀));
       }

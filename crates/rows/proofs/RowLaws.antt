@@ -1,13 +1,13 @@
 -- Rows and their bytes, and a section with other rows at its front. Assumes nothing.
 use mathlib.Core.Path.{_≡_, refl, sym, ap, ap₂, _∙_}
-use mathlib.Core.List.{List, [], _∷_, _++_, append-assoc}
+use mathlib.Core.List.{List, [], _∷_, _++_, append-assoc, flatMap}
 use Prim.Native.Nat.{ℕ, zero, suc, _+_, _-_, _*_, _≤_, _<_}
 use native.Mathlib.Omega.{arith}
 use lib.ListN.{length, take, drop, getD, replicate, length-append, length-replicate, take-append-drop, replicate-append-replicate}
 use lib.Seq.{take-add, drop-drop, drop-at, drop-append-add}
 use Rattle.rules.specs.Base.{table}
 use Rattle.layout.proofs.SectionLaws.{length-table, table-list}
-use Rattle.layout.proofs.RecordLaws.{table-append, flat}
+use Rattle.layout.proofs.RecordLaws.{table-append}
 use Rattle.cells.specs.Part.{part, patch}
 use Rattle.cells.proofs.NumLaws.{part4}
 use Rattle.cells.proofs.CloseLaws.{flat-append}
@@ -15,7 +15,7 @@ use Rattle.rows.specs.Rows.{Row, row, rowBytes, rowsBytes, rowAt, rows, 
 
 -- how many
 pub length-bytes : (rs : List Row) → length (rowsBytes rs) ≡ 4 * length rs
-unfolding rowsBytes rowBytes
+unfolding flatMap rowBytes
 length-bytes [] = refl
 length-bytes (r ∷ rs) = omega (arith, length-bytes rs)
 
@@ -24,16 +24,6 @@ pub length-rows : (n : ℕ) (l : List ℕ) → length (rows n l) ≡ n
 unfolding rows
 length-rows n l = length-table n 0 (rowAt l)
 
--- rows are records of four bytes
-pub bytes-flat : (rs : List Row) → rowsBytes rs ≡ flat rowBytes rs
-unfolding rowsBytes flat
-bytes-flat [] = refl
-bytes-flat (r ∷ rs) = ap (λ (t : List ℕ). rowBytes r ++ t) (bytes-flat rs)
-
--- one after the other
-pub bytes-append : (rs qs : List Row) → rowsBytes (rs ++ qs) ≡ rowsBytes rs ++ rowsBytes qs
-bytes-append rs qs = bytes-flat (rs ++ qs) ∙ flat-append rowBytes rs qs ∙ sym (ap₂ (λ (a b : List ℕ). a ++ b) (bytes-flat rs) (bytes-flat qs))
-
 -- the bytes of a row that stands in a section are a part of it
 pub row-part : (l : List ℕ) (i : ℕ) → 4 * i + 4 ≤ length l → rowBytes (rowAt l i) ≡ part l (4 * i) 4
 unfolding rowBytes rowAt
@@ -41,7 +31,7 @@ row-part l i h = sym (part4 l (4 * i) h)
 
 -- so are those of several
 bytes-part : (l : List ℕ) (m i : ℕ) → 4 * i + 4 * m ≤ length l → rowsBytes (table m i (rowAt l)) ≡ part l (4 * i) (4 * m)
-unfolding rowsBytes table part
+unfolding flatMap table part
 bytes-part l zero i h = refl
 bytes-part l (suc m) i h =
     let e : 4 * suc m ≡ 4 + 4 * m = omega arith in
@@ -61,7 +51,7 @@ row-past r l j =
 
 -- rows whose bytes stand at the front are its first rows: each by its place
 row-here : (rs : List Row) (t : List ℕ) (j : ℕ) → j < length rs → rowAt (rowsBytes rs ++ t) j ≡ getD rs j (row 0 0 0 0)
-unfolding rowsBytes
+unfolding flatMap
 row-here [] t j h = absurd (omega arith)
 row-here (r ∷ rs) t zero h = unfold rowBytes rowAt in refl
 row-here (r ∷ rs) t (suc j) h = rw (append-assoc (rowBytes r) (rowsBytes rs) t) (row-past r (rowsBytes rs ++ t) j ∙ row-here rs t j (omega arith))
@@ -93,7 +83,7 @@ rows-split l n at h =
 pub pieces : (l : List ℕ) (n at : ℕ) → at ≤ n → 4 * n ≤ length l → l ≡ rowsBytes (table at 0 (rowAt l)) ++ (rowsBytes (table (n - at) at (rowAt l)) ++ drop (4 * n) l)
 pieces l n at h k =
     sym (rows-rest l n k)
-    ∙ ap (λ (t : List ℕ). t ++ drop (4 * n) l) (ap rowsBytes (rows-split l n at h) ∙ bytes-append (table at 0 (rowAt l)) (table (n - at) at (rowAt l)))
+    ∙ ap (λ (t : List ℕ). t ++ drop (4 * n) l) (ap rowsBytes (rows-split l n at h) ∙ flat-append rowBytes (table at 0 (rowAt l)) (table (n - at) at (rowAt l)))
     ∙ append-assoc (rowsBytes (table at 0 (rowAt l))) (rowsBytes (table (n - at) at (rowAt l))) (drop (4 * n) l)
 
 -- zeros at the end of a section

@@ -1,6 +1,6 @@
 -- A row stored among those of a section: bytes moved up, the gap filled, or a row's last byte replaced. Assumes nothing.
 use mathlib.Core.Path.{_≡_, refl, sym, ap, ap₂, _∙_}
-use mathlib.Core.List.{List, [], _∷_, _++_, append-assoc}
+use mathlib.Core.List.{List, [], _∷_, _++_, append-assoc, flatMap}
 use Prim.Native.Nat.{ℕ, suc, _+_, _-_, _*_, _≤_, _<_}
 use native.Mathlib.Nat.{sub-self}
 use native.Mathlib.Omega.{arith}
@@ -10,8 +10,9 @@ use Rattle.rules.specs.Base.{table}
 use Rattle.layout.proofs.SectionLaws.{length-table}
 use Rattle.cells.specs.Part.{part, patch}
 use Rattle.cells.proofs.PartLaws.{patch-nil, patch-cons, part-cons, getD-patch-before}
+use Rattle.cells.proofs.CloseLaws.{flat-append}
 use Rattle.rows.specs.Rows.{Row, row, rowBytes, rowsBytes, rowAt}
-use Rattle.rows.proofs.RowLaws.{length-bytes, bytes-append, pieces}
+use Rattle.rows.proofs.RowLaws.{length-bytes, pieces}
 
 -- THE LOOP THAT MOVES BYTES UP
 -- a store right before what has been put
@@ -71,7 +72,7 @@ front a x b l m e = let long : length (a ++ (x ++ b)) ≡ m = simp length-append
 -- the rows from a place on move up by one, and a row is put there
 pub put-in : (l : List ℕ) (n at : ℕ) (r : Row) → at ≤ n → 4 * n + 4 ≤ length l
     → patch (patch l (4 * at + 4) (part l (4 * at) (4 * n - 4 * at))) (4 * at) (rowBytes r) ≡ patch l 0 (rowsBytes (table at 0 (rowAt l) ++ (r ∷ table (n - at) at (rowAt l))))
-unfolding rowsBytes rowBytes
+unfolding flatMap rowBytes
 put-in l n at r h room =
     let a : List ℕ = rowsBytes (table at 0 (rowAt l)) in
     let b : List ℕ = rowsBytes (table (n - at) at (rowAt l)) in
@@ -80,12 +81,12 @@ put-in l n at r h room =
     ap (λ (y : List ℕ). patch (patch y (4 * at + 4) (part y (4 * at) (4 * n - 4 * at))) (4 * at) (rowBytes r)) (pieces l n at h (omega arith))
     ∙ gap a b (drop (4 * n) l) (rowBytes r) (4 * at) (4 * n - 4 * at) 4 la lb refl (simp length-drop (omega arith))
     ∙ ap (λ (z : List ℕ). a ++ (rowBytes r ++ (b ++ z))) (drop-drop 4 (4 * n) l)
-    ∙ sym (ap (patch l 0) (bytes-append (table at 0 (rowAt l)) (r ∷ table (n - at) at (rowAt l))) ∙ front a (rowBytes r) b l (4 * n + 4) (omega arith))
+    ∙ sym (ap (patch l 0) (flat-append rowBytes (table at 0 (rowAt l)) (r ∷ table (n - at) at (rowAt l))) ∙ front a (rowBytes r) b l (4 * n + 4) (omega arith))
 
 -- the last byte of a row is replaced
 pub set-more : (l : List ℕ) (n at d : ℕ) → at < n → 4 * n ≤ length l
     → set l (4 * at + 3) d ≡ patch l 0 (rowsBytes (table at 0 (rowAt l) ++ (row (rowAt l at .k1) (rowAt l at .k2) (rowAt l at .k3) d ∷ table (n - suc at) (suc at) (rowAt l))))
-unfolding rowsBytes rowBytes table
+unfolding flatMap rowBytes table
 set-more l n at d h room =
     let a : List ℕ = rowsBytes (table at 0 (rowAt l)) in
     let b : List ℕ = rowsBytes (table (n - suc at) (suc at) (rowAt l)) in
@@ -98,5 +99,5 @@ set-more l n at d h room =
     (pieces l n at (omega arith) room ∙ ap (λ (k : ℕ). a ++ (rowsBytes (table k at (rowAt l)) ++ drop (4 * n) l)) m ∙ sym (append-assoc a (y .k1 ∷ y .k2 ∷ y .k3 ∷ []) (y .more ∷ (b ++ drop (4 * n) l))))
     ∙ set-at (a ++ (y .k1 ∷ y .k2 ∷ y .k3 ∷ [])) (y .more) (b ++ drop (4 * n) l) d (4 * at + 3) lk
     ∙ append-assoc a (y .k1 ∷ y .k2 ∷ y .k3 ∷ []) (d ∷ (b ++ drop (4 * n) l))
-    ∙ sym (ap (patch l 0) (bytes-append (table at 0 (rowAt l)) (row (y .k1) (y .k2) (y .k3) d ∷ table (n - suc at) (suc at) (rowAt l)))
+    ∙ sym (ap (patch l 0) (flat-append rowBytes (table at 0 (rowAt l)) (row (y .k1) (y .k2) (y .k3) d ∷ table (n - suc at) (suc at) (rowAt l)))
     ∙ front a (rowBytes (row (y .k1) (y .k2) (y .k3) d)) b l (4 * n) (omega arith))

@@ -1,7 +1,7 @@
 -- A table of records, each of which is a row: what the calls on rows come to in its records. Permits and ties are the two. Assumes nothing.
 use mathlib.Core.Path.{_≡_, refl, sym, ap, ap₂, _∙_}
 use mathlib.Core.Bool.{Bool, true, false, not, cond, _&&_, _||_}
-use mathlib.Core.List.{List, [], _∷_, _++_, append-nil, map, foldr}
+use mathlib.Core.List.{List, [], _∷_, _++_, append-nil, map, foldr, flatMap}
 use Prim.Native.Nat.{ℕ, suc, _+_, _-_, _*_, _≤_, Ordering, Ordering·lt, Ordering·eq, Ordering·gt}
 use native.Mathlib.Omega.{arith}
 use lib.ListN.{length, replicate, length-map}
@@ -9,7 +9,6 @@ use Rattle.rules.specs.Base.{Key, order, byOrder, isLt, all, any, keep, exceeds
 use Rattle.rules.specs.Sets.{Set}
 use Rattle.rules.proofs.BaseLaws.{within-of}
 use Rattle.rules.proofs.ListLaws.{length-keep}
-use Rattle.layout.proofs.RecordLaws.{flat}
 use Rattle.layout.specs.Records.{Tabled}
 use Rattle.cells.specs.Part.{patch}
 use Rattle.rows.specs.Rows.{Row, rowKey, rowBytes, rowsBytes, rows, uniteRows, addRow, unlessOver, spared, Stored, Closed}
@@ -19,8 +18,8 @@ use Rattle.rows.proofs.CloseLaws.{closed-few}
 -- LISTS OF RECORDS AND OF THEIR ROWS
 module _ {A : Type 0} (f : A → Row) where
   -- the records' bytes are their rows' bytes
-  pub flat-rows : (bytes : A → List ℕ) → ((x : A) → bytes x ≡ rowBytes (f x)) → (l : List A) → flat bytes l ≡ rowsBytes (map f l)
-  unfolding flat rowsBytes
+  pub flat-rows : (bytes : A → List ℕ) → ((x : A) → bytes x ≡ rowBytes (f x)) → (l : List A) → flatMap bytes l ≡ rowsBytes (map f l)
+  unfolding flatMap
   flat-rows bytes h [] = refl
   flat-rows bytes h (x ∷ l) = ap₂ (λ (a b : List ℕ). a ++ b) (h x) (flat-rows bytes h l)
 

@@ -1,7 +1,7 @@
 -- Rows of four bytes, the first three of which are their sort key: what the tables of permits and of ties are made of. Assumes nothing.
 use mathlib.Core.Path.{_≡_}
 use mathlib.Core.Bool.{Bool, not, cond, _&&_, _||_}
-use mathlib.Core.List.{List, [], _∷_, _++_}
+use mathlib.Core.List.{List, [], _∷_, _++_, flatMap}
 use Prim.Native.Nat.{ℕ, _+_, _-_, _*_, _≤_, _<_}
 use lib.Dec.{ltb, eqb}
 use lib.ListN.{length, getD, replicate}
@@ -38,9 +38,8 @@ unfoldable pub rowBytes : Row → List ℕ
 rowBytes r = r.k1 ∷ r.k2 ∷ r.k3 ∷ r.more ∷ []
 
 -- those of rows, one after the other
-unfoldable pub rowsBytes : List Row → List ℕ
-rowsBytes [] = []
-rowsBytes (r ∷ rs) = rowBytes r ++ rowsBytes rs
+abbrev pub rowsBytes : List Row → List ℕ
+rowsBytes = flatMap rowBytes
 
 -- the row at a place of a section
 unfoldable pub rowAt : List ℕ → ℕ → Row

@@ -5,8 +5,8 @@ use mathlib.Core.Bool.{Bool, true, false, not, cond, _&&_, _||_, false≢true}
 use Prim.Native.Nat.{ℕ, zero, suc, _≤_, _<_, zero-le, suc-le-suc}
 use native.Mathlib.Nat.{eq-or-lt-of-le, le-of-suc-le-suc, not-suc-le-zero}
 use native.Mathlib.Omega.{arith}
-use lib.Dec.{leb, ltb, eqb, T, ltb→lt, nltb→le}
-use borrow.Author.Tests as tests
+use lib.Dec.{ltb, eqb, T, ltb→lt, nltb→le}
+use borrow.Author.Tests.{eqb-true, eq-eqb, ne-eqb}
 use Rattle.rules.specs.Base.{put, allBelow, anyBelow, countBelow, exceeds}
 
 pub or-left : (a b : Bool) → a ≡ true → a || b ≡ true
@@ -45,12 +45,6 @@ pub and-five : (a b c d x : Bool) → a && b && c && d && x ≡ true → (a ≡ 
 and-five a b c d x e = let f = and-four a b c d (and-left (a && b && c && d) x e) in (f .0, f .1, f .2, f .3, and-right (a && b && c && d) x e)
 
 -- tests that failed
-pub not-true : (b : Bool) → not b ≡ true → b ≡ false
-not-true = tests.not-true
-
-pub not-false : (b : Bool) → not b ≡ false → b ≡ true
-not-false = tests.not-false
-
 pub never : (b : Bool) → b ≡ true → not b ≡ true → ⊥
 never b p q = false≢true (rw p at q)
 
@@ -75,30 +69,8 @@ both-ways true false f g = sym (f refl)
 both-ways false true f g = g refl
 both-ways false false f g = refl
 
-pub to-T : (b : Bool) → b ≡ true → T b
-to-T b e = rw e tt
-
 pub eqb-same : (c : ℕ) → eqb c c ≡ true
-eqb-same c = tests.eq-eqb c c refl
-
-pub eqb-eq : (c d : ℕ) → eqb c d ≡ true → c ≡ d
-eqb-eq = tests.eqb-true
-
--- a test as a fact of numbers, and back
-pub le-of : (m n : ℕ) → leb m n ≡ true → m ≤ n
-le-of = tests.leb-true
-
-pub lt-of : (m n : ℕ) → ltb m n ≡ true → m < n
-lt-of = tests.ltb-true
-
-pub ge-of : (m n : ℕ) → ltb m n ≡ false → n ≤ m
-ge-of = tests.ltb-false
-
-pub gt-of : (m n : ℕ) → leb m n ≡ false → n < m
-gt-of = tests.leb-false
-
-pub leb-true : (m n : ℕ) → m ≤ n → leb m n ≡ true
-leb-true = tests.le-leb
+eqb-same c = eq-eqb c c refl
 
 -- a test against a bound
 pub data Below (e n : ℕ) : Bool → Type 0 where
@@ -112,12 +84,6 @@ below e n = go (ltb e n) (ltb→lt e n) (nltb→le e n)
     go true f g = under (f tt)
     go false f g = over (g tt)
 
-pub ltb-true : (e n : ℕ) → e < n → ltb e n ≡ true
-ltb-true = tests.lt-ltb
-
-pub ltb-false : (e n : ℕ) → n ≤ e → ltb e n ≡ false
-ltb-false = tests.le-ltb
-
 -- two numbers are the same, or not
 pub data Same (a b : ℕ) : Bool → Type 0 where
   same : a ≡ b → Same a b true
@@ -127,21 +93,15 @@ pub same? : (a b : ℕ) → Same a b (eqb a b)
 same? a b = go (eqb a b) refl
   where
     go : (x : Bool) → eqb a b ≡ x → Same a b x
-    go true e = same (eqb-eq a b e)
+    go true e = same (eqb-true a b e)
     go false e = other (λ q. false≢true (sym e ∙ (rw q (eqb-same b))))
-
-pub ne-of : (a b : ℕ) → eqb a b ≡ false → a ≢ b
-ne-of = tests.eqb-false
-
-pub eqb-other : (a b : ℕ) → a ≢ b → eqb a b ≡ false
-eqb-other = tests.ne-eqb
 
 pub eqb-sym : (a b : ℕ) → eqb a b ≡ eqb b a
 eqb-sym a b = go (same? a b)
   where
     go : {x : Bool} → Same a b x → x ≡ eqb b a
     go (same e) = sym (rw e (eqb-same b))
-    go (other n) = sym (eqb-other b a (λ q. n (sym q)))
+    go (other n) = sym (ne-eqb b a (λ q. n (sym q)))
 
 -- for all below a bound
 pub allBelow-intro : (n : ℕ) (p : ℕ → Bool) → ((c : ℕ) → c < n → p c ≡ true) → allBelow n p ≡ true

@@ -4,8 +4,9 @@ use mathlib.Core.Bool.{Bool, true, false, not, cond, _&&_, _||_, false≢true}
 use Prim.Native.Nat.{ℕ, zero, suc, _+_, _-_, _≤_, _<_}
 use native.Mathlib.Nat.{add-zero, add-suc, not-suc-le-zero}
 use native.Mathlib.Omega.{arith}
+use borrow.Author.Tests.{not-true}
 use Rattle.rules.specs.Base.{anyBelow, allBelow, countBelow, lowestBelow}
-use Rattle.rules.proofs.BaseLaws.{any-intro, any-elim, anyBelow-none, none-below, allBelow-intro, allBelow-at, both-ways, not-true, Within, count-same, Same, same, other, same?, Below, under, over, below}
+use Rattle.rules.proofs.BaseLaws.{any-intro, any-elim, anyBelow-none, none-below, allBelow-intro, allBelow-at, both-ways, Within, count-same, Same, same, other, same?, Below, under, over, below}
 
 -- tests that agree below the bound
 module _ (f g : ℕ → Bool) where

@@ -43,10 +43,10 @@ unfolding rules
 permit-to-read e c r p t = refl
 
 -- "Wait tie led by 1 with follower 2, then the reverse: 9. So is a group tie of the two", named either way
-pub no-return : Gives (two (Depend 1 1 2 ∷ Depend 1 2 1 ∷ Depend 3 1 2 ∷ Depend 3 2 1 ∷ []))
+pub reverse-tie : Gives (two (Depend 1 1 2 ∷ Depend 1 2 1 ∷ Depend 3 1 2 ∷ Depend 3 2 1 ∷ []))
     (begun ((0, 0) ∷ (9, 0) ∷ (9, 0) ∷ (9, 0) ∷ []))
 unfolding rules
-no-return e c r p t = refl
+reverse-tie e c r p t = refl
 
 -- "2 completed, fall tie led by 1: commit 2 gives 20 with 1"
 pub led : Gives (two (Complete 2 ∷ Depend 2 1 2 ∷ Commit 2 ∷ []))
@@ -97,8 +97,13 @@ pub tied-and-delegated : Gives (two (Lock 1 0 2 ∷ Write 1 0 7 ∷ Lock 1 1 2 �
 unfolding rules
 tied-and-delegated e c r p t = refl
 
--- an existing tie is 0 again, a group tie also when named the other way round; a permit given again unites
-pub tie-again : Gives (two (Depend 3 2 1 ∷ Depend 3 1 2 ∷ Permit 1 2 0 1 ∷ Permit 1 2 0 2 ∷ Lock 1 0 2 ∷ Lock 2 0 1 ∷ Lock 2 0 2 ∷ Read 2 0 ∷ Write 2 1 5 ∷ []))
-    (begun ((0, 0) ∷ (0, 0) ∷ (0, 0) ∷ (0, 0) ∷ (0, 0) ∷ (0, 0) ∷ (0, 0) ∷ (0, 0) ∷ (8, 0) ∷ []))
+-- an existing tie is 0 again, a group tie also when named the other way round
+pub tie-twice : Gives (two (Depend 3 2 1 ∷ Depend 3 1 2 ∷ [])) (begun ((0, 0) ∷ (0, 0) ∷ []))
 unfolding rules
-tie-again e c r p t = refl
+tie-twice e c r p t = refl
+
+-- a permit given again unites the operations; a write to an entry without a lock gets 8
+pub permit-twice : Gives (two (Permit 1 2 0 1 ∷ Permit 1 2 0 2 ∷ Lock 1 0 2 ∷ Lock 2 0 1 ∷ Lock 2 0 2 ∷ Read 2 0 ∷ Write 2 1 5 ∷ []))
+    (begun ((0, 0) ∷ (0, 0) ∷ (0, 0) ∷ (0, 0) ∷ (0, 0) ∷ (0, 0) ∷ (8, 0) ∷ []))
+unfolding rules
+permit-twice e c r p t = refl

@@ -16,12 +16,12 @@ use Rattle.rules.specs.Lists.{status, remember, event, history, tieMade,
 use Rattle.rules.proofs.BaseLaws.{never, none-below, within-of, or-cases, and-both, and-left, and-right, any-intro, Within, count-within}
 use Rattle.rules.proofs.DemandBook.{bookOf, strike-same, book-next, clash-permitted}
 use Rattle.rules.proofs.DemandEnds.{endingOf, fresh-tie}
-use Rattle.rules.proofs.DemandMoves.{shownStatus, status-shown, Move, opened, started, calm, locked, granted, handed, tied, committed, aborted, move, live-not, live-status, given-live}
+use Rattle.rules.proofs.DemandMoves.{shownStatus, status-shown, Move, opened, started, calm, locked, granted, handed, tied, committed, aborted, move, live-not, live-status}
 use Rattle.rules.proofs.DemandTies.{TieHistory, Bound, stands, over as gone, story-next, story-fresh, story-lasts, story-groups, story-falls, story-waits}
 use Rattle.rules.proofs.DemandWalks.{final-append, firstInGroup, groupCount, all-end}
 use Rattle.rules.proofs.SetLaws.{reach-closed, reach-least}
 use Rattle.rules.proofs.TieLaws.{group-seed}
-use Rattle.rules.proofs.SoundParts.{live-below, Sound, live-change}
+use Rattle.rules.proofs.SoundParts.{live-below, Sound, given-live, live-change}
 use Rattle.rules.proofs.SoundStep.{step-sound, opened-sound, opened-fresh, group-live}
 use Rattle.rules.proofs.SourceLaws.{grouped-both}
 

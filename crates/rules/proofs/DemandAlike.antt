@@ -4,11 +4,12 @@ use mathlib.Core.Bool.{true}
 use mathlib.Core.List.{List, [], _∷_, _++_}
 use Prim.Native.Nat.{ℕ, zero, suc, _+_, _≤_, _<_}
 use native.Mathlib.Omega.{arith}
+use borrow.Author.Tests.{lt-ltb}
 use Rattle.rules.specs.Base.{all, table}
 use Rattle.rules.specs.Calls.{arguments, Call, Open, Commit, Status, fits, Reply}
 use Rattle.rules.specs.Events.{Event}
 use Rattle.rules.specs.Lists.{remember, event, history, highest, liveGroups, walks, Demand3After, Demand3}
-use Rattle.rules.proofs.BaseLaws.{ltb-true, and-left, and-right}
+use Rattle.rules.proofs.BaseLaws.{and-left, and-right}
 use Rattle.rules.proofs.ListLaws.{all-join, all-table}
 
 -- s answers as t does, and so on after every call
@@ -32,7 +33,7 @@ module _ {S T : Type 0} (make : S → Call → Reply S) (model : T → Call → 
 
 fits-walk : (n i : ℕ) → i + n ≤ 4294967296 → all fits (table n i Commit) ≡ true
 unfolding all fits arguments
-fits-walk n i h = all-table fits Commit n i (λ j a b. rw (ltb-true j 4294967296 (omega arith)))
+fits-walk n i h = all-table fits Commit n i (λ j a b. rw (lt-ltb j 4294967296 (omega arith)))
 
 fits-walks : (k n : ℕ) → n < 4294967296 → all fits (walks k n) ≡ true
 unfolding all walks

@@ -1,31 +1,31 @@
 -- The book has the locks and permits of the window. Assumes nothing.
 use mathlib.Core.Path.{_≡_, refl, sym, _∙_, ap, ap₂, fun-ext}
-use mathlib.Core.Logic.{_⊎_, inl, inr, ⊎-elim, _≢_}
+use mathlib.Core.Logic.{⊎-elim, _≢_}
 use mathlib.Core.Bool.{Bool, true, false, not, cond, _||_, true≢false}
 use mathlib.Core.List.{List, [], _∷_}
 use Prim.Native.Nat.{ℕ}
-use lib.Dec.{leb, ltb, eqb}
+use lib.Dec.{ltb, eqb}
+use borrow.Author.Tests.{eqb-true, ne-eqb}
 use Rattle.rules.specs.Base.{all, keep}
 use Rattle.rules.specs.Sets.{Set, putAll}
 use Rattle.rules.specs.Window.{Limits, PermitRecord, Window, withValue, withHeld, withPermits, withTies, isEnded, live, noChange}
 use Rattle.rules.specs.Locks.{clash, permitted, pairPermitted}
 use Rattle.rules.specs.Ties.{groupOf, endSet}
-use Rattle.rules.specs.Sound.{permitSound, heldSound}
+use Rattle.rules.specs.Sound.{permitSound}
 use Rattle.rules.specs.Effects.{released, permitStays, permitsLeft, endAll, addChange, handOver}
 use Rattle.rules.specs.Events.{Action, isOpening}
 use Rattle.rules.specs.Lists.{Book, enter, strike}
-use Rattle.rules.proofs.BaseLaws.{or-cases, and-left, and-right, cond-same, eqb-eq, eqb-other}
+use Rattle.rules.proofs.BaseLaws.{or-cases, and-left, and-right}
 use Rattle.rules.proofs.DemandEnds.{how-ended, Ending, commit-ending, abort-ending}
-use Rattle.rules.proofs.DemandMoves.{shownStatus, Calm, Move, opened, started, calm, locked, granted, handed, tied, committed, aborted, live-unended}
-use Rattle.rules.proofs.SoundParts.{Sound, permit-parts}
+use Rattle.rules.proofs.DemandMoves.{shownStatus, Calm, Move, opened, started, calm, locked, granted, handed, tied, committed, aborted, live-unended, live-not}
+use Rattle.rules.proofs.SoundParts.{Sound, permit-parts, held-zero}
 
 unfoldable pub bookOf : Window → Book
 bookOf W = record { held = W .held; permits = W .permits }
 
--- only a live change holds
-sound-held : (L : Limits) (W : Window) → Sound L W → (e c : ℕ) → (W .held e c ≡ 0) ⊎ (live W c ≡ true)
-unfolding heldSound
-sound-held L W z e c = ⊎-elim (λ q. inl (eqb-eq (W .held e c) 0 q)) (λ q. inr (and-right (ltb e (W .entries)) _ q)) (or-cases (eqb (W .held e c) 0) _ (and-right (leb (W .held e c) 2) _ (z .helds e c)))
+-- an ended change holds nothing
+ended-holds : (L : Limits) (W : Window) → Sound L W → (e c : ℕ) → isEnded (shownStatus W c) ≡ true → W .held e c ≡ 0
+ended-holds L W z e c h = held-zero W (z .helds) e c (λ q. live-not W c (and-right (ltb e (W .entries)) _ q) h)
 
 keep-same {ℓ} : {A : Type ℓ} (p q r : A → Bool) → ((x : A) → r x ≡ true → p x ≡ q x) → (l : List A) → all r l ≡ true → keep p l ≡ keep q l
 unfolding keep all
@@ -44,17 +44,17 @@ nobody-shown W = refl
 -- a test of both parties of a permit depends on what it says of live changes and of 0
 same-parties : (m : ℕ) (s a b : Set) → ((c : ℕ) → s c ≡ true → a c ≡ b c) → a 0 ≡ b 0 → (p : PermitRecord) → permitSound m s p ≡ true
     → not (a (p .giver) || a (p .taker)) ≡ not (b (p .giver) || b (p .taker))
-same-parties m s a b f z p h = ap₂ (λ x y. not (x || y)) (f (p .giver) (permit-parts m s p h .0)) (⊎-elim (λ q. let o = eqb-eq (p .taker) 0 q in ap a o ∙ z ∙ ap b (sym o)) (f (p .taker)) (or-cases (eqb (p .taker) 0) (s (p .taker)) (permit-parts m s p h .1)))
+same-parties m s a b f z p h = ap₂ (λ x y. not (x || y)) (f (p .giver) (permit-parts m s p h .0)) (⊎-elim (λ q. let o = eqb-true (p .taker) 0 q in ap a o ∙ z ∙ ap b (sym o)) (f (p .taker)) (or-cases (eqb (p .taker) 0) (s (p .taker)) (permit-parts m s p h .1)))
 
 -- striking out the ended ones of a window changes nothing
 module _ (L : Limits) (X : Window) (z : Sound L X) (st : ℕ → ℕ) (shows : (c : ℕ) → st c ≡ shownStatus X c) where
   pub strike-same : strike st (bookOf X) ≡ bookOf X
   unfolding strike released putAll permitsLeft permitStays bookOf
-  strike-same = λ i. record { held = fun-ext (λ e. fun-ext (λ c. helds e c (sound-held L X z e c))) i; permits = permits i }
+  strike-same = λ i. record { held = fun-ext (λ e. fun-ext (λ c. helds e c (isEnded (st c)) refl)) i; permits = permits i }
     where
-      helds : (e c : ℕ) → (X .held e c ≡ 0) ⊎ (live X c ≡ true) → cond (isEnded (st c)) 0 (X .held e c) ≡ X .held e c
-      helds e c (inl q) = rw q (cond-same (isEnded (st c)) 0)
-      helds e c (inr q) = rw (shows c, live-unended X c q)
+      helds : (e c : ℕ) (b : Bool) → isEnded (st c) ≡ b → cond b 0 (X .held e c) ≡ X .held e c
+      helds e c true q = sym (ended-holds L X z e c (ap isEnded (sym (shows c)) ∙ q))
+      helds e c false q = refl
 
       permits : keep (λ p. not (isEnded (st (p .giver)) || isEnded (st (p .taker)))) (X .permits) ≡ X .permits
       permits = keep-same _ (λ p. not (false || false)) _ (same-parties (X .entries) (live X) (λ c. isEnded (st c)) (λ c. false) (λ c h. ap isEnded (shows c) ∙ live-unended X c h) (ap isEnded (shows 0) ∙ nobody-shown X)) (X .permits) (z .permits)
@@ -73,16 +73,13 @@ module _ (L : Limits) (W X : Window) (s : Set) (how : ℕ) (P : Ending W X s how
   untold true e = told 0 (P .ends 0 e .0)
   untold false e = ap isEnded (shows 0) ∙ nobody-shown X ∙ sym e
 
-  dead-zero : (e c : ℕ) → isEnded (st c) ≡ true → s c ≡ false → W .held e c ≡ 0
-  dead-zero e c h n = ⊎-elim (λ q. q) (λ q. absurd (true≢false (sym (P .fewer c n (ap isEnded (sym (shows c)) ∙ h)) ∙ live-unended W c q))) (sound-held L W z e c)
-
   struck-held : (e c : ℕ) → cond (isEnded (st c)) 0 (W .held e c) ≡ cond (s c) 0 (W .held e c)
   struck-held e c = go (s c) refl (isEnded (st c)) refl
     where
       go : (b : Bool) → s c ≡ b → (a : Bool) → isEnded (st c) ≡ a → cond a 0 (W .held e c) ≡ cond b 0 (W .held e c)
       go true p true q = refl
       go true p false q = absurd (true≢false (sym (how-ended P) ∙ ap isEnded (sym (P .ends c p .1)) ∙ ap isEnded (sym (shows c)) ∙ q))
-      go false p true q = sym (dead-zero e c q p)
+      go false p true q = sym (ended-holds L W z e c (P .fewer c p (ap isEnded (sym (shows c)) ∙ q)))
       go false p false q = refl
 
   struck-permits : keep (λ p. not (isEnded (st (p .giver)) || isEnded (st (p .taker)))) (W .permits) ≡ keep (λ p. not (s (p .giver) || s (p .taker))) (W .permits)
@@ -112,4 +109,4 @@ module _ (L : Limits) (W : Window) (z : Sound L W) where
 
   pub clash-permitted : (e a b : ℕ) → a ≢ b → clash (W .held e a) (W .held e b) ≡ true → permitted (W .permits) a b e (W .held e b) || permitted (W .permits) b a e (W .held e a) ≡ true
   unfolding pairPermitted
-  clash-permitted e a b n h = rw (eqb-other a b n, h) at (z .locks e a b)
+  clash-permitted e a b n h = rw (ne-eqb a b n, h) at (z .locks e a b)

@@ -6,13 +6,14 @@ use mathlib.Core.List.{List, [], _∷_}
 use Prim.Native.Nat.{ℕ, suc, _<_, min, max, Ordering}
 use native.Mathlib.Omega.{arith}
 use lib.Dec.{eqb}
+use borrow.Author.Tests.{eqb-true, ne-eqb, lt-ltb}
 use Rattle.rules.specs.Base.{Key, put, anyBelow, any, insert, byOrder, outside}
 use Rattle.rules.specs.Sets.{Set, putAll, reach}
-use Rattle.rules.specs.Window.{Limits, PermitRecord, TieRecord, Window, tieKey, withValue, withHeld, withPermits, withTies, isEnded, live, noChange}
+use Rattle.rules.specs.Window.{Limits, TieRecord, Window, tieKey, withValue, withHeld, withPermits, withTies, isEnded, live, noChange}
 use Rattle.rules.specs.Ties.{isGroup, isFall, isArrow, tied, grouped, falling, makeTie, addTie, groupOf, endSet}
-use Rattle.rules.specs.Effects.{commitBlockers, entriesNamed, tieStays, tiesLeft, endAll, addChange, handOver, leadsTo, leadersOf}
+use Rattle.rules.specs.Effects.{commitBlockers, tieStays, tiesLeft, endAll, addChange, handOver, leadsTo, leadersOf}
 use Rattle.rules.specs.Events.{Action, isTying, isOpening}
-use Rattle.rules.proofs.BaseLaws.{or-left, or-right, and-left, and-right, eqb-eq, eqb-same, eqb-other, Same, same, other, same?, Below, under, over, below, ltb-true, any-intro}
+use Rattle.rules.proofs.BaseLaws.{or-left, or-right, or-map, and-left, and-right, eqb-same, Same, same, other, same?, Below, under, over, below, any-intro}
 use Rattle.rules.proofs.DemandMoves.{shownStatus, Calm, Move, opened, started, calm, locked, granted, handed, tied as tieing, committed, aborted, live-status}
 use Rattle.rules.proofs.ListLaws.{any-keep-up, any-weaken}
 use Rattle.rules.proofs.SetLaws.{reach-closed}
@@ -38,6 +39,11 @@ pub record Ending (W X : Window) (s : Set) (how : ℕ) : Type 0 where
 pub how-ended : {W X : Window} {s : Set} {how : ℕ} → Ending W X s how → isEnded how ≡ true
 unfolding isEnded
 how-ended P = ⊎-elim (λ q. rw q) (λ q. rw q) (P .way)
+
+-- two that go on stay grouped
+pub grouped-stays : {W X : Window} {s : Set} {how : ℕ} → Ending W X s how → (l f : ℕ) → s l ≡ false → s f ≡ false → grouped (W .ties) l f ≡ true → grouped (X .ties) l f ≡ true
+unfolding grouped
+grouped-stays {W} P l f hl hf = or-map (tied (W .ties) isGroup l f) _ _ _ (P .ties isGroup l f hl hf) (P .ties isGroup f l hf hl)
 
 abbrev pub none : Set
 none c = false
@@ -96,7 +102,7 @@ module _ (L : Limits) (W : Window) (z : Sound L W) where
     end-ties k l f hl hf = any-keep-up _ _ (λ t h. stay t (and-left (k (t .kind) && eqb (t .leader) l) _ h) (and-right (k (t .kind) && eqb (t .leader) l) _ h)) (W .ties)
       where
         stay : (t : TieRecord) → k (t .kind) && eqb (t .leader) l ≡ true → eqb (t .follower) f ≡ true → not (s (t .leader) || s (t .follower)) ≡ true
-        stay t p q = rw (eqb-eq (t .leader) l (and-right (k (t .kind)) _ p), eqb-eq (t .follower) f q, hl, hf)
+        stay t p q = rw (eqb-true (t .leader) l (and-right (k (t .kind)) _ p), eqb-true (t .follower) f q, hl, hf)
 
   arrow-blocks : (g : Set) (k l f : ℕ) → isArrow k ≡ true → tied (W .ties) (ofKind k) l f ≡ true → g f ≡ true → commitBlockers W g l ≡ true
   unfolding tied commitBlockers leadersOf leadsTo
@@ -104,7 +110,7 @@ module _ (L : Limits) (W : Window) (z : Sound L W) where
     where
       one : (t : TieRecord) → eqb (t .kind) k && eqb (t .leader) l && eqb (t .follower) f ≡ true → isArrow (t .kind) && eqb (t .leader) l && g (t .follower) ≡ true
       one t q = let u = and-left (eqb (t .kind) k && eqb (t .leader) l) (eqb (t .follower) f) q in
-          rw (eqb-eq (t .kind) k (and-left (eqb (t .kind) k) _ u), a, and-right (eqb (t .kind) k) (eqb (t .leader) l) u, eqb-eq (t .follower) f (and-right (eqb (t .kind) k && eqb (t .leader) l) _ q)) h
+          rw (eqb-true (t .kind) k (and-left (eqb (t .kind) k) _ u), a, and-right (eqb (t .kind) k) (eqb (t .leader) l) u, eqb-true (t .follower) f (and-right (eqb (t .kind) k && eqb (t .leader) l) _ q)) h
 
       weaken : (ts : List TieRecord) → any (λ t. eqb (t .kind) k && eqb (t .leader) l && eqb (t .follower) f) ts ≡ true → any (λ t. isArrow (t .kind) && eqb (t .leader) l && g (t .follower)) ts ≡ true
       weaken = any-weaken _ _ one
@@ -184,33 +190,22 @@ module _ (L : Limits) (W : Window) (z : Sound L W) where
       few c (other i) (other q) (over k) (over j) h = h
 
       lives-on : (c : ℕ) → c < suc (W .given) → not (outside 1 3 (W .status c)) ≡ true → live (addChange W p) c ≡ true
-      lives-on c h k = rw (ltb-true c (suc (suc (W .given))) (omega arith), eqb-other c (suc (W .given)) (omega arith)) k
+      lives-on c h k = rw (lt-ltb c (suc (suc (W .given))) (omega arith), ne-eqb c (suc (W .given)) (omega arith)) k
 
-  held-ending : (h : ℕ → ℕ → ℕ) → Ending W (withHeld W h) none 4
-  unfolding withHeld shownStatus live noChange
-  held-ending h = quietly W (withHeld W h) (λ c e. refl) (λ c e. e) (λ c e. e) (λ k l f e. e)
-
-  permits-ending : (p : List PermitRecord) → Ending W (withPermits W p) none 4
-  unfolding withPermits shownStatus live noChange
-  permits-ending p = quietly W (withPermits W p) (λ c e. refl) (λ c e. e) (λ c e. e) (λ k l f e. e)
-
-  hand-ending : (f t : ℕ) (on : Set) → Ending W (handOver W f t on) none 4
-  unfolding handOver shownStatus live noChange
-  hand-ending f t on = quietly W (handOver W f t on) (λ c h. refl) (λ c h. h) (λ c h. h) (λ k l g h. h)
-
-  tie-ending : (t : TieRecord) → Ending W (withTies W (addTie t (W .ties))) none 4
-  unfolding withTies shownStatus live noChange
-  tie-ending t = quietly W (withTies W (addTie t (W .ties))) (λ c h. refl) (λ c h. h) (λ c h. h) (tie-old t (W .ties))
+  -- nobody ends where numbers and statuses stay and no tie is lost
+  same-ending : (X : Window) → X .given ≡ W .given → X .status ≡ W .status → ((k : ℕ → Bool) (l f : ℕ) → tied (W .ties) k l f ≡ true → tied (X .ties) k l f ≡ true) → Ending W X none 4
+  unfolding shownStatus live noChange
+  same-ending X g s = quietly W X (λ c e. rw (g, s)) (λ c e. rw (g, s) at e) (λ c e. rw (g, s) e)
 
   pub endingOf : {d : Action} {k : ℕ} {X : Window} → Move W d k X → isOpening d ≡ false → (s : Set) × (how : ℕ) × Ending W X s how
-  unfolding isOpening
+  unfolding isOpening withHeld withPermits withTies handOver
   endingOf (opened n k) o = absurd (true≢false o)
   endingOf (started p) o = (none, 4, start-ending p)
   endingOf (calm k X q) o = (none, 4, calm-ending X q)
-  endingOf (locked c e m k h l b q) o = (none, 4, held-ending h)
-  endingOf (granted g t e o k) p = (none, 4, permits-ending _)
-  endingOf (handed f t e k l) o = (none, 4, hand-ending f t (entriesNamed e))
-  endingOf (tieing i l f k a b) o = (none, 4, tie-ending (makeTie i l f))
+  endingOf (locked c e m k h l b q) o = (none, 4, same-ending _ refl refl (λ i a b t. t))
+  endingOf (granted g t e o k) p = (none, 4, same-ending _ refl refl (λ i a b t. t))
+  endingOf (handed f t e k l) o = (none, 4, same-ending _ refl refl (λ i a b t. t))
+  endingOf (tieing i l f k a b) o = (none, 4, same-ending _ refl refl (tie-old (makeTie i l f) (W .ties)))
   endingOf (committed c k l b) o = (groupOf W c, 4, commit-ending c l b)
   endingOf (aborted c k v l) o = (endSet W c, 5, abort-ending c v l)
 
@@ -248,6 +243,6 @@ fresh-tie W (locked c x m k h a b q) i l f e = absurd (false≢true e)
 fresh-tie W (granted g t x o k) i l f e = absurd (false≢true e)
 fresh-tie W (handed g t x k a) i l f e = absurd (false≢true e)
 fresh-tie W (tieing j m g k a b) i l f e = let u = and-left (eqb i j && eqb l m) (eqb f g) e in
-    rw (eqb-eq i j (and-left (eqb i j) _ u), eqb-eq l m (and-right (eqb i j) _ u), eqb-eq f g (and-right (eqb i j && eqb l m) _ e)) (new-tie W j m g a b)
+    rw (eqb-true i j (and-left (eqb i j) _ u), eqb-true l m (and-right (eqb i j) _ u), eqb-true f g (and-right (eqb i j && eqb l m) _ e)) (new-tie W j m g a b)
 fresh-tie W (committed c k a b) i l f e = absurd (false≢true e)
 fresh-tie W (aborted c k v a) i l f e = absurd (false≢true e)

@@ -1,20 +1,22 @@
 -- What a call on a sound window comes to, seen from the words of a list of calls. Assumes nothing.
-use mathlib.Core.Path.{_≡_, refl, sym, _∙_, ap}
+use mathlib.Core.Path.{_≡_, refl, sym, _∙_}
 use mathlib.Core.Bool.{Bool, true, false, not, cond, _&&_, _||_, false≢true, true≢false}
+use mathlib.Core.List.{List}
 use Prim.Native.Nat.{ℕ, zero, suc, _≤_, _<_, max}
 use native.Mathlib.Omega.{arith}
-use lib.Dec.{leb, ltb, eqb, leb→le, nleb→lt, eqb·suc-zero}
+use lib.Dec.{leb, ltb, eqb, eqb·suc-zero}
+use borrow.Author.Tests.{not-false, leb-true, ltb-true, leb-false}
 use Rattle.rules.specs.Base.{put, put2, anyBelow, outside}
-use Rattle.rules.specs.Window.{Limits, Window, fresh, withValue, withStatus, withHeld, withLog, withPermits, withTies, isEnded, isLive, noChange, noEntry, live, running}
+use Rattle.rules.specs.Window.{Limits, LogRecord, Window, fresh, withValue, withStatus, withHeld, withLog, withPermits, withTies, isEnded, isLive, noChange, live, running}
 use Rattle.rules.specs.Locks.{makePermit, addPermit}
 use Rattle.rules.specs.Ties.{makeTie, addTie, groupOf, endSet}
 use Rattle.rules.specs.Calls.{Call, Open, Initiate, Begin, Complete, Lock, Read, Write, Permit, Delegate, Depend, Commit, Abort, Status, Parent, Value, Outcome, done, unchanged}
 use Rattle.rules.specs.Effects.{effect, covers, lockEntry, writeEntry, entriesNamed, handOver, commitChange, abortChange, addChange, putHeld, commitBlockers, commitGroup, abortAll, endAll, grantable}
 use Rattle.rules.specs.Refusals.{step, settle, checks, firstFailed, _if_}
 use Rattle.rules.specs.Events.{Action, opening, initiating, other as nothing, locking, permitting, delegating, tying, actionOf}
-use Rattle.rules.proofs.BaseLaws.{not-false, or-none, and-both, and-left, and-right, eqb-eq, Same, same, other, same?, Below, under, over, below, ltb-true, to-T}
-use Rattle.rules.proofs.SoundParts.{Sound, live-of}
-use Rattle.rules.proofs.SoundStep.{Passed, passed, codes}
+use Rattle.rules.proofs.BaseLaws.{and-both, and-left, and-right, Same, same, other, same?}
+use Rattle.rules.proofs.SoundParts.{Sound, live-at, live-of}
+use Rattle.rules.proofs.SoundStep.{Passed, passed, codes, entry-of}
 
 -- what a status call gives
 unfoldable pub shownStatus : Window → ℕ → ℕ
@@ -51,8 +53,10 @@ pub data Move (W : Window) : Action → ℕ → Window → Type 0 where
   committed : (c k : ℕ) → live W c ≡ true → anyBelow (suc (W .given)) (commitBlockers W (groupOf W c)) ≡ false → Move W nothing k (endAll 4 (groupOf W c) W)
   aborted : (c k : ℕ) (v : ℕ → ℕ) → live W c ≡ true → Move W nothing k (endAll 5 (endSet W c) (withValue W v))
 
-calm-same : (W : Window) → Calm W W
-calm-same W = record { stay = λ c e. refl; fewer = λ c e. e; on = λ c e. e; given = refl; entries = refl; held = refl; permits = refl; ties = refl }
+-- values and the log play no part
+calm-values : (W : Window) (v : ℕ → ℕ) (l : List LogRecord) → Calm W (withLog (withValue W v) l)
+unfolding withLog withValue shownStatus noChange live
+calm-values W v l = record { stay = λ c e. refl; fewer = λ c e. e; on = λ c e. e; given = refl; entries = refl; held = refl; permits = refl; ties = refl }
 
 pub not-ended : (x : ℕ) → isLive x ≡ true → isEnded x ≡ false
 unfolding outside isEnded
@@ -125,37 +129,10 @@ calm-status W c s lc ls = record {
 abbrev Moved : Window → Action → Outcome → Type 0
 Moved W d o = Move W (cond (eqb (o .answer) 0) d nothing) (o .number) (o .after)
 
--- a number that is given to a change whose status is live is a live change's
-pub given-live : (W : Window) (c : ℕ) → noChange W c ≡ false → isLive (W .status c) ≡ true → live W c ≡ true
-unfolding noChange live
-given-live W c h l = rw (ltb-true c (suc (W .given)) (go (below (W .given) c) (or-none (eqb c 0) (ltb (W .given) c) h .1))) l
-  where
-    go : {b : Bool} → Below (W .given) c b → b ≡ false → c < suc (W .given)
-    go (under k) e = absurd (true≢false e)
-    go (over k) e = omega arith
-
-live-1 : isLive 1 ≡ true
-unfolding outside
-live-1 = refl
-
-live-2 : isLive 2 ≡ true
-unfolding outside
-live-2 = refl
-
-live-3 : isLive 3 ≡ true
-unfolding outside
-live-3 = refl
-
 module _ (L : Limits) (W : Window) (z : Sound L W) where
-  calm-write : (c e v : ℕ) → Calm W (writeEntry W c e v)
-  unfolding writeEntry withLog withValue shownStatus noChange live
-  calm-write c e v = record { stay = λ d h. refl; fewer = λ d h. h; on = λ d h. h; given = refl; entries = refl; held = refl; permits = refl; ties = refl }
-
-  at-status : (c s : ℕ) → noChange W c ≡ false → eqb (W .status c) s ≡ true → isLive s ≡ true → live W c ≡ true
-  at-status c s h e l = given-live W c h (rw (eqb-eq (W .status c) s e) l)
-
   pub idle : (k : ℕ) → Move W nothing k W
-  idle k = calm k W (calm-same W)
+  unfolding withLog withValue
+  idle k = calm k W (calm-values W (W .value) (W .log))
 
   lock-moves : (c e m : ℕ) → live W c ≡ true → e < W .entries → Moved W (locking c e m) (effect W (Lock c e m))
   unfolding effect lockEntry covers done unchanged putHeld withHeld put2
@@ -165,12 +142,12 @@ module _ (L : Limits) (W : Window) (z : Sound L W) where
       keeps q x d = same-place (same? x e) (same? d c)
         where
           same-place : {a b : Bool} → Same x e a → Same d c b → W .held x d ≡ cond (a && b) (max (W .held e c) m) (W .held x d)
-          same-place (same i) (same j) = let h : m ≤ W .held e c = leb→le m (W .held e c) (to-T _ q) in rw (i, j) (omega arith)
+          same-place (same i) (same j) = let h : m ≤ W .held e c = leb-true m (W .held e c) q in rw (i, j) (omega arith)
           same-place (same i) (other j) = refl
           same-place (other i) b = refl
 
       puts : leb m (W .held e c) ≡ false → (x d : ℕ) → put2 (W .held) e c m x d ≡ put2 (W .held) e c (max (W .held e c) m) x d
-      puts q x d = let h : W .held e c < m = nleb→lt m (W .held e c) (to-T _ (ap not q)) in let r : max (W .held e c) m ≡ m = omega arith in rw r
+      puts q x d = let h : W .held e c < m = leb-false m (W .held e c) q in let r : max (W .held e c) m ≡ m = omega arith in rw r
 
       go : (b : Bool) → leb m (W .held e c) ≡ b → (g : Bool) → Moved W (locking c e m) (cond b (done 0 W) (cond g (done 0 (putHeld W e c m)) (unchanged 20 0 W)))
       go true q g = locked c e m 0 (W .held) lc le (keeps q)
@@ -198,27 +175,23 @@ module _ (L : Limits) (W : Window) (z : Sound L W) where
       go i v false p true q = idle 0
       go i v false p false q = aborted c i v (live-of L W z c h q p)
 
-  pub entry-below : (e : ℕ) → noEntry W e ≡ false → e < W .entries
-  unfolding noEntry
-  entry-below e h = nleb→lt (W .entries) e (to-T _ (ap not h))
-
   does : (c : Call) → Passed (checks L W c) → Moved W (actionOf c) (effect W c)
-  unfolding effect actionOf checks _if_ done unchanged running
+  unfolding effect actionOf checks _if_ done unchanged running writeEntry outside
   does (Open n) p = opened n 0
   does (Initiate q) p = started q
-  does (Begin c) p = calm 0 _ (calm-status W c 2 (at-status c 1 (p .0) (not-false _ (p .1 .0)) live-1) live-2)
-  does (Complete c) p = calm 0 _ (calm-status W c 3 (at-status c 2 (p .0) (not-false _ (p .1 .0)) live-2) live-3)
-  does (Lock c e m) p = lock-moves c e m (at-status c 2 (p .0) (not-false _ (p .1 .1 .1 .0)) live-2) (entry-below e (p .1 .0))
-  does (Read c e) p = calm _ W (calm-same W)
-  does (Write c e v) p = calm 0 _ (calm-write c e v)
+  does (Begin c) p = calm 0 _ (calm-status W c 2 (live-at W c 1 (p .0) (not-false _ (p .1 .0)) refl) refl)
+  does (Complete c) p = calm 0 _ (calm-status W c 3 (live-at W c 2 (p .0) (not-false _ (p .1 .0)) refl) refl)
+  does (Lock c e m) p = lock-moves c e m (live-at W c 2 (p .0) (not-false _ (p .1 .1 .1 .0)) refl) (ltb-true e (W .entries) (entry-of W e (p .1 .0)))
+  does (Read c e) p = idle _
+  does (Write c e v) p = calm 0 _ (calm-values W _ _)
   does (Permit g t e o) p = granted g t e o 0
   does (Delegate f t e) p = handed f t e 0 (and-right (live W f) (live W t) (not-false _ (p .1 .1 .1 .1 .0)))
   does (Depend k l f) p = tied k l f 0 (and-left (live W l) (live W f) (not-false _ (p .1 .1 .1 .1 .0))) (and-right (live W l) (live W f) (not-false _ (p .1 .1 .1 .1 .0)))
   does (Commit c) p = commit-moves c (p .0)
   does (Abort c) p = abort-moves c (p .0)
-  does (Status c) p = calm _ W (calm-same W)
-  does (Parent c) p = calm _ W (calm-same W)
-  does (Value e) p = calm _ W (calm-same W)
+  does (Status c) p = idle _
+  does (Parent c) p = idle _
+  does (Value e) p = idle _
 
   pub move : (c : Call) → Moved W (actionOf c) (step L W c)
   unfolding step settle unchanged

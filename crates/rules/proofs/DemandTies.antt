@@ -7,14 +7,15 @@ use Prim.Native.Nat.{ℕ, suc, _≤_, _<_}
 use native.Mathlib.Omega.{arith}
 use lib.Dec.{eqb}
 use lib.ListN.{length}
+use borrow.Author.Tests.{eqb-true, ne-eqb}
 use Rattle.rules.specs.Base.{any}
 use Rattle.rules.specs.Sets.{Set}
 use Rattle.rules.specs.Window.{Window, fresh, isEnded, live, noChange}
-use Rattle.rules.specs.Ties.{isWait, isFall, isArrow, isGroup, tied, grouped}
+use Rattle.rules.specs.Ties.{isWait, isFall, isArrow, tied, grouped}
 use Rattle.rules.specs.Events.{Event, action, isTying}
 use Rattle.rules.specs.Lists.{status, endedAs, endedAt, tieMade, Grouped, itself, along, against}
-use Rattle.rules.proofs.BaseLaws.{or-left, or-right, or-cases, and-left, and-right, cond-same, eqb-eq, eqb-other, Same, same, other, same?}
-use Rattle.rules.proofs.DemandEnds.{how-ended, Ending, New, ofKind}
+use Rattle.rules.proofs.BaseLaws.{or-right, or-cases, and-left, and-right, cond-same, Same, same, other, same?}
+use Rattle.rules.proofs.DemandEnds.{Ending, how-ended, grouped-stays, New, ofKind}
 use Rattle.rules.proofs.DemandMoves.{shownStatus, ended-0, ended-4, ended-5, live-unended, live-not}
 use Rattle.rules.proofs.SourceLaws.{grouped-both}
 
@@ -72,7 +73,7 @@ as-first e p c h k = rw (h, k)
 
 arrow-kind : (k : ℕ) → isArrow k ≡ true → eqb k 3 ≡ false
 unfolding isArrow isWait isFall
-arrow-kind k e = eqb-other k 3 (λ q. false≢true (rw q at e))
+arrow-kind k e = ne-eqb k 3 (λ q. false≢true (rw q at e))
 
 module _ (W X : Window) (s : Set) (how : ℕ) (P : Ending W X s how) (p : List Event) (S : TieHistory W p) (e : Event) (shows : (c : ℕ) → e .status c ≡ shownStatus X c) where
   -- a change before and after the call
@@ -116,11 +117,6 @@ module _ (W X : Window) (s : Set) (how : ℕ) (P : Ending W X s how) (p : List E
       go (ending i l k x z a) = as-first e p c z (ap isEnded (shows c) ∙ h) ∙ shows c
       go (going i j k z a) = absurd (true≢false (sym h ∙ k))
 
-  grouped-next : (l f : ℕ) → s l ≡ false → s f ≡ false → grouped (W .ties) l f ≡ true → grouped (X .ties) l f ≡ true
-  unfolding grouped
-  grouped-next l f hl hf g = ⊎-elim (λ q. or-left (tied (X .ties) isGroup l f) _ (P .ties isGroup l f hl hf q))
-      (λ q. or-right (tied (X .ties) isGroup l f) _ (P .ties isGroup f l hf hl q)) (or-cases (tied (W .ties) isGroup l f) _ g)
-
   bound-next : (l f : ℕ) → Bound W p l f → Bound X (e ∷ p) l f
   bound-next l f (stands a b g) = go (now l) (now f)
     where
@@ -131,7 +127,7 @@ module _ (W X : Window) (s : Set) (how : ℕ) (P : Ending W X s how) (p : List E
       go (ending i l′ k x z t) (going i′ j′ k′ z′ t′) = absurd (true≢false (sym (P .together l f a b g i) ∙ i′))
       go (going i j k z t) (gone j′ k′ t′) = absurd (live-not W f b j′)
       go (going i j k z t) (ending i′ l″ k′ x′ z′ t′) = absurd (true≢false (sym (P .together f l b a (grouped-both (W .ties) l f g) i′) ∙ i))
-      go (going i j k z t) (going i′ j′ k′ z′ t′) = stands (P .on l i a) (P .on f i′ b) (grouped-next l f i i′ g)
+      go (going i j k z t) (going i′ j′ k′ z′ t′) = stands (P .on l i a) (P .on f i′ b) (grouped-stays P l f i i′ g)
   bound-next l f (over a b t) = go (now l) (now f)
     where
       go : Now l → Now f → Bound X (e ∷ p) l f
@@ -158,7 +154,7 @@ module _ (W X : Window) (s : Set) (how : ℕ) (P : Ending W X s how) (p : List E
     where
       leaves : shownStatus X l ≡ how → s l ≡ true → s f ≡ false → isEnded (shownStatus X f) ≡ false → (how ≡ 4) ⊎ (how ≡ 5) → (x : Bool) → eqb k 2 ≡ x → Led X (e ∷ p) k l f
       leaves i u v w (inl q) x y = led (ap (passes k) (i ∙ q) ∙ passes-4 k) (inl w)
-      leaves i u v w (inr q) true y = absurd (true≢false (sym (P .fallen l f a b (rw (eqb-eq k 2 y) at t) q u) ∙ v))
+      leaves i u v w (inr q) true y = absurd (true≢false (sym (P .fallen l f a b (rw (eqb-true k 2 y) at t) q u) ∙ v))
       leaves i u v w (inr q) false y = led (ap (passes k) (i ∙ q) ∙ passes-5 k y) (inl w)
 
       go : Now f → Now l → Led X (e ∷ p) k l f
@@ -249,7 +245,7 @@ module _ (W : Window) (p : List Event) (S : TieHistory W p) where
 
   pub story-falls : (c d : ℕ) → status p c ≡ 4 → tieMade p 2 d c ≡ true → (status p d ≡ 4) × (endedAt p d < endedAt p c)
   unfolding passes isArrow isWait isFall
-  story-falls c d h m = let u = led-before 2 c d h (S .drawn 2 d c refl m) in (eqb-eq (status p d) 4 (and-right (isEnded (status p d)) _ (u .0)), u .1)
+  story-falls c d h m = let u = led-before 2 c d h (S .drawn 2 d c refl m) in (eqb-true (status p d) 4 (and-right (isEnded (status p d)) _ (u .0)), u .1)
 
   pub story-waits : (c d : ℕ) → status p c ≡ 4 → tieMade p 1 d c ≡ true → (isEnded (status p d) ≡ true) × (endedAt p d < endedAt p c)
   unfolding passes isArrow isWait isFall

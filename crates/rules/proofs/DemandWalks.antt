@@ -7,17 +7,19 @@ use Prim.Native.Nat.{ℕ, zero, suc, _+_, _≤_, _<_}
 use native.Mathlib.Nat.{eq-or-lt-of-le}
 use native.Mathlib.Omega.{arith}
 use lib.Dec.{ltb, eqb}
-use Rattle.rules.specs.Base.{anyBelow, countBelow, all, any, table, outside}
+use borrow.Author.Tests.{not-true, lt-ltb}
+use Rattle.rules.specs.Base.{anyBelow, countBelow, lowestBelow, all, any, table, outside}
 use Rattle.rules.specs.Sets.{Set, putAll, reach}
 use Rattle.rules.specs.Window.{Limits, TieRecord, Window, isEnded, noChange, live}
-use Rattle.rules.specs.Ties.{isGroup, isArrow, tied, grouped, leading, acyclic, groupOf}
+use Rattle.rules.specs.Ties.{isArrow, tied, grouped, leading, acyclic, groupOf}
 use Rattle.rules.specs.Sound.{tieSound}
 use Rattle.rules.specs.Calls.{Call, Commit, done, unchanged}
 use Rattle.rules.specs.Effects.{effect, commitChange, commitBlockers, commitGroup, tiesLeft, endAll, leadsTo, leadersOf}
 use Rattle.rules.specs.Refusals.{step, settle, checks, firstFailed, _if_}
 use Rattle.rules.specs.Lists.{final, walks}
-use Rattle.rules.proofs.BaseLaws.{not-true, never, none-below, or-none, or-left, or-right, or-cases, and-both, and-left, and-right, Same, same, other, same?, ltb-true, any-intro, any-elim, Within, count-within, count-same}
-use Rattle.rules.proofs.DemandEnds.{Ending, commit-ending}
+use Rattle.rules.proofs.BaseLaws.{never, none-below, or-none, or-cases, and-both, and-left, and-right, Same, same, other, same?, any-intro, Within, count-within, count-same}
+use Rattle.rules.proofs.BoundLaws.{lowest-hit, lowest-below}
+use Rattle.rules.proofs.DemandEnds.{Ending, grouped-stays, commit-ending}
 use Rattle.rules.proofs.DemandMoves.{shownStatus, ended-4, live-unended, live-status, not-ended}
 use Rattle.rules.proofs.ListLaws.{all-weaken, all-and, any-weaken}
 use Rattle.rules.proofs.SetLaws.{Closed, reach-closed, reach-least}
@@ -34,16 +36,6 @@ firstInGroup W c = live W c && not (anyBelow c (λ d. live W d && groupOf W c d)
 unfoldable pub groupCount : Window → ℕ
 groupCount W = countBelow (suc (W .given)) (firstInGroup W)
 
--- the lowest that passes
-lowest : (p : ℕ → Bool) (n c : ℕ) → c < n → p c ≡ true → (d : ℕ) × (d ≤ c) × (p d ≡ true) × ((x : ℕ) → x < d → p x ≡ true → ⊥)
-lowest p zero c h e = absurd (omega arith)
-lowest p (suc n) c h e = go (anyBelow c p) refl (lowest p n)
-  where
-    go : (b : Bool) → anyBelow c p ≡ b → ((x : ℕ) → x < n → p x ≡ true → (d : ℕ) × (d ≤ x) × (p d ≡ true) × ((y : ℕ) → y < d → p y ≡ true → ⊥))
-        → (d : ℕ) × (d ≤ c) × (p d ≡ true) × ((x : ℕ) → x < d → p x ≡ true → ⊥)
-    go true q ih = let a = any-elim c p q in let r = ih (a .0) (omega (arith, a .1)) (a .2) in (r .0, omega (arith, r .1, a .1), r .2, r .3)
-    go false q ih = (c, omega arith, e, λ x l k. true≢false (sym (any-intro c p x l k) ∙ q))
-
 module _ (L : Limits) (W : Window) (z : Sound L W) where
   -- a group is what is reached from any of its members
   group-back : (c d : ℕ) → live W c ≡ true → live W d ≡ true → groupOf W c d ≡ true → groupOf W d c ≡ true
@@ -58,12 +50,12 @@ module _ (L : Limits) (W : Window) (z : Sound L W) where
   head-of : (c : ℕ) → live W c ≡ true → (h : ℕ) × (groupOf W c h ≡ true) × (firstInGroup W h ≡ true)
   unfolding firstInGroup
   head-of c lc =
-      let r = lowest (groupOf W c) (suc (W .given)) c (live-below W c lc) (group-seed W c) in
-      let lh = group-live L W z c lc (r .0) (r .2) in (
-        r .0,
-        r .2,
-        and-both (live W (r .0)) _ lh (ap not (none-below (r .0) (λ d. live W d && groupOf W (r .0) d)
-            (λ d k e. r .3 d k (group-through c (r .0) d (and-left (live W d) _ e) (r .2) (and-right (live W d) _ e))))),
+      let h = lowestBelow (suc (W .given)) (groupOf W c) in
+      let g = lowest-hit (groupOf W c) (suc (W .given)) (any-intro (suc (W .given)) (groupOf W c) c (live-below W c lc) (group-seed W c)) .1 in (
+        h,
+        g,
+        and-both (live W h) _ (group-live L W z c lc h g) (ap not (none-below h (λ d. live W d && groupOf W h d)
+            (λ d k e. false≢true (sym (lowest-below (groupOf W c) (suc (W .given)) d k) ∙ group-through c h d (and-left (live W d) _ e) g (and-right (live W d) _ e))))),
       )
 
   -- where there is no head, nobody lives
@@ -107,11 +99,6 @@ module _ (L : Limits) (W : Window) (z : Sound L W) where
         go true e = absurd (true≢false (sym (P .together b a lb la (grouped-both (W .ties) a b g) e) ∙ n))
         go false e = refl
 
-    grouped-still : (a b : ℕ) → groupOf W c a ≡ false → groupOf W c b ≡ false → grouped (W .ties) a b ≡ true → grouped (X .ties) a b ≡ true
-    unfolding grouped
-    grouped-still a b na nb g = ⊎-elim (λ q. or-left (tied (X .ties) isGroup a b) _ (P .ties isGroup a b na nb q))
-        (λ q. or-right (tied (X .ties) isGroup a b) _ (P .ties isGroup b a nb na q)) (or-cases (tied (W .ties) isGroup a b) _ g)
-
     still-step : (a x y : ℕ) → x < suc (W .given) → y < suc (W .given) → groupOf X a x ≡ true → grouped (X .ties) x y ≡ true → groupOf X a y ≡ true
     unfolding groupOf X endAll tiesLeft
     still-step a x y hx hy = reach-closed (suc (W .given)) (grouped (X .ties)) a x y hx hy
@@ -128,7 +115,7 @@ module _ (L : Limits) (W : Window) (z : Sound L W) where
         let ly = grouped-ends (live W) (W .ties) (ends-live L W z) x y q .1 in
         let nx = not-true (groupOf W c x) (and-right (groupOf X a x) _ (and-left _ (live W x) e)) in
         let ny = not-next x y lx ly nx q in
-        rw (still-step a x y hx hy gx (grouped-still x y nx ny q), ny, ly)
+        rw (still-step a x y hx hy gx (grouped-stays P x y nx ny q), ny, ly)
 
     beside-seed : (a : ℕ) → live W a ≡ true → groupOf W c a ≡ false → beside a a ≡ true
     unfolding beside
@@ -173,7 +160,7 @@ module _ (L : Limits) (W : Window) (z : Sound L W) where
       one : (t : TieRecord) → tieSound (live W) t && ((not (isArrow (t .kind)) || tied (W .ties) isArrow (t .leader) (t .follower)) && (not (isArrow (t .kind)) || not (reach (suc (W .given)) (leading (W .ties)) (t .follower) (t .leader)))) ≡ true
           → live W (t .leader) && ((ltb (t .leader) (suc (W .given)) && ltb (t .follower) (suc (W .given))) && ((not (isArrow (t .kind)) || tied (W .ties) isArrow (t .leader) (t .follower)) && (not (isArrow (t .kind)) || not (reach (suc (W .given)) (leading (W .ties)) (t .follower) (t .leader))))) ≡ true
       one t h = let p = tie-parts (live W) t (and-left (tieSound (live W) t) _ h) in
-          rw (p .1, ltb-true (t .leader) (suc (W .given)) (live-below W (t .leader) (p .1)), ltb-true (t .follower) (suc (W .given)) (live-below W (t .follower) (p .2))) (and-right (tieSound (live W) t) _ h)
+          rw (p .1, lt-ltb (t .leader) (suc (W .given)) (live-below W (t .leader) (p .1)), lt-ltb (t .follower) (suc (W .given)) (live-below W (t .follower) (p .2))) (and-right (tieSound (live W) t) _ h)
 
   -- with all live changes completed, where one lives there is one whose group can commit
   module _ (ready : (c : ℕ) → live W c ≡ true → W .status c ≡ 3) where

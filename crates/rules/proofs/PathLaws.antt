@@ -5,13 +5,14 @@ use mathlib.Core.Bool.{Bool, true, false, not, _&&_, _||_, false≢true}
 use mathlib.Core.List.{List, List·Memᴰ}
 use Prim.Native.Nat.{ℕ, _<_}
 use lib.Dec.{ltb, eqb}
+use borrow.Author.Tests.{ltb-true, eqb-true}
 use Rattle.rules.specs.Base.{all}
-use Rattle.rules.specs.Sets.{Set, Rel, closure, reach}
+use Rattle.rules.specs.Sets.{Set, Rel, only, closure, reach}
 use Rattle.rules.specs.Window.{TieRecord}
 use Rattle.rules.specs.Ties.{isArrow, tied, grouped, leading, acyclic}
-use Rattle.rules.proofs.BaseLaws.{or-left, or-right, or-cases, and-left, and-right, lt-of, eqb-eq, both-ways, no-true}
+use Rattle.rules.proofs.BaseLaws.{or-left, or-right, or-cases, and-left, and-right, eqb-same, both-ways, no-true}
 use Rattle.rules.proofs.ListLaws.{all-members, find}
-use Rattle.rules.proofs.SetLaws.{closure-to, closure-holds, closure-closed, reach-to, reach-seed, reach-closed}
+use Rattle.rules.proofs.SetLaws.{closure-to, closure-holds, closure-closed, reach-to}
 use Rattle.rules.proofs.TieLaws.{leading-ends, stands-tied}
 
 -- a path along a relation, of any number of steps
@@ -45,11 +46,8 @@ module _ (n : ℕ) (r : Rel) (ends : Bounded n r) where
   closure-ways s c = (closure-to n r (From r s) (λ d e m q. (m .0, m .1, on (m .2) q)) s (λ d e. (d, e, stay)) c, λ m. way-closure s (m .1) (m .2))
 
   pub reach-ways : (c d : ℕ) → reach n r c d ≡ true ↔ Way r c d
-  reach-ways c d = (reach-to n r (Way r c) (λ x y p q. on p q) c stay d, go)
-    where
-      go : {x : ℕ} → Way r c x → reach n r c x ≡ true
-      go stay = reach-seed n r c
-      go (on {b = x} {c = y} p q) = reach-closed n r c x y (ends x y q .0) (ends x y q .1) (go p) q
+  unfolding reach only
+  reach-ways c d = (reach-to n r (Way r c) (λ x y p q. on p q) c stay d, way-closure (only c) (eqb-same c))
 
 -- so the bound plays no part where the relation keeps below it
 pub closure-bound : (n m : ℕ) (r : Rel) → Bounded n r → Bounded m r → (s : Set) → closure n r s ≡ closure m r s
@@ -109,7 +107,7 @@ module _ (ts : List TieRecord) where
 
   module _ (n : ℕ) (ends : all (λ t. ltb t.leader n && ltb t.follower n) ts ≡ true) where
     pub leading-bounded : Bounded n (leading ts)
-    leading-bounded a b e = let m = leading-ends (λ x. ltb x n) ts ends a b e in (lt-of a n (m .0), lt-of b n (m .1))
+    leading-bounded a b e = let m = leading-ends (λ x. ltb x n) ts ends a b e in (ltb-true a n (m .0), ltb-true b n (m .1))
 
     -- acyclic ties have none that returns
     pub acyclic-clear : acyclic n ts ≡ true → NoReturn ts
@@ -119,7 +117,7 @@ module _ (ts : List TieRecord) where
         go : (t : TieRecord) → isArrow t.kind && eqb t.leader l && eqb t.follower f ≡ true → not (isArrow t.kind) || not (reach n (leading ts) t.follower t.leader) ≡ true → ⊥
         go t x y =
             let u = and-left (isArrow t.kind && eqb t.leader l) (eqb t.follower f) x in
-            let z = rw (and-left (isArrow t.kind) (eqb t.leader l) u, eqb-eq t.leader l (and-right (isArrow t.kind) (eqb t.leader l) u), eqb-eq t.follower f (and-right (isArrow t.kind && eqb t.leader l) (eqb t.follower f) x)) at y in
+            let z = rw (and-left (isArrow t.kind) (eqb t.leader l) u, eqb-true t.leader l (and-right (isArrow t.kind) (eqb t.leader l) u), eqb-true t.follower f (and-right (isArrow t.kind && eqb t.leader l) (eqb t.follower f) x)) at y in
             false≢true (rw (reach-ways n (leading ts) leading-bounded f l .1 p) at z)
 
     -- and where none returns they are acyclic

@@ -8,6 +8,7 @@ use Prim.Native.Nat.{ℕ, suc}
 use native.Mathlib.Omega.{arith}
 use lib.Dec.{ltb, eqb}
 use lib.ListN.{length}
+use borrow.Author.Tests.{ltb-true, not-true, not-false, eqb-false, eqb-true}
 use Rattle.rules.specs.Base.{put, exceeds, anyBelow, any}
 use Rattle.rules.specs.Sets.{Set, putAll}
 use Rattle.rules.specs.Window.{Limits, LogRecord, TieRecord, Window, tieKey, withValue, live, isEnded}
@@ -16,7 +17,7 @@ use Rattle.rules.specs.Ties.{makeTie, addTie, acyclic, isArrow, tied, gr
 use Rattle.rules.specs.Calls.{Lock, Commit, Abort, done, unchanged}
 use Rattle.rules.specs.Effects.{covers, lockBlockers, grantable, lockEntry, commitBlockers, commitGroup, commitChange, undo, endAll, abortAll, abortChange, effect, leadsTo, leadersOf}
 use Rattle.rules.specs.Refusals.{checks, firstFailed, _if_, settle, step}
-use Rattle.rules.proofs.BaseLaws.{lt-of, or-cases, or-none, and-both, and-left, and-right, not-true, not-false, ne-of, eqb-eq, none-below, anyBelow-none}
+use Rattle.rules.proofs.BaseLaws.{or-cases, or-none, and-both, and-left, and-right, none-below, anyBelow-none}
 use Rattle.rules.proofs.DemandMoves.{live-status, not-ended}
 use Rattle.rules.proofs.ListLaws.{any-find, any-weaken}
 use Rattle.rules.proofs.PathLaws.{Way, reach-ways, Arrows, acyclic-paths}
@@ -31,12 +32,12 @@ module _ (L : Limits) (W : Window) (z : Sound L W) where
   -- "A group is a live change with all that group ties reach from it"
   pub group-ways : (c d : ℕ) → groupOf W c d ≡ true ↔ Way (grouped W.ties) c d
   unfolding groupOf
-  group-ways = reach-ways (suc W.given) (grouped W.ties) (λ a b e. let m = grouped-ends (λ x. ltb x (suc W.given)) W.ties (ends-below W (z .ties)) a b e in (lt-of a _ (m .0), lt-of b _ (m .1)))
+  group-ways = reach-ways (suc W.given) (grouped W.ties) (λ a b e. let m = grouped-ends (λ x. ltb x (suc W.given)) W.ties (ends-below W (z .ties)) a b e in (ltb-true a _ (m .0), ltb-true b _ (m .1)))
 
   -- "the least set that holds the change and is closed under group ties either way and under fall ties from leader to follower"
   pub end-ways : (c d : ℕ) → endSet W c d ≡ true ↔ Way (falling W.ties) c d
   unfolding endSet
-  end-ways = reach-ways (suc W.given) (falling W.ties) (λ a b e. let m = falling-ends (λ x. ltb x (suc W.given)) W.ties (ends-below W (z .ties)) a b e in (lt-of a _ (m .0), lt-of b _ (m .1)))
+  end-ways = reach-ways (suc W.given) (falling W.ties) (λ a b e. let m = falling-ends (λ x. ltb x (suc W.given)) W.ties (ends-below W (z .ties)) a b e in (ltb-true a _ (m .0), ltb-true b _ (m .1)))
 
   -- "no path of arrows returns to its group"
   pub no-return : (x : ℕ) → Arrows W.ties x x → ⊥
@@ -78,7 +79,7 @@ module _ (L : Limits) (W : Window) (z : Sound L W) (c e m : ℕ) (passed : first
       go : (d : ℕ) → not (eqb d c) && clash (W .held e d) m && not (permitted W.permits d c e m) ≡ true → ⊥
       go d q =
           let u = and-left (not (eqb d c) && clash (W .held e d) m) _ q in
-          let p = f d (ne-of d c (not-true _ (and-left (not (eqb d c)) _ u))) (and-right (not (eqb d c)) _ u) in
+          let p = f d (eqb-false d c (not-true _ (and-left (not (eqb d c)) _ u))) (and-right (not (eqb d c)) _ u) in
           false≢true (rw p at (and-right (not (eqb d c) && clash (W .held e d) m) _ q))
 
   pub lock-granted : step L W (Lock c e m) .answer ≡ 0 ↔ ((d : ℕ) → d ≢ c → clash (W .held e d) m ≡ true → permitted W.permits d c e m ≡ true)
@@ -110,13 +111,13 @@ module _ (L : Limits) (W : Window) (z : Sound L W) (c : ℕ) (lc : live W c ≡ 
       clear d h = or-none _ _ (anyBelow-none (suc W.given) (commitBlockers W (groupOf W c)) none d (live-below W d h))
 
       completed : (d : ℕ) → groupOf W c d ≡ true → W .status d ≡ 3
-      completed d g = eqb-eq (W .status d) 3 (not-false _ (rw g at (clear d (group-live L W z c lc d g) .0)))
+      completed d g = eqb-true (W .status d) 3 (not-false _ (rw g at (clear d (group-live L W z c lc d g) .0)))
 
       unled : (l f : ℕ) → groupOf W c f ≡ true → any (λ t. isArrow t.kind && eqb t.leader l && eqb t.follower f) W.ties ≡ true → ⊥
       unled l f g e = true≢false (sym (any-weaken _ (λ t. isArrow t.kind && eqb t.leader l && groupOf W c t.follower) one W.ties e) ∙ clear l (tied-ends (live W) W.ties (ends-live L W z) isArrow l f e .0) .1)
         where
           one : (t : TieRecord) → isArrow t.kind && eqb t.leader l && eqb t.follower f ≡ true → isArrow t.kind && eqb t.leader l && groupOf W c t.follower ≡ true
-          one t q = and-both (isArrow t.kind && eqb t.leader l) _ (and-left (isArrow t.kind && eqb t.leader l) _ q) (rw (eqb-eq t.follower f (and-right (isArrow t.kind && eqb t.leader l) _ q)) g)
+          one t q = and-both (isArrow t.kind && eqb t.leader l) _ (and-left (isArrow t.kind && eqb t.leader l) _ q) (rw (eqb-true t.follower f (and-right (isArrow t.kind && eqb t.leader l) _ q)) g)
 
   of-free : Free → anyBelow (suc W.given) (commitBlockers W (groupOf W c)) ≡ false
   unfolding commitBlockers leadersOf leadsTo
@@ -128,7 +129,7 @@ module _ (L : Limits) (W : Window) (z : Sound L W) (c : ℕ) (lc : live W c ≡ 
       led : (d : ℕ) → any (λ t. isArrow t.kind && eqb t.leader d && groupOf W c t.follower) W.ties ≡ true → ⊥
       led d q = let m = any-find _ W.ties q in let t = m .0 in let u = and-left (isArrow t.kind && eqb t.leader d) (groupOf W c t.follower) (m .2) in
           f .unled d t.follower (and-right (isArrow t.kind && eqb t.leader d) (groupOf W c t.follower) (m .2))
-          (rw (eqb-eq t.leader d (and-right (isArrow t.kind) (eqb t.leader d) u)) at (stands-tied isArrow (m .1) (and-left (isArrow t.kind) (eqb t.leader d) u)))
+          (rw (eqb-true t.leader d (and-right (isArrow t.kind) (eqb t.leader d) u)) at (stands-tied isArrow (m .1) (and-left (isArrow t.kind) (eqb t.leader d) u)))
 
   pub commit-done : step L W (Commit c) .answer ≡ 0 ↔ Free
   commit-done = (

@@ -5,9 +5,10 @@ use mathlib.Core.Bool.{true, _&&_}
 use Prim.Native.Nat.{ℕ, zero, suc, _+_, _≤_, _<_}
 use native.Mathlib.Nat.{eq-or-lt-of-le}
 use native.Mathlib.Omega.{arith}
+use borrow.Author.Tests.{eqb-true}
 use Rattle.rules.specs.Base.{countBelow}
 use Rattle.rules.specs.Sets.{Set, Rel, only, grow, times, closure, reach}
-use Rattle.rules.proofs.BaseLaws.{or-left, or-right, or-cases, and-both, and-left, and-right, any-intro, any-elim, Within, count-le, count-within, count-same, eqb-same, eqb-eq}
+use Rattle.rules.proofs.BaseLaws.{or-left, or-right, or-cases, and-both, and-left, and-right, any-intro, any-elim, Within, count-le, count-within, count-same, eqb-same}
 
 abbrev pub Closed : ℕ → Rel → Set → Type 0
 Closed n r s = (d c : ℕ) → d < n → c < n → s d ≡ true → r d c ≡ true → s c ≡ true
@@ -75,7 +76,7 @@ module _ (n : ℕ) (r : Rel) where
 
     pub reach-to : (c : ℕ) → Q c → (d : ℕ) → reach n r c d ≡ true → Q d
     unfolding reach only
-    reach-to c e = closure-to (only c) (λ d q. rw (eqb-eq d c q) e)
+    reach-to c e = closure-to (only c) (λ d q. rw (eqb-true d c q) e)
 
   -- it holds the set, is closed, and lies within every closed set that holds the set
   pub closure-holds : (s : Set) (c : ℕ) → s c ≡ true → closure n r s c ≡ true
@@ -101,4 +102,4 @@ module _ (n : ℕ) (r : Rel) where
 
   pub reach-least : (c : ℕ) (t : Set) → t c ≡ true → Closed n r t → Within n (reach n r c) t
   unfolding reach only
-  reach-least c t e = closure-least (only c) t (λ d l q. rw (eqb-eq d c q) e)
+  reach-least c t e = closure-least (only c) t (λ d l q. rw (eqb-true d c q) e)

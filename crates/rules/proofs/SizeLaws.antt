@@ -5,13 +5,14 @@ use Prim.Native.Nat.{ℕ, zero, suc, _+_, _≤_}
 use native.Mathlib.Omega.{arith}
 use lib.Dec.{leb·suc-zero}
 use lib.ListN.{replicate}
+use borrow.Author.Tests.{le-ltb}
 use Rattle.rules.specs.Base.{table}
 use Rattle.rules.specs.Window.{Limits, limits, Window, fresh}
 use Rattle.rules.specs.Calls.{Open, Initiate, unchanged, done}
 use Rattle.rules.specs.Effects.{effect, addChange}
 use Rattle.rules.specs.Refusals.{step, settle, checks, firstFailed, _if_}
 use Rattle.rules.specs.Lists.{answers}
-use Rattle.rules.proofs.BaseLaws.{ltb-false, over-false, over-true}
+use Rattle.rules.proofs.BaseLaws.{over-false, over-true}
 
 -- as many changes as there is room for, and one more
 pub fill : (L : Limits) (m : ℕ) (W : Window) → W .given + m ≡ L .changes
@@ -24,7 +25,7 @@ fill L (suc m) W e = rw (leb·suc-zero W.given, over-false (suc W.given) L.chang
 pub open-any : (L : Limits) (W : Window) → 1 ≤ L .entries
     → answers (step L) W (Open 0 ∷ Open L.entries ∷ Open (suc L.entries) ∷ []) ≡ (2, 0) ∷ (0, 0) ∷ (2, 0) ∷ []
 unfolding answers step checks firstFailed _if_ settle effect done unchanged
-open-any L W h = rw (over-false L.entries L.entries (omega arith), over-true (suc L.entries) L.entries (omega arith), ltb-false L.entries 1 h, ltb-false (suc L.entries) 1 (omega arith))
+open-any L W h = rw (over-false L.entries L.entries (omega arith), over-true (suc L.entries) L.entries (omega arith), le-ltb L.entries 1 h, le-ltb (suc L.entries) 1 (omega arith))
 
 -- AT THE LARGEST FIGURES
 -- "open 0: 2. open 256: 0. open 257: 2"

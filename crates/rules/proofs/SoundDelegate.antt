@@ -1,19 +1,20 @@
 -- A delegate that leaves each clashing pair its permit keeps a window sound. Assumes nothing.
-use mathlib.Core.Path.{_≡_, refl, sym, _∙_}
+use mathlib.Core.Path.{_≡_, refl, sym}
 use mathlib.Core.Logic.{⊎-elim, _≢_}
-use mathlib.Core.Bool.{Bool, true, false, not, cond, _&&_, _||_, false≢true}
-use mathlib.Core.List.{map}
-use Prim.Native.Nat.{ℕ, _≤_, max}
+use mathlib.Core.Bool.{Bool, true, false, not, cond, _&&_, _||_}
+use mathlib.Core.List.{List, map}
+use Prim.Native.Nat.{ℕ, _+_, _≤_, max}
 use native.Mathlib.Omega.{arith}
 use lib.Dec.{leb, ltb, eqb}
 use lib.ListN.{length, length-map}
+use borrow.Author.Tests.{not-true, eqb-true, ne-eqb, eqb-false, le-leb, leb-true}
 use Rattle.rules.specs.Base.{keep, rising}
 use Rattle.rules.specs.Sets.{Set}
 use Rattle.rules.specs.Window.{Limits, LogRecord, PermitRecord, Window, permitKey, live}
 use Rattle.rules.specs.Locks.{clashesPermitted, unitePermits, addPermit}
 use Rattle.rules.specs.Sound.{heldSound, recordSound, permitSound}
 use Rattle.rules.specs.Effects.{moveHeld, movedRecord, moveLog, permitGiven, permitMoves, permitKept, movedPermit, movePermits, handOver}
-use Rattle.rules.proofs.BaseLaws.{Same, same, other, same?, or-right, or-cases, and-both, and-left, and-right, not-true, eqb-eq, eqb-same, eqb-other, ne-of, leb-true, le-of, over-less}
+use Rattle.rules.proofs.BaseLaws.{Same, same, other, same?, or-right, or-cases, and-both, and-left, and-right, never, eqb-same, over-less}
 use Rattle.rules.proofs.ListLaws.{all-map, all-keep, length-parts}
 use Rattle.rules.proofs.SortLaws.{rising-keep, all-inserts, inserts-rising, length-inserts}
 use Rattle.rules.proofs.SoundParts.{Sound, record-parts, permit-parts, fits-all, held-most}
@@ -23,10 +24,15 @@ use Rattle.rules.proofs.SoundPermit.{unite-key, unite-sound}
 held-max : (a b : ℕ) (i l n : Bool) → leb a 2 && (eqb a 0 || (i && l)) ≡ true → leb b 2 && (eqb b 0 || (i && n)) ≡ true → n ≡ true
     → leb (max a b) 2 && (eqb (max a b) 0 || (i && n)) ≡ true
 held-max a b i l n p q t = and-both (leb (max a b) 2) (eqb (max a b) 0 || (i && n))
-    (leb-true (max a b) 2 (omega (arith, le-of a 2 (and-left (leb a 2) _ p), le-of b 2 (and-left (leb b 2) _ q))))
-    (⊎-elim (λ z. let r : max a b ≡ b = omega (arith, eqb-eq a 0 z) in rw r (and-right (leb b 2) (eqb b 0 || (i && n)) q))
+    (le-leb (max a b) 2 (omega (arith, leb-true a 2 (and-left (leb a 2) _ p), leb-true b 2 (and-left (leb b 2) _ q))))
+    (⊎-elim (λ z. let r : max a b ≡ b = omega (arith, eqb-true a 0 z) in rw r (and-right (leb b 2) (eqb b 0 || (i && n)) q))
     (λ y. or-right (eqb (max a b) 0) (i && n) (and-both i n (and-left i l y) t))
     (or-cases (eqb a 0) (i && l) (and-right (leb a 2) (eqb a 0 || (i && l)) p)))
+
+-- no permit both moves and stays
+pub hand-parts : (from to : ℕ) (on : Set) (ps : List PermitRecord) → length (keep (permitMoves from to on) ps) + length (keep (permitKept from on) ps) ≤ length ps
+unfolding permitMoves permitKept
+hand-parts from to on = length-parts (permitMoves from to on) (permitKept from on) (λ p a b. never (permitGiven from on p) (and-left (permitGiven from on p) (not (eqb p.taker to)) a) b)
 
 module _ (L : Limits) (W : Window) (from to : ℕ) (on : Set) (k : Sound L W) (lives : live W to ≡ true) where
   pub hand-held : (e c : ℕ) → heldSound W.entries (live W) (handOver W from to on .held) e c ≡ true
@@ -48,7 +54,7 @@ module _ (L : Limits) (W : Window) (from to : ℕ) (on : Set) (k : Sound L W) (l
       x = record-parts W.entries (live W) W.held r h
 
       two : W .held r.entry r.owner ≡ 2
-      two = eqb-eq (W .held r.entry r.owner) 2 (x .3)
+      two = eqb-true (W .held r.entry r.owner) 2 (x .3)
 
       most : (c : ℕ) → W .held r.entry c ≤ 2
       most = held-most W (k .helds) r.entry
@@ -59,25 +65,25 @@ module _ (L : Limits) (W : Window) (from to : ℕ) (on : Set) (k : Sound L W) (l
       go (same i) b false q = rw (q, x .0, x .1, x .2, x .3)
       go (other n) (same j) true q = let g : max (W .held r.entry from) (W .held r.entry to) ≡ 2 = omega (arith, rw j at two, most from) in rw (x .0, x .1, x .2, q, j, eqb-same to, g)
       go (other n) (same j) false q = rw (q, x .0, x .1, x .2, x .3)
-      go (other n) (other o) true q = rw (q, eqb-other r.owner to o, eqb-other r.owner from n, x .0, x .1, x .2, x .3)
+      go (other n) (other o) true q = rw (q, ne-eqb r.owner to o, ne-eqb r.owner from n, x .0, x .1, x .2, x .3)
       go (other n) (other o) false q = rw (q, x .0, x .1, x .2, x .3)
 
   hand-permit : (p : PermitRecord) → permitSound W.entries (live W) p ≡ true → permitMoves from to on p ≡ true → permitSound W.entries (live W) (movedPermit to p) ≡ true
   unfolding permitMoves movedPermit permitSound
   hand-permit p h g = let x = permit-parts W.entries (live W) p h in
-      let n : to ≢ p .taker = λ q. ne-of p.taker to (not-true (eqb p.taker to) (and-right (permitGiven from on p) (not (eqb p.taker to)) g)) (sym q) in
-      rw (lives, x .1, x .2, x .3, eqb-other to p.taker n)
+      let n : to ≢ p .taker = λ q. eqb-false p.taker to (not-true (eqb p.taker to) (and-right (permitGiven from on p) (not (eqb p.taker to)) g)) (sym q) in
+      rw (lives, x .1, x .2, x .3, ne-eqb to p.taker n)
 
-  hand-room : length (movePermits from to (on) W.permits) ≤ length W.permits
-  unfolding movePermits addPermit permitMoves permitKept
+  hand-room : length (movePermits from to on W.permits) ≤ length W.permits
+  unfolding movePermits addPermit
   hand-room = omega (
     arith,
     length-inserts permitKey unitePermits unite-key (map (movedPermit to) (keep (permitMoves from to on) W.permits)) (keep (permitKept from on) W.permits),
     length-map (keep (permitMoves from to on) W.permits) (movedPermit to),
-    length-parts (permitMoves from to on) (permitKept from on) (λ p a b. false≢true (sym (not-true (permitGiven from on p) b) ∙ and-left (permitGiven from on p) (not (eqb p.taker to)) a)) W.permits,
+    hand-parts from to on W.permits,
   )
 
-  pub hand-order : rising permitKey (movePermits from to (on) W.permits) ≡ true
+  pub hand-order : rising permitKey (movePermits from to on W.permits) ≡ true
   unfolding movePermits addPermit
   hand-order = inserts-rising permitKey unitePermits unite-key (map (movedPermit to) (keep (permitMoves from to on) W.permits)) (keep (permitKept from on) W.permits) (rising-keep permitKey (permitKept from on) W.permits (k .permit-order))
 
@@ -88,7 +94,7 @@ module _ (L : Limits) (W : Window) (from to : ℕ) (on : Set) (k : Sound L W) (l
     entries = k .entries;
     changes = k .changes;
     room-log = rw (length-map W.log (movedRecord from to on)) (k .room-log);
-    room-permits = over-less (length W.permits) (length (movePermits from to (on) W.permits)) L.permits hand-room (k .room-permits);
+    room-permits = over-less (length W.permits) (length (movePermits from to on W.permits)) L.permits hand-room (k .room-permits);
     room-ties = k .room-ties;
     values = k .values;
     statuses = k .statuses;

@@ -6,13 +6,14 @@ use Prim.Native.Nat.{ℕ, suc, _<_, min, max}
 use native.Mathlib.Omega.{arith}
 use lib.Dec.{eqb}
 use lib.ListN.{length}
+use borrow.Author.Tests.{lt-ltb, ne-eqb, eqb-false}
 use Rattle.rules.specs.Base.{exceeds, outside}
 use Rattle.rules.specs.Sets.{Set}
 use Rattle.rules.specs.Window.{Limits, TieRecord, Window, tieKey, withTies, live}
 use Rattle.rules.specs.Locks.{pairPermitted}
 use Rattle.rules.specs.Ties.{acyclic, addTie, makeTie, isGroup}
 use Rattle.rules.specs.Sound.{tieSound}
-use Rattle.rules.proofs.BaseLaws.{Below, under, over as beyond, below, ltb-true, eqb-other, ne-of, Same, same, other, same?}
+use Rattle.rules.proofs.BaseLaws.{Below, under, over as beyond, below, Same, same, other, same?}
 use Rattle.rules.proofs.SortLaws.{all-insert, insert-rising}
 use Rattle.rules.proofs.SoundParts.{Sound}
 
@@ -21,15 +22,15 @@ unfolding tieSound makeTie isGroup outside
 make-sound lives k l f r a hl hf = go (same? k 3) (below l f)
   where
     apart : l ≢ f
-    apart = ne-of l f a
+    apart = eqb-false l f a
 
     lower : (x y : ℕ) → lives x ≡ true → lives y ≡ true → x < y → tieSound lives (record { kind = 3; leader = x; follower = y }) ≡ true
-    lower x y hx hy h = rw (hx, hy, eqb-other x y (omega arith), ltb-true x y h)
+    lower x y hx hy h = rw (hx, hy, ne-eqb x y (omega arith), lt-ltb x y h)
 
     go : {b d : Bool} → Same k 3 b → Below l f d → tieSound lives (cond b (record { kind = 3; leader = min l f; follower = max l f }) (record { kind = k; leader = l; follower = f })) ≡ true
     go (same e) (under h) = let q : min l f ≡ l = omega arith in let s : max l f ≡ f = omega arith in rw (q, s) (lower l f hl hf h)
     go (same e) (beyond h) = let q : min l f ≡ f = omega arith in let s : max l f ≡ l = omega arith in rw (q, s) (lower f l hf hl (omega (arith, apart)))
-    go (other n) q = rw (r, hl, hf, a, eqb-other k 3 n)
+    go (other n) q = rw (r, hl, hf, a, ne-eqb k 3 n)
 
 pub depend-sound : (L : Limits) (W : Window) (t : TieRecord) → tieSound (live W) t ≡ true → acyclic (suc W.given) (addTie t W.ties) ≡ true
     → not (exceeds (length (addTie t W.ties)) L.ties) ≡ true → Sound L W → Sound L (withTies W (addTie t W.ties))

@@ -4,16 +4,17 @@ use mathlib.Core.Logic.{⊎-elim}
 use mathlib.Core.Bool.{Bool, true, false, not, cond, _&&_, _||_, false≢true, or-true, and-false}
 use Prim.Native.Nat.{ℕ, suc}
 use lib.Dec.{leb, ltb, eqb}
+use borrow.Author.Tests.{not-true, eqb-true, lt-ltb}
 use Rattle.rules.specs.Base.{all, outside}
 use Rattle.rules.specs.Sets.{Set, putAll}
-use Rattle.rules.specs.Window.{Limits, LogRecord, PermitRecord, TieRecord, Window, permitKey, tieKey, live, noChange}
+use Rattle.rules.specs.Window.{Limits, LogRecord, PermitRecord, TieRecord, Window, permitKey, tieKey, withPermits, live, noChange}
 use Rattle.rules.specs.Locks.{pairPermitted, permitted, contains, clash}
 use Rattle.rules.specs.Sound.{statusSound, heldSound, recordSound, permitSound, tieSound}
 use Rattle.rules.specs.Effects.{released, isUnowned, unowned, permitStays, permitsLeft, tieStays, tiesLeft, endAll}
-use Rattle.rules.proofs.BaseLaws.{or-cases, or-map, and-left, and-right, not-true, no-true, or-false-left, or-false-right, eqb-eq, ltb-true}
+use Rattle.rules.proofs.BaseLaws.{or-cases, and-left, and-right, no-true, or-false-left, or-false-right}
 use Rattle.rules.proofs.ListLaws.{all-weaken, all-keep, any-keep-up, fewer}
 use Rattle.rules.proofs.SortLaws.{rising-keep}
-use Rattle.rules.proofs.SoundParts.{Sound, clash-left, clash-right, live-below, live-zero, live-change, ends-live}
+use Rattle.rules.proofs.SoundParts.{Sound, clash-left, clash-right, live-below, live-zero, live-change, ends-live, fits-on}
 use Rattle.rules.proofs.TieLaws.{acyclic-keep}
 
 module _ (L : Limits) (W : Window) (how : ℕ) (s : Set) (ended : outside 1 3 how ≡ true) (ranged : outside 1 5 how ≡ false)
@@ -63,7 +64,7 @@ module _ (L : Limits) (W : Window) (how : ℕ) (s : Set) (ended : outside 1 3 ho
 
   end-cycle : all (λ t. ltb t.leader (suc W.given)) W.ties ≡ true
   end-cycle = all-weaken (λ t. live W t.leader && live W t.follower) (λ t. ltb t.leader (suc W.given))
-      (λ t h. ltb-true t.leader (suc W.given) (live-below W t.leader (and-left (live W t.leader) (live W t.follower) h))) W.ties (ends-live L W k)
+      (λ t h. lt-ltb t.leader (suc W.given) (live-below W t.leader (and-left (live W t.leader) (live W t.follower) h))) W.ties (ends-live L W k)
 
   -- a permit from one that lives on, to one that lives on or to anybody, stays
   end-permitted : (a b e m : ℕ) → s a ≡ false → s b ≡ false → permitted W.permits a b e m ≡ true → permitted (permitsLeft s W.permits) a b e m ≡ true
@@ -71,20 +72,18 @@ module _ (L : Limits) (W : Window) (how : ℕ) (s : Set) (ended : outside 1 3 ho
   end-permitted a b e m ha hb = any-keep-up _ (permitStays s) (λ p h. go p (and-left (eqb p.giver a && (eqb p.taker b || eqb p.taker 0)) _ (and-left _ (contains p.ops m) h))) W.permits
     where
       go : (p : PermitRecord) → eqb p.giver a && (eqb p.taker b || eqb p.taker 0) ≡ true → permitStays s p ≡ true
-      go p x = rw (ap s (eqb-eq p.giver a (and-left (eqb p.giver a) (eqb p.taker b || eqb p.taker 0) x)) ∙ ha)
-          (⊎-elim (λ z. ap not (ap s (eqb-eq p.taker b z) ∙ hb)) (λ z. ap not (ap s (eqb-eq p.taker 0 z) ∙ none)) (or-cases (eqb p.taker b) (eqb p.taker 0) (and-right (eqb p.giver a) (eqb p.taker b || eqb p.taker 0) x)))
+      go p x = rw (ap s (eqb-true p.giver a (and-left (eqb p.giver a) (eqb p.taker b || eqb p.taker 0) x)) ∙ ha)
+          (⊎-elim (λ z. ap not (ap s (eqb-true p.taker b z) ∙ hb)) (λ z. ap not (ap s (eqb-true p.taker 0 z) ∙ none)) (or-cases (eqb p.taker b) (eqb p.taker 0) (and-right (eqb p.giver a) (eqb p.taker b || eqb p.taker 0) x)))
 
   end-pair : (e a b : ℕ) → pairPermitted (endAll how s W) e a b ≡ true
-  unfolding pairPermitted endAll released putAll permitsLeft
+  unfolding pairPermitted endAll withPermits released putAll permitsLeft
   end-pair e a b = go (s a) (s b) refl refl
     where
       go : (x y : Bool) → s a ≡ x → s b ≡ y
           → eqb a b || not (clash (cond x 0 (W .held e a)) (cond y 0 (W .held e b))) || permitted (permitsLeft s W.permits) a b e (cond y 0 (W .held e b)) || permitted (permitsLeft s W.permits) b a e (cond x 0 (W .held e a)) ≡ true
       go true y p q = rw (clash-left, or-true)
       go false true p q = rw (clash-right, or-true)
-      go false false p q = or-map (eqb a b || not (clash (W .held e a) (W .held e b)) || permitted W.permits a b e (W .held e b)) (permitted W.permits b a e (W .held e a)) _ _
-          (or-map (eqb a b || not (clash (W .held e a) (W .held e b))) (permitted W.permits a b e (W .held e b)) _ _ (λ z. z) (end-permitted a b e (W .held e b) p q))
-          (end-permitted b a e (W .held e a) q p) (k .locks e a b)
+      go false false p q = fits-on W (permitsLeft s W.permits) e a b (end-permitted a b e (W .held e b) p q) (end-permitted b a e (W .held e a) q p) (k .locks e a b)
 
   pub end-sound : Sound L (endAll how s W)
   unfolding endAll putAll unowned permitsLeft tiesLeft

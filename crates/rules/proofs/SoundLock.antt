@@ -4,12 +4,13 @@ use mathlib.Core.Logic.{_⊎_, inl, inr, ⊎-elim, _≢_}
 use mathlib.Core.Bool.{Bool, true, false, not, cond, _&&_, _||_, false≢true, or-comm, or-true}
 use Prim.Native.Nat.{ℕ, suc}
 use lib.Dec.{leb, ltb, eqb}
+use borrow.Author.Tests.{not-true, ne-eqb, eqb-true}
 use Rattle.rules.specs.Base.{put2}
 use Rattle.rules.specs.Window.{Limits, LogRecord, Window, withHeld, live}
 use Rattle.rules.specs.Locks.{clash, permitted, pairPermitted}
 use Rattle.rules.specs.Sound.{heldSound, recordSound}
 use Rattle.rules.specs.Effects.{lockBlockers, grantable, putHeld}
-use Rattle.rules.proofs.BaseLaws.{anyBelow-none, not-true, Below, under, over as beyond, below, Same, same, other, same?, eqb-other, eqb-eq, eqb-same, or-left, or-right}
+use Rattle.rules.proofs.BaseLaws.{anyBelow-none, Below, under, over as beyond, below, Same, same, other, same?, eqb-same, or-left, or-right}
 use Rattle.rules.proofs.ListLaws.{all-weaken}
 use Rattle.rules.proofs.SoundParts.{Sound, clash-left, held-no-change, record-parts}
 
@@ -36,7 +37,7 @@ module _ (L : Limits) (W : Window) (k : Sound L W) (c e m : ℕ) (free : grantab
     where
       go : {b : Bool} → Below d (suc (W .given)) b → (not (clash (W .held e d) m) ≡ true) ⊎ (permitted W.permits d c e m ≡ true)
       go (under h) = no-blocker (clash (W .held e d) m) (permitted W.permits d c e m)
-          (rw (eqb-other d c n) at (anyBelow-none (suc (W .given)) (lockBlockers W c e m) (not-true _ free) d h))
+          (rw (ne-eqb d c n) at (anyBelow-none (suc (W .given)) (lockBlockers W c e m) (not-true _ free) d h))
       go (beyond h) = inl (rw (held-no-change W (k .helds) e d h, clash-left))
 
 module _ (L : Limits) (W : Window) (c e m : ℕ) (k : Sound L W)
@@ -78,7 +79,7 @@ module _ (L : Limits) (W : Window) (c e m : ℕ) (k : Sound L W)
   lock-record r h = go (same? r.entry e) (same? r.owner c)
     where
       two : r .entry ≡ e → r .owner ≡ c → W .held e c ≡ 2
-      two i j = rw (i, j) at (eqb-eq (W .held r.entry r.owner) 2 (record-parts W.entries (live W) W.held r h .3))
+      two i j = rw (i, j) at (eqb-true (W .held r.entry r.owner) 2 (record-parts W.entries (live W) W.held r h .3))
 
       go : {p q : Bool} → Same r.entry e p → Same r.owner c q
           → live W r.owner && ltb r.entry W.entries && ltb r.before 4294967296 && eqb (cond (p && q) m (W .held r.entry r.owner)) 2 ≡ true

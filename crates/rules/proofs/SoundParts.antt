@@ -1,5 +1,5 @@
 -- Soundness part by part, with no bound on the places: the form in which calls are seen to keep it. Assumes nothing.
-use mathlib.Core.Path.{_≡_, refl, sym, _∙_}
+use mathlib.Core.Path.{_≡_, refl, sym, _∙_, ap}
 use mathlib.Core.Logic.{⊎-elim}
 use mathlib.Core.Bool.{Bool, true, false, not, cond, _&&_, _||_, false≢true, or-true, and-false}
 use mathlib.Core.List.{List, [], _∷_}
@@ -7,13 +7,14 @@ use Prim.Native.Nat.{ℕ, suc, _<_, _≤_, _^_}
 use native.Mathlib.Omega.{arith}
 use lib.Dec.{leb, ltb, eqb}
 use lib.ListN.{length}
+use borrow.Author.Tests.{eqb-true, leb-true, ltb-true, lt-ltb, le-ltb, ltb-false, eqb-false, not-true, ne-eqb}
 use Rattle.rules.specs.Base.{allBelow, all, rising, exceeds, outside}
 use Rattle.rules.specs.Sets.{Set}
-use Rattle.rules.specs.Window.{Limits, LogRecord, PermitRecord, TieRecord, Window, permitKey, tieKey, live, noChange}
-use Rattle.rules.specs.Locks.{clash, clashesPermitted, pairPermitted}
+use Rattle.rules.specs.Window.{Limits, LogRecord, PermitRecord, TieRecord, Window, permitKey, tieKey, withPermits, isLive, live, noChange}
+use Rattle.rules.specs.Locks.{clash, clashesPermitted, permitted, pairPermitted}
 use Rattle.rules.specs.Ties.{isGroup, acyclic}
 use Rattle.rules.specs.Sound.{sound, parts, valueSound, statusSound, parentSound, heldSound, recordSound, permitSound, tieSound}
-use Rattle.rules.proofs.BaseLaws.{Below, under, over as beyond, below, eqb-eq, and-left, and-right, and-both, or-left, or-right, or-cases, allBelow-at, allBelow-intro, within-of, le-of, lt-of, ltb-true, ltb-false, ge-of, ne-of, not-true, or-false-left, or-false-right, eqb-other, and-four, and-five}
+use Rattle.rules.proofs.BaseLaws.{Below, under, over as beyond, below, and-left, and-right, and-both, or-left, or-right, or-cases, or-map, allBelow-at, allBelow-intro, within-of, or-false-left, or-false-right, and-four, and-five}
 use Rattle.rules.proofs.ListLaws.{all-weaken}
 
 pub record Sound (L : Limits) (W : Window) : Type 0 where
@@ -56,11 +57,11 @@ each (b ∷ l) e = (and-left b (all (λ x. x) l) e, each l (and-right b (all (λ
 -- a figure in its range
 pub inside-of : (low high x : ℕ) → outside low high x ≡ false → (low ≤ x) × (x ≤ high)
 unfolding outside
-inside-of low high x e = (ge-of x low (or-false-left (ltb x low) (ltb high x) e), ge-of high x (or-false-right (ltb x low) (ltb high x) e))
+inside-of low high x e = (ltb-false x low (or-false-left (ltb x low) (ltb high x) e), ltb-false high x (or-false-right (ltb x low) (ltb high x) e))
 
 outside-false : (low high x : ℕ) → low ≤ x → x ≤ high → outside low high x ≡ false
 unfolding outside
-outside-false low high x h l = rw (ltb-false x low h, ltb-false high x l)
+outside-false low high x h l = rw (le-ltb x low h, le-ltb high x l)
 
 -- what a sound record, permit, tie says
 pub record-parts : (m : ℕ) (lives : Set) (held : ℕ → ℕ → ℕ) (r : LogRecord) → recordSound m lives held r ≡ true
@@ -90,25 +91,39 @@ clash-right m = rw and-false
 -- who lives has a number
 pub live-below : (W : Window) (c : ℕ) → live W c ≡ true → c < suc (W .given)
 unfolding live
-live-below W c h = lt-of c (suc (W .given)) (and-left (ltb c (suc (W .given))) _ h)
+live-below W c h = ltb-true c (suc (W .given)) (and-left (ltb c (suc (W .given))) _ h)
 
 -- so have the ends of ties
 pub ends-below : (W : Window) → all (tieSound (live W)) W.ties ≡ true → all (λ t. ltb t.leader (suc W.given) && ltb t.follower (suc W.given)) W.ties ≡ true
 ends-below W = all-weaken (tieSound (live W)) (λ t. ltb t.leader (suc W.given) && ltb t.follower (suc W.given))
-    (λ t h. let m = tie-parts (live W) t h in and-both (ltb t.leader (suc W.given)) _ (ltb-true t.leader (suc W.given) (live-below W t.leader (m .1))) (ltb-true t.follower (suc W.given) (live-below W t.follower (m .2)))) W.ties
+    (λ t h. let m = tie-parts (live W) t h in and-both (ltb t.leader (suc W.given)) _ (lt-ltb t.leader (suc W.given) (live-below W t.leader (m .1))) (lt-ltb t.follower (suc W.given) (live-below W t.follower (m .2)))) W.ties
+
+-- a change that there is has a number given
+pub numbered : (W : Window) (c : ℕ) → noChange W c ≡ false → c ≤ W .given
+unfolding noChange
+numbered W c h = ltb-false W.given c (or-false-right (eqb c 0) (ltb W.given c) h)
+
+-- who has a number and a live status lives
+pub given-live : (W : Window) (c : ℕ) → noChange W c ≡ false → isLive (W .status c) ≡ true → live W c ≡ true
+unfolding live
+given-live W c h l = rw (lt-ltb c (suc (W .given)) (omega (arith, numbered W c h))) l
+
+-- the same of a status that was tested
+pub live-at : (W : Window) (c s : ℕ) → noChange W c ≡ false → eqb (W .status c) s ≡ true → isLive s ≡ true → live W c ≡ true
+live-at W c s h e l = given-live W c h (rw (eqb-true (W .status c) s e) l)
 
 -- a lock is 2 at most, and only who lives holds one, on an entry that there is
 module _ (W : Window) (helds : (e c : ℕ) → heldSound W.entries (live W) W.held e c ≡ true) where
   pub held-most : (e c : ℕ) → W .held e c ≤ 2
   unfolding heldSound
-  held-most e c = le-of (W .held e c) 2 (and-left (leb (W .held e c) 2) _ (helds e c))
+  held-most e c = leb-true (W .held e c) 2 (and-left (leb (W .held e c) 2) _ (helds e c))
 
   pub held-zero : (e c : ℕ) → (ltb e W.entries && live W c ≡ true → ⊥) → W .held e c ≡ 0
   unfolding heldSound
-  held-zero e c f = ⊎-elim (λ q. eqb-eq (W .held e c) 0 q) (λ q. absurd (f q)) (or-cases (eqb (W .held e c) 0) _ (and-right (leb (W .held e c) 2) _ (helds e c)))
+  held-zero e c f = ⊎-elim (λ q. eqb-true (W .held e c) 0 q) (λ q. absurd (f q)) (or-cases (eqb (W .held e c) 0) _ (and-right (leb (W .held e c) 2) _ (helds e c)))
 
   pub held-no-entry : (e c : ℕ) → W .entries ≤ e → W .held e c ≡ 0
-  held-no-entry e c h = held-zero e c (λ q. let l = lt-of e (W .entries) (and-left (ltb e W.entries) (live W c) q) in omega arith)
+  held-no-entry e c h = held-zero e c (λ q. let l = ltb-true e (W .entries) (and-left (ltb e W.entries) (live W c) q) in omega arith)
 
   pub held-no-change : (e c : ℕ) → W .given < c → W .held e c ≡ 0
   held-no-change e c h = held-zero e c (λ q. let l = live-below W c (and-right (ltb e W.entries) (live W c) q) in omega arith)
@@ -132,14 +147,25 @@ module _ (W : Window) (helds : (e c : ℕ) → heldSound W.entries (live W) W.he
       go (under h) (under p) (beyond q) = fits-right e a b (held-no-change e b q)
       go (under h) (under p) (under q) = allBelow-at (suc (W .given)) _ (allBelow-at (suc (W .given)) _ (allBelow-at (W .entries) _ k e h) a p) b q
 
+-- a pair fits on where its permits stay
+pub fits-on : (W : Window) (ps : List PermitRecord) (e a b : ℕ) → (permitted W.permits a b e (W .held e b) ≡ true → permitted ps a b e (W .held e b) ≡ true)
+    → (permitted W.permits b a e (W .held e a) ≡ true → permitted ps b a e (W .held e a) ≡ true) → pairPermitted W e a b ≡ true → pairPermitted (withPermits W ps) e a b ≡ true
+unfolding pairPermitted withPermits
+fits-on W ps e a b f g = or-map (eqb a b || not (clash (W .held e a) (W .held e b)) || permitted W.permits a b e (W .held e b)) _ _ _ (or-map (eqb a b || not (clash (W .held e a) (W .held e b))) _ _ _ (λ z. z) f) g
+
 pub fit-locks : (W : Window) → ((e a b : ℕ) → pairPermitted W e a b ≡ true) → clashesPermitted W ≡ true
 unfolding clashesPermitted
 fit-locks W f = allBelow-intro (W .entries) _ (λ e h. allBelow-intro (suc (W .given)) _ (λ a p. allBelow-intro (suc (W .given)) _ (λ b q. f e a b)))
 
+-- an entry that there is not has value 0
+pub no-value : (m : ℕ) (value : ℕ → ℕ) (e : ℕ) → valueSound m value e ≡ true → m ≤ e → value e ≡ 0
+unfolding valueSound
+no-value m value e s h = ⊎-elim (λ q. let l = ltb-true e m q in absurd (omega arith)) (eqb-true (value e) 0) (or-cases (ltb e m) _ (and-right (ltb (value e) (2 ^ 32)) _ s))
+
 -- the definition and this form say the same of a window that is blank beyond the largest figures
 module _ (L : Limits) (W : Window) where
   unused : (n m c : ℕ) (t : Bool) (x : ℕ) → n ≤ m → m < c → x ≡ 0 → cond (eqb c 0 || ltb n c) (eqb x 0) t ≡ true
-  unused n m c t x h l e = rw (or-right (eqb c 0) (ltb n c) (ltb-true n c (omega arith)), e)
+  unused n m c t x h l e = rw (or-right (eqb c 0) (ltb n c) (lt-ltb n c (omega arith)), e)
 
   pub sound-parts : sound L W ≡ true → Blank L W → Sound L W
   unfolding sound parts valueSound statusSound parentSound heldSound
@@ -212,15 +238,11 @@ module _ (L : Limits) (W : Window) where
   )
 
   no-place : (n c x : ℕ) (t : Bool) → n < c → cond (eqb c 0 || ltb n c) (eqb x 0) t ≡ true → x ≡ 0
-  no-place n c x t h e = eqb-eq x 0 (rw (or-right (eqb c 0) (ltb n c) (ltb-true n c h)) at e)
+  no-place n c x t h e = eqb-true x 0 (rw (or-right (eqb c 0) (ltb n c) (lt-ltb n c h)) at e)
 
   pub value-most : Sound L W → (e : ℕ) → ltb (W .value e) (2 ^ 32) ≡ true
   unfolding valueSound
   value-most k e = and-left (ltb (W .value e) (2 ^ 32)) _ (k .values e)
-
-  pub value-none : Sound L W → (e : ℕ) → W .entries ≤ e → W .value e ≡ 0
-  unfolding valueSound
-  value-none k e h = ⊎-elim (λ q. let l = lt-of e (W .entries) q in absurd (omega arith)) (λ q. eqb-eq (W .value e) 0 q) (or-cases (ltb e W.entries) _ (and-right (ltb (W .value e) (2 ^ 32)) _ (k .values e)))
 
   pub status-none : Sound L W → (c : ℕ) → W .given < c → W .status c ≡ 0
   unfolding statusSound
@@ -235,7 +257,7 @@ module _ (L : Limits) (W : Window) where
       let m : W .entries ≤ L .entries = within-of (W .entries) (L .entries) (k .entries) in
       let n : W .given ≤ L .changes = within-of (W .given) (L .changes) (k .changes) in
       record {
-        value = λ e h. value-none k e (omega arith);
+        value = λ e h. no-value (W .entries) (W .value) e (k .values e) (omega arith);
         status = λ c h. status-none k c (omega arith);
         parent = λ c h. parent-none k c (omega arith);
         held-entry = λ e c h. held-no-entry W (k .helds) e c (omega arith);
@@ -245,23 +267,19 @@ module _ (L : Limits) (W : Window) where
   -- change 0 is nobody
   pub live-zero : Sound L W → live W 0 ≡ false
   unfolding live statusSound outside
-  live-zero k = let h : W .status 0 ≡ 0 = eqb-eq (W .status 0) 0 (k .statuses 0) in rw (h, and-false)
+  live-zero k = let h : W .status 0 ≡ 0 = eqb-true (W .status 0) 0 (k .statuses 0) in rw (h, and-false)
 
   -- a change has one of the five statuses; one that has not ended lives
   pub status-range : Sound L W → (c : ℕ) → noChange W c ≡ false → (1 ≤ W .status c) × (W .status c ≤ 5)
   unfolding statusSound noChange
   status-range k c h = inside-of 1 5 (W .status c) (not-true _ (rw h at (k .statuses c)))
 
-  pub live-range : (c : ℕ) → noChange W c ≡ false → 1 ≤ W .status c → W .status c ≤ 3 → live W c ≡ true
-  unfolding live noChange
-  live-range c h p q = rw (ltb-true c (suc (W .given)) (omega (arith, ge-of (W .given) c (or-false-right (eqb c 0) (ltb W.given c) h))), outside-false 1 3 (W .status c) p q)
-
   pub live-of : Sound L W → (c : ℕ) → noChange W c ≡ false → eqb (W .status c) 4 ≡ false → eqb (W .status c) 5 ≡ false → live W c ≡ true
-  live-of k c h p q = let r = status-range k c h in live-range c h (r .0) (omega (arith, r .1, ne-of (W .status c) 4 p, ne-of (W .status c) 5 q))
+  live-of k c h p q = let r = status-range k c h in given-live W c h (ap not (outside-false 1 3 (W .status c) (r .0) (omega (arith, r .1, eqb-false (W .status c) 4 p, eqb-false (W .status c) 5 q))))
 
   pub live-change : Sound L W → (c : ℕ) → live W c ≡ true → noChange W c ≡ false
   unfolding noChange
-  live-change k c h = rw (eqb-other c 0 (λ q. false≢true (sym (live-zero k) ∙ (rw q at h))), ltb-false (W .given) c (omega (arith, live-below W c h)))
+  live-change k c h = rw (ne-eqb c 0 (λ q. false≢true (sym (live-zero k) ∙ (rw q at h))), le-ltb (W .given) c (omega (arith, live-below W c h)))
 
   -- the ends of ties live
   pub ends-live : Sound L W → all (λ t. live W t.leader && live W t.follower) W.ties ≡ true

@@ -8,11 +8,11 @@ use lib.ListN.{length}
 use Rattle.rules.specs.Base.{exceeds, outside}
 use Rattle.rules.specs.Sets.{Set}
 use Rattle.rules.specs.Window.{Limits, PermitRecord, Window, permitKey, withPermits, live}
-use Rattle.rules.specs.Locks.{contains, clash, permitted, pairPermitted, unitePermits, addPermit}
+use Rattle.rules.specs.Locks.{contains, permitted, unitePermits, addPermit}
 use Rattle.rules.specs.Sound.{permitSound}
-use Rattle.rules.proofs.BaseLaws.{or-map, and-map}
+use Rattle.rules.proofs.BaseLaws.{and-map}
 use Rattle.rules.proofs.SortLaws.{all-insert, insert-rising, any-insert}
-use Rattle.rules.proofs.SoundParts.{Sound, permit-parts}
+use Rattle.rules.proofs.SoundParts.{Sound, permit-parts, fits-on}
 
 -- the united permit stands in the old one's place
 pub unite-key : (p q : PermitRecord) → permitKey (unitePermits p q) ≡ permitKey q
@@ -43,7 +43,7 @@ permitted-add p ps a b e m = any-insert permitKey unitePermits unite-key _ p
 
 pub permit-sound : (L : Limits) (W : Window) (p : PermitRecord) → permitSound W.entries (live W) p ≡ true → not (exceeds (length (addPermit p W.permits)) L.permits) ≡ true
     → Sound L W → Sound L (withPermits W (addPermit p W.permits))
-unfolding withPermits live pairPermitted addPermit
+unfolding withPermits live addPermit
 permit-sound L W p s r k = record {
   some = k .some;
   entries = k .entries;
@@ -61,7 +61,5 @@ permit-sound L W p s r k = record {
   permit-order = insert-rising permitKey unitePermits unite-key p W.permits (k .permit-order);
   tie-order = k .tie-order;
   no-cycle = k .no-cycle;
-  locks = λ e a b. or-map (eqb a b || not (clash (W .held e a) (W .held e b)) || permitted W.permits a b e (W .held e b)) (permitted W.permits b a e (W .held e a)) _ _
-      (or-map (eqb a b || not (clash (W .held e a) (W .held e b))) (permitted W.permits a b e (W .held e b)) _ _ (λ z. z) (permitted-add p W.permits a b e (W .held e b)))
-      (permitted-add p W.permits b a e (W .held e a)) (k .locks e a b);
+  locks = λ e a b. fits-on W (addPermit p W.permits) e a b (permitted-add p W.permits a b e (W .held e b)) (permitted-add p W.permits b a e (W .held e a)) (k .locks e a b);
 }

@@ -6,6 +6,7 @@ use Prim.Native.Nat.{ℕ, suc, _≤_, _^_}
 use native.Mathlib.Omega.{arith}
 use lib.Dec.{leb, ltb, eqb}
 use lib.ListN.{length}
+use borrow.Author.Tests.{ne-eqb, lt-ltb, le-ltb, ltb-true}
 use Rattle.rules.specs.Base.{put, exceeds, all, rising, outside}
 use Rattle.rules.specs.Sets.{Set}
 use Rattle.rules.specs.Window.{Limits, LogRecord, PermitRecord, TieRecord, Window, fresh, withValue, withStatus, withLog, live, noChange}
@@ -13,7 +14,7 @@ use Rattle.rules.specs.Locks.{clash, pairPermitted}
 use Rattle.rules.specs.Ties.{acyclic}
 use Rattle.rules.specs.Sound.{valueSound, statusSound, parentSound, heldSound, recordSound, permitSound, tieSound}
 use Rattle.rules.specs.Effects.{undo, addChange}
-use Rattle.rules.proofs.BaseLaws.{both-ways, Same, same, other, same?, or-map, and-left, and-right, and-map, eqb-other, ltb-true, ltb-false, lt-of}
+use Rattle.rules.proofs.BaseLaws.{both-ways, Same, same, other, same?, or-map, and-left, and-right, and-map}
 use Rattle.rules.proofs.ListLaws.{all-weaken, all-append, length-append-one}
 use Rattle.rules.proofs.SoundParts.{Sound, live-below, ends-below, record-parts, permit-parts, tie-parts}
 use Rattle.rules.proofs.TieLaws.{acyclic-more}
@@ -46,7 +47,7 @@ fresh-sound L n h l = record {
       where
         go : {b : Bool} → Same c 0 b → cond (b || ltb 0 c) true t ≡ true
         go (same e) = refl
-        go (other q) = rw (ltb-true 0 c (omega arith))
+        go (other q) = rw (lt-ltb 0 c (omega arith))
 
 -- values
 pub value-put : (m : ℕ) (v : ℕ → ℕ) (i x : ℕ) → ltb i m ≡ true → ltb x (2 ^ 32) ≡ true
@@ -114,7 +115,7 @@ log-sound L W r h l k = record {
   locks = k .locks;
 }
 
--- a status that stays live changes nobody's being live
+-- a status as live as the one before changes nobody's being live
 live-put : (W : Window) (c s : ℕ) → outside 1 3 (W .status c) ≡ outside 1 3 s → live (withStatus W (put W.status c s)) ≡ live W
 unfolding live withStatus put
 live-put W c s h = fun-ext (λ d. ap (λ x. ltb d (suc W.given) && not x) (go d (same? d c)))
@@ -178,7 +179,7 @@ module _ (L : Limits) (W : Window) (p : ℕ) (room : not (exceeds (suc W.given) 
   live-start : (c : ℕ) → live W c ≡ true → live (addChange W p) c ≡ true
   unfolding live addChange put
   live-start c h = let l = live-below W c h in
-      rw (eqb-other c (suc (W .given)) (omega arith), ltb-true c (suc (suc (W .given))) (omega arith)) (and-right (ltb c (suc (W .given))) _ h)
+      rw (ne-eqb c (suc (W .given)) (omega arith), lt-ltb c (suc (suc (W .given))) (omega arith)) (and-right (ltb c (suc (W .given))) _ h)
 
   -- the places of changes, with the new one
   places : (g : ℕ → ℕ) (x : ℕ) (test : ℕ → ℕ → Bool) → test (suc (W .given)) x ≡ true
@@ -188,8 +189,8 @@ module _ (L : Limits) (W : Window) (p : ℕ) (room : not (exceeds (suc W.given) 
   places g x test e h c = go (same? c (suc (W .given)))
     where
       go : {b : Bool} → Same c (suc (W .given)) b → cond (eqb c 0 || ltb (suc W.given) c) (eqb (cond b x (g c)) 0) (test c (cond b x (g c))) ≡ true
-      go (same q) = rw (q, eqb-other (suc (W .given)) 0 (omega arith), ltb-false (suc (W .given)) (suc (W .given)) (omega arith)) e
-      go (other q) = rw (both-ways (ltb (suc W.given) c) (ltb W.given c) (λ a. ltb-true W.given c (omega (arith, lt-of (suc (W .given)) c a))) (λ a. ltb-true (suc W.given) c (omega (arith, lt-of (W .given) c a)))) (h c)
+      go (same q) = rw (q, ne-eqb (suc (W .given)) 0 (omega arith), le-ltb (suc (W .given)) (suc (W .given)) (omega arith)) e
+      go (other q) = rw (both-ways (ltb (suc W.given) c) (ltb W.given c) (λ a. lt-ltb W.given c (omega (arith, ltb-true (suc (W .given)) c a))) (λ a. lt-ltb (suc W.given) c (omega (arith, ltb-true (W .given) c a)))) (h c)
 
   pub start-sound : Sound L (addChange W p)
   unfolding addChange statusSound parentSound pairPermitted outside
@@ -202,7 +203,7 @@ module _ (L : Limits) (W : Window) (p : ℕ) (room : not (exceeds (suc W.given) 
     room-ties = k .room-ties;
     values = k .values;
     statuses = places W.status 1 (λ c x. not (outside 1 5 x)) refl (k .statuses);
-    parents = places W.parent p (λ c x. ltb x c) (ltb-true p (suc W.given) (omega arith)) (k .parents);
+    parents = places W.parent p (λ c x. ltb x c) (lt-ltb p (suc W.given) (omega arith)) (k .parents);
     helds = λ e c. held-more W.entries (live W) (live (addChange W p)) live-start W.held e c (k .helds e c);
     records = all-weaken _ _ (record-more W.entries (live W) (live (addChange W p)) live-start W.held) W.log (k .records);
     permits = all-weaken _ _ (permit-more W.entries (live W) (live (addChange W p)) live-start) W.permits (k .permits);

@@ -2,9 +2,10 @@
 use mathlib.Core.Path.{_≡_, refl, _∙_, ap}
 use mathlib.Core.Bool.{Bool, true, false, not, cond, _&&_, _||_, false≢true}
 use mathlib.Core.List.{List, [], _∷_}
-use Prim.Native.Nat.{ℕ, zero, suc, _<_, _≤_, _^_}
+use Prim.Native.Nat.{ℕ, zero, suc, _<_, _^_}
 use native.Mathlib.Omega.{arith}
 use lib.Dec.{leb, ltb, eqb}
+use borrow.Author.Tests.{not-false, eqb-true, ltb-false, leb-false, lt-ltb, le-leb}
 use Rattle.rules.specs.Base.{put, exceeds, all, anyBelow, outside}
 use Rattle.rules.specs.Window.{Limits, Window, fresh, withValue, withStatus, live, running, noChange, noEntry}
 use Rattle.rules.specs.Locks.{makePermit}
@@ -13,13 +14,13 @@ use Rattle.rules.specs.Sound.{sound, recordSound, permitSound}
 use Rattle.rules.specs.Calls.{Call, Open, Initiate, Begin, Complete, Lock, Read, Write, Permit, Delegate, Depend, Commit, Abort, Status, Parent, Value, arguments, fits, Outcome, done, unchanged}
 use Rattle.rules.specs.Effects.{effect, covers, lockEntry, writeEntry, entriesNamed, commitChange, abortChange, grantable, commitBlockers, commitGroup, abortAll, undo, addRecord}
 use Rattle.rules.specs.Refusals.{Check, firstFailed, _if_, checks, step, settle}
-use Rattle.rules.proofs.BaseLaws.{and-left, and-right, or-false-left, or-false-right, not-false, eqb-eq, ge-of, gt-of, ltb-true, leb-true}
+use Rattle.rules.proofs.BaseLaws.{and-left, and-right, or-false-left, or-false-right}
 use Rattle.rules.proofs.SetLaws.{reach-to}
 use Rattle.rules.proofs.SoundDelegate.{hand-sound}
 use Rattle.rules.proofs.SoundDepend.{make-sound, depend-sound}
 use Rattle.rules.proofs.SoundEnd.{end-sound}
 use Rattle.rules.proofs.SoundLock.{lock-sound}
-use Rattle.rules.proofs.SoundParts.{Blank, Sound, sound-parts, parts-sound, sound-blank, value-most, inside-of, live-of, live-range, ends-live}
+use Rattle.rules.proofs.SoundParts.{Blank, Sound, sound-parts, parts-sound, sound-blank, value-most, inside-of, live-at, live-of, ends-live}
 use Rattle.rules.proofs.SoundPermit.{permit-sound}
 use Rattle.rules.proofs.SoundPlain.{fresh-sound, value-put, undo-values, value-sound, log-sound, status-sound, start-sound}
 use Rattle.rules.proofs.TieLaws.{grouped-ends, falling-ends}
@@ -60,18 +61,19 @@ codes L W (Value e) = refl
 -- open asks nothing of the window
 open-sound : (L : Limits) (W : Window) (n : ℕ) → Passed (checks L W (Open n)) → Sound L (effect W (Open n) .after)
 unfolding checks _if_ effect done
-open-sound L W n p = fresh-sound L n (ltb-true 0 n (omega (arith, ge-of n 1 (or-false-left (ltb n 1) (exceeds n L.entries) (p .0))))) (ap not (or-false-right (ltb n 1) (exceeds n L.entries) (p .0)))
+open-sound L W n p = fresh-sound L n (lt-ltb 0 n (omega (arith, ltb-false n 1 (or-false-left (ltb n 1) (exceeds n L.entries) (p .0))))) (ap not (or-false-right (ltb n 1) (exceeds n L.entries) (p .0)))
 
 -- whichever way a choice goes
 either : (L : Limits) (b : Bool) (x y : Outcome) → (b ≡ true → Sound L (x .after)) → (b ≡ false → Sound L (y .after)) → Sound L (cond b x y .after)
 either L true x y f g = f refl
 either L false x y f g = g refl
 
-module _ (L : Limits) (W : Window) (k : Sound L W) where
-  -- a change of a given status lives
-  live-at : (c s : ℕ) → noChange W c ≡ false → eqb (W .status c) s ≡ true → 1 ≤ s → s ≤ 3 → live W c ≡ true
-  live-at c s n e h l = let q = eqb-eq (W .status c) s e in live-range L W c n (omega arith) (omega arith)
+-- an entry that there is lies below the bound
+pub entry-of : (W : Window) (e : ℕ) → noEntry W e ≡ false → ltb e W.entries ≡ true
+unfolding noEntry
+entry-of W e h = lt-ltb e W.entries (leb-false W.entries e h)
 
+module _ (L : Limits) (W : Window) (k : Sound L W) where
   -- the sets that commit and abort end are of live changes
   pub group-live : (c : ℕ) → live W c ≡ true → (d : ℕ) → groupOf W c d ≡ true → live W d ≡ true
   unfolding groupOf
@@ -82,29 +84,25 @@ module _ (L : Limits) (W : Window) (k : Sound L W) where
   fall-live c h = reach-to (suc W.given) (falling W.ties) (λ d. live W d ≡ true) (λ d e a r. falling-ends (live W) W.ties (ends-live L W k) d e r .1) c h
 
   moves : (c s t : ℕ) → noChange W c ≡ false → not (eqb (W .status c) s) ≡ false → outside 1 3 s ≡ outside 1 3 t → outside 1 5 t ≡ false → Sound L (withStatus W (put W.status c t))
-  moves c s t n e h r = status-sound L W c t n (ap (outside 1 3) (eqb-eq (W .status c) s (not-false _ e)) ∙ h) r k
-
-  entry-of : (e : ℕ) → noEntry W e ≡ false → ltb e W.entries ≡ true
-  unfolding noEntry
-  entry-of e h = ltb-true e W.entries (gt-of W.entries e h)
+  moves c s t n e h r = status-sound L W c t n (ap (outside 1 3) (eqb-true (W .status c) s (not-false _ e)) ∙ h) r k
 
   locks : (c e m : ℕ) → Passed (checks L W (Lock c e m)) → Sound L (effect W (Lock c e m) .after)
-  unfolding checks _if_ effect lockEntry covers done unchanged running
+  unfolding checks _if_ effect lockEntry covers done unchanged running outside
   locks c e m p = either L (leb m (W .held e c)) _ _ (λ h. k) (λ short. either L (grantable W c e m) _ _
-      (λ free. lock-sound L W c e m k (leb-true m 2 (inside-of 1 2 m (p .1 .1 .0) .1)) (entry-of e (p .1 .0)) (live-at c 2 (p .0) (not-false _ (p .1 .1 .1 .0)) (omega arith) (omega arith)) short free) (λ h. k))
+      (λ free. lock-sound L W c e m k (le-leb m 2 (inside-of 1 2 m (p .1 .1 .0) .1)) (entry-of W e (p .1 .0)) (live-at W c 2 (p .0) (not-false _ (p .1 .1 .1 .0)) refl) short free) (λ h. k))
 
   writes : (c e v : ℕ) → fits (Write c e v) ≡ true → Passed (checks L W (Write c e v)) → Sound L (effect W (Write c e v) .after)
-  unfolding fits arguments all checks _if_ effect writeEntry addRecord done running withValue live recordSound
+  unfolding fits arguments all checks _if_ effect writeEntry addRecord done running withValue live recordSound outside
   writes c e v a p =
       let x : ltb v (2 ^ 32) ≡ true = and-left (ltb v (2 ^ 32)) true (and-right (ltb e (2 ^ 32)) _ (and-right (ltb c (2 ^ 32)) _ a)) in
       let r : recordSound W.entries (live W) W.held (record { owner = c; entry = e; before = W .value e }) ≡ true =
-      rw (live-at c 2 (p .0) (not-false _ (p .1 .1 .0)) (omega arith) (omega arith), entry-of e (p .1 .0), value-most L W k e, not-false (eqb (W .held e c) 2) (p .1 .1 .1 .0)) in
-      log-sound L (withValue W (put W.value e v)) _ r (ap not (p .1 .1 .1 .1 .0)) (value-sound L W (put W.value e v) (value-put W.entries W.value e v (entry-of e (p .1 .0)) x (k .values)) k)
+      rw (live-at W c 2 (p .0) (not-false _ (p .1 .1 .0)) refl, entry-of W e (p .1 .0), value-most L W k e, not-false (eqb (W .held e c) 2) (p .1 .1 .1 .0)) in
+      log-sound L (withValue W (put W.value e v)) _ r (ap not (p .1 .1 .1 .1 .0)) (value-sound L W (put W.value e v) (value-put W.entries W.value e v (entry-of W e (p .1 .0)) x (k .values)) k)
 
   grants : (g t e o : ℕ) → Passed (checks L W (Permit g t e o)) → Sound L (effect W (Permit g t e o) .after)
   unfolding checks _if_ effect done makePermit permitSound
   grants g t e o p = permit-sound L W (makePermit g t e o)
-      (rw (not-false (live W g) (p .1 .1 .1 .1 .1 .0), not-false (eqb t 0 || live W t) (p .1 .1 .1 .1 .1 .1 .0), entry-of e (p .1 .1 .0), p .1 .1 .1 .0, p .1 .1 .1 .1 .0)) (ap not (p .1 .1 .1 .1 .1 .1 .1 .0)) k
+      (rw (not-false (live W g) (p .1 .1 .1 .1 .1 .0), not-false (eqb t 0 || live W t) (p .1 .1 .1 .1 .1 .1 .0), entry-of W e (p .1 .1 .0), p .1 .1 .1 .0, p .1 .1 .1 .1 .0)) (ap not (p .1 .1 .1 .1 .1 .1 .1 .0)) k
 
   hands : (f t e : ℕ) → Passed (checks L W (Delegate f t e)) → Sound L (effect W (Delegate f t e) .after)
   unfolding checks _if_ effect done
@@ -130,7 +128,7 @@ module _ (L : Limits) (W : Window) (k : Sound L W) where
   effect-sound : (c : Call) → fits c ≡ true → Passed (checks L W c) → Sound L (effect W c .after)
   unfolding effect done checks _if_ running outside
   effect-sound (Open n) a p = open-sound L W n p
-  effect-sound (Initiate q) a p = start-sound L W q (ap not (p .1 .1 .0)) (ge-of W.given q (p .0)) k
+  effect-sound (Initiate q) a p = start-sound L W q (ap not (p .1 .1 .0)) (ltb-false W.given q (p .0)) k
   effect-sound (Begin c) a p = moves c 1 2 (p .0) (p .1 .0) refl refl
   effect-sound (Complete c) a p = moves c 2 3 (p .0) (p .1 .0) refl refl
   effect-sound (Lock c e m) a p = locks c e m p

@@ -6,12 +6,13 @@ use mathlib.Core.List.{List}
 use Prim.Native.Nat.{ℕ, zero, suc, _+_, _≤_, _<_}
 use native.Mathlib.Nat.{eq-or-lt-of-le}
 use native.Mathlib.Omega.{arith}
-use lib.Dec.{ltb, ltb→lt}
+use lib.Dec.{ltb}
+use borrow.Author.Tests.{ltb-true}
 use Rattle.rules.specs.Base.{all, any, countBelow}
 use Rattle.rules.specs.Sets.{Rel, reach}
 use Rattle.rules.specs.Window.{TieRecord}
 use Rattle.rules.specs.Ties.{isGroup, isArrow, tied, grouped, leading}
-use Rattle.rules.proofs.BaseLaws.{or-left, or-right, or-cases, and-left, and-right, never, to-T, Within, count-le, count-within, count-same}
+use Rattle.rules.proofs.BaseLaws.{or-left, or-right, or-cases, and-left, and-right, never, Within, count-le, count-within, count-same}
 use Rattle.rules.proofs.ListLaws.{find}
 use Rattle.rules.proofs.SetLaws.{Closed, reach-seed, reach-closed, reach-least}
 use Rattle.rules.proofs.TieLaws.{reach-fewer}
@@ -52,8 +53,8 @@ module _ (n : ℕ) (ts : List TieRecord) where
   climb c t hc e h =
       let bounds = and-left (ltb t.leader n && ltb t.follower n) _ e in
       let rest = and-right (ltb t.leader n && ltb t.follower n) _ e in
-      let hl : t .leader < n = ltb→lt t.leader n (to-T _ (and-left (ltb t.leader n) (ltb t.follower n) bounds)) in
-      let hf : t .follower < n = ltb→lt t.follower n (to-T _ (and-right (ltb t.leader n) (ltb t.follower n) bounds)) in
+      let hl : t .leader < n = ltb-true t.leader n (and-left (ltb t.leader n) (ltb t.follower n) bounds) in
+      let hf : t .follower < n = ltb-true t.follower n (and-right (ltb t.leader n) (ltb t.follower n) bounds) in
       let is : isArrow t.kind ≡ true = and-left (isArrow t.kind) _ h in
       let ar : tied ts isArrow t.leader t.follower ≡ true = rw is at (and-left (not (isArrow t.kind) || tied ts isArrow t.leader t.follower) _ rest) in
       let no-way : not (reach n (leading ts) t.follower t.leader) ≡ true = rw is at (and-right (not (isArrow t.kind) || tied ts isArrow t.leader t.follower) _ rest) in

@@ -6,11 +6,12 @@ use mathlib.Core.List.{List, List·Memᴰ}
 use Prim.Native.Nat.{ℕ, suc, _<_}
 use native.Mathlib.Omega.{arith}
 use lib.Dec.{ltb, eqb}
+use borrow.Author.Tests.{ltb-true, eqb-true}
 use Rattle.rules.specs.Base.{all, keep}
 use Rattle.rules.specs.Sets.{Set, Rel, reach}
 use Rattle.rules.specs.Window.{TieRecord, Window}
 use Rattle.rules.specs.Ties.{isGroup, isArrow, isFall, tied, grouped, falling, leading, acyclic, groupOf}
-use Rattle.rules.proofs.BaseLaws.{or-cases, or-map, and-left, and-right, lt-of, eqb-eq, eqb-same, Within}
+use Rattle.rules.proofs.BaseLaws.{or-cases, or-map, and-left, and-right, eqb-same, Within}
 use Rattle.rules.proofs.ListLaws.{all-weaken, all-and, all-keep, all-members, any-member, any-keep, find}
 use Rattle.rules.proofs.SetLaws.{reach-seed, reach-closed, reach-least}
 
@@ -21,7 +22,7 @@ group-is k e = rw e
 
 pub is-group : (k : ℕ) → isGroup k ≡ true → k ≡ 3
 unfolding isGroup
-is-group k e = eqb-eq k 3 e
+is-group k e = eqb-true k 3 e
 
 -- what holds of the ends of all ties holds of two that are tied
 module _ (p : Set) (ts : List TieRecord) (ends : all (λ t. p t.leader && p t.follower) ts ≡ true) where
@@ -31,8 +32,8 @@ module _ (p : Set) (ts : List TieRecord) (ends : all (λ t. p t.leader && p t.fo
     where
       go : (t : TieRecord) → k t.kind && eqb t.leader a && eqb t.follower b ≡ true → p t.leader && p t.follower ≡ true → (p a ≡ true) × (p b ≡ true)
       go t x y =
-          let l : t .leader ≡ a = eqb-eq t.leader a (and-right (k t.kind) (eqb t.leader a) (and-left _ (eqb t.follower b) x)) in
-          let f : t .follower ≡ b = eqb-eq t.follower b (and-right (k t.kind && eqb t.leader a) (eqb t.follower b) x) in
+          let l : t .leader ≡ a = eqb-true t.leader a (and-right (k t.kind) (eqb t.leader a) (and-left _ (eqb t.follower b) x)) in
+          let f : t .follower ≡ b = eqb-true t.follower b (and-right (k t.kind && eqb t.leader a) (eqb t.follower b) x) in
           (rw l at (and-left (p t.leader) (p t.follower) y), rw f at (and-right (p t.leader) (p t.follower) y))
 
   pub grouped-ends : (a b : ℕ) → grouped ts a b ≡ true → (p a ≡ true) × (p b ≡ true)
@@ -75,7 +76,7 @@ pub acyclic-keep : (n : ℕ) (q : TieRecord → Bool) (ts : List TieRecord) → 
 unfolding acyclic
 acyclic-keep n q ts b e = all-keep (λ t. ltb t.leader n && (not (isArrow t.kind) || not (reach n (leading ts) t.follower t.leader))) q
     (λ t. not (isArrow t.kind) || not (reach n (leading (keep q ts)) t.follower t.leader))
-    (λ t p x. or-map (not (isArrow t.kind)) _ (not (isArrow t.kind)) _ (λ y. y) (not-both _ _ (reach-fewer n (leading (keep q ts)) (leading ts) (leading-keep q ts) t.follower t.leader (lt-of t.leader n (and-left (ltb t.leader n) _ p)))) (and-right (ltb t.leader n) _ p))
+    (λ t p x. or-map (not (isArrow t.kind)) _ (not (isArrow t.kind)) _ (λ y. y) (not-both _ _ (reach-fewer n (leading (keep q ts)) (leading ts) (leading-keep q ts) t.follower t.leader (ltb-true t.leader n (and-left (ltb t.leader n) _ p)))) (and-right (ltb t.leader n) _ p))
     ts (all-and _ _ ts b e)
 
 -- one more change, to which no tie goes, closes no cycle
@@ -84,12 +85,12 @@ unfolding acyclic
 acyclic-more n ts b e = all-weaken (λ t. (ltb t.leader n && ltb t.follower n) && (not (isArrow t.kind) || not (reach n (leading ts) t.follower t.leader)))
     (λ t. not (isArrow t.kind) || not (reach (suc n) (leading ts) t.follower t.leader))
     (λ t p. or-map (not (isArrow t.kind)) _ (not (isArrow t.kind)) _ (λ y. y)
-    (not-both _ _ (go t (lt-of t.leader n (and-left (ltb t.leader n) (ltb t.follower n) (and-left (ltb t.leader n && ltb t.follower n) _ p))))) (and-right (ltb t.leader n && ltb t.follower n) _ p))
+    (not-both _ _ (go t (ltb-true t.leader n (and-left (ltb t.leader n) (ltb t.follower n) (and-left (ltb t.leader n && ltb t.follower n) _ p))))) (and-right (ltb t.leader n && ltb t.follower n) _ p))
     ts (all-and _ _ ts b e)
   where
     go : (t : TieRecord) → t .leader < n → reach (suc n) (leading ts) t.follower t.leader ≡ true → reach n (leading ts) t.follower t.leader ≡ true
     go t h = reach-least (suc n) (leading ts) t.follower (reach n (leading ts) t.follower) (reach-seed n (leading ts) t.follower)
-        (λ d c hd hc p q. let m = leading-ends (λ x. ltb x n) ts b d c q in reach-closed n (leading ts) t.follower d c (lt-of d n (m .0)) (lt-of c n (m .1)) p q)
+        (λ d c hd hc p q. let m = leading-ends (λ x. ltb x n) ts b d c q in reach-closed n (leading ts) t.follower d c (ltb-true d n (m .0)) (ltb-true c n (m .1)) p q)
         t.leader (omega arith)
 
 -- a change is in its group

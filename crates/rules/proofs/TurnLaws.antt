@@ -4,8 +4,9 @@ use mathlib.Core.Logic.{_↔_}
 use mathlib.Core.Bool.{Bool, true, false, not, false≢true}
 use Prim.Native.Nat.{ℕ, _+_, _<_}
 use native.Mathlib.Numerals.{add-one}
+use borrow.Author.Tests.{not-true, not-false}
 use Rattle.rules.specs.Base.{allBelow}
-use Rattle.rules.proofs.BaseLaws.{and-both, no-true, not-true, not-false, allBelow-at}
+use Rattle.rules.proofs.BaseLaws.{and-both, no-true, allBelow-at}
 
 -- none asked yet, one that fails, one that passes, all asked; r is what the code found of the test
 pub none-yet : (p : ℕ → Bool) → allBelow 0 p ≡ true

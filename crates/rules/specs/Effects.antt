@@ -94,7 +94,7 @@ movedPermit to p = record { giver = to; taker = p.taker; entry = p.entry; ops = 
 unfoldable pub movePermits : ℕ → ℕ → Set → List PermitRecord → List PermitRecord
 movePermits from to on ps = foldr addPermit (keep (permitKept from on) ps) (map (movedPermit to) (keep (permitMoves from to on) ps))
 
--- "moves log ownership, locks and the permits that from has given", on a set of entries
+-- "moves log ownership, locks and the permits that *from* has given", on a set of entries
 unfoldable pub handOver : Window → ℕ → ℕ → Set → Window
 handOver W from to on = record {
   entries = W.entries;

@@ -5,8 +5,8 @@ use mathlib.Core.List.{List}
 use Prim.Native.Nat.{ℕ, _≤_, _<_}
 use lib.Dec.{ltb}
 use lib.ListN.{length}
-use borrow.Author.Tests.{le-leb, lt-leb}
-use Rattle.rules.proofs.BaseLaws.{and-four, lt-of}
+use borrow.Author.Tests.{le-leb, lt-leb, ltb-true}
+use Rattle.rules.proofs.BaseLaws.{and-four}
 use Rattle.replies.specs.declared.Reply.{Reply}
 use Rattle.replies.specs.Gives.{Gives}
 use Rattle.text.specs.Parts.{partedBy}
@@ -25,7 +25,7 @@ allArguments a b c d = ltb a 4294967296 && ltb b 4294967296 && ltb c 4294967296 
 
 pub small : (a b c d : ℕ) → allArguments a b c d ≡ true → (a < 4294967296) × (b < 4294967296) × (c < 4294967296) × (d < 4294967296)
 small a b c d h = let q = and-four (ltb a 4294967296) (ltb b 4294967296) (ltb c 4294967296) (ltb d 4294967296) h in
-    (lt-of a 4294967296 (q .0), lt-of b 4294967296 (q .1), lt-of c 4294967296 (q .2), lt-of d 4294967296 (q .3))
+    (ltb-true a 4294967296 (q .0), ltb-true b 4294967296 (q .1), ltb-true c 4294967296 (q .2), ltb-true d 4294967296 (q .3))
 
 module _ (mem l : List ℕ) (h : length l ≤ 64) (k a b c d : ℕ) (e : fielded (partedBy 44 l) ≡ numbered k a b c d) where
   -- a field is no number

@@ -9,9 +9,10 @@ use native.Mathlib.Omega.{arith}
 use lib.Dec.{ltb, eqb}
 use lib.ListN.{getD, length}
 use lib.Seq.{ext-getD}
+use borrow.Author.Tests.{eqb-true, ne-eqb, lt-ltb, le-ltb}
 use Rattle.rules.specs.Base.{allBelow, outside, table}
 use Rattle.rules.specs.Sound.{statusSound, parentSound}
-use Rattle.rules.proofs.BaseLaws.{and-four, eqb-eq, eqb-other, ltb-true, ltb-false, or-right, allBelow-at, allBelow-intro, Same, same, other, same?, Below, under, over, below}
+use Rattle.rules.proofs.BaseLaws.{and-four, or-right, allBelow-at, allBelow-intro, Same, same, other, same?, Below, under, over, below}
 use Rattle.layout.specs.Codec.{changeByte, changeSection}
 use Rattle.layout.proofs.SectionLaws.{length-table, getD-table0}
 use Rattle.cells.specs.Part.{byteIs}
@@ -26,11 +27,11 @@ module _ (bs : List ℕ) (size : length bs ≡ 1024) (given : ℕ) (most : given
 
   part-at : (k c : ℕ) → c < 256 → part k c ≡ getD bs (c * 4 + k) 0
   unfolding part
-  part-at k c h = rw (ltb-true c 256 h)
+  part-at k c h = rw (lt-ltb c 256 h)
 
   part-none : (k c : ℕ) → 256 ≤ c → part k c ≡ 0
   unfolding part
-  part-none k c h = rw (ltb-false c 256 h)
+  part-none k c h = rw (le-ltb c 256 h)
 
   -- the three tests
   pub record Tests : Type 0 where
@@ -72,8 +73,8 @@ module _ (bs : List ℕ) (size : length bs ≡ 1024) (given : ℕ) (most : given
       go (unused f) j p q = sym (part-at j c h) ∙ f j q
       go (used n u f) zero p q = absurd (omega arith)
       go (used n u f) (suc zero) p q = absurd (omega arith)
-      go (used n u f) (suc (suc zero)) p q = eqb-eq _ 0 (fits-parts c f .2)
-      go (used n u f) (suc (suc (suc zero))) p q = eqb-eq _ 0 (fits-parts c f .3)
+      go (used n u f) (suc (suc zero)) p q = eqb-true _ 0 (fits-parts c f .2)
+      go (used n u f) (suc (suc (suc zero))) p q = eqb-true _ 0 (fits-parts c f .3)
       go (used n u f) (suc (suc (suc (suc j)))) p q = absurd (omega arith)
 
   changes-bytes : Tests → bs ≡ changeSection (part 0) (part 1)
@@ -113,7 +114,7 @@ module _ (bs : List ℕ) (size : length bs ≡ 1024) (given : ℕ) (most : given
 
     zero-of : (c : ℕ) → eqb c 0 || ltb given c ≡ true → (s .status c ≡ 0) × (s .parent c ≡ 0)
     unfolding statusSound parentSound
-    zero-of c h = (eqb-eq (s .status c) 0 (rw h at (s .statuses c)), eqb-eq (s .parent c) 0 (rw h at (s .parents c)))
+    zero-of c h = (eqb-true (s .status c) 0 (rw h at (s .statuses c)), eqb-true (s .parent c) 0 (rw h at (s .parents c)))
 
     zero-byte : (i : ℕ) → i < 1024 → eqb (i / 4) 0 || ltb given (i / 4) ≡ true → getD bs i 0 ≡ 0
     zero-byte i h e = byte-at i h ∙ go (i % 4)
@@ -129,7 +130,7 @@ module _ (bs : List ℕ) (size : length bs ≡ 1024) (given : ℕ) (most : given
         let a : (c + 1) * 4 / 4 ≡ c + 1 = omega arith in let a′ : (c + 1) * 4 % 4 ≡ 0 = omega arith in
         let b : ((c + 1) * 4 + 1) / 4 ≡ c + 1 = omega arith in let b′ : ((c + 1) * 4 + 1) % 4 ≡ 1 = omega arith in
         let d′ : ((c + 1) * 4 + 2) % 4 ≡ 2 = omega arith in let e′ : ((c + 1) * 4 + 3) % 4 ≡ 3 = omega arith in
-        let n : eqb (c + 1) 0 || ltb given (c + 1) ≡ false = rw (eqb-other (c + 1) 0 (omega arith), ltb-false given (c + 1) (omega arith)) in
+        let n : eqb (c + 1) 0 || ltb given (c + 1) ≡ false = rw (ne-eqb (c + 1) 0 (omega arith), le-ltb given (c + 1) (omega arith)) in
         let x : not (outside 1 5 (s .status (c + 1))) ≡ true = rw n at (s .statuses (c + 1)) in
         let y : ltb (s .parent (c + 1)) (c + 1) ≡ true = rw n at (s .parents (c + 1)) in
         rw (byte-at ((c + 1) * 4) (omega arith), a, a′, x, byte-at ((c + 1) * 4 + 1) (omega arith), b, b′, y, byte-at ((c + 1) * 4 + 2) (omega arith), d′, byte-at ((c + 1) * 4 + 3) (omega arith), e′)
@@ -138,7 +139,7 @@ module _ (bs : List ℕ) (size : length bs ≡ 1024) (given : ℕ) (most : given
     tests-of = record {
       first = zeros-all bs 0 4 (λ i h t. let q : i / 4 ≡ 0 = omega arith in zero-byte i (omega arith) (rw q));
       fits = allBelow-intro given (nextFits bs) fits-of;
-      rest = zeros-all bs (given * 4 + 4) 1024 (λ i h t. zero-byte i t (or-right (eqb (i / 4) 0) _ (ltb-true given (i / 4) (omega arith))));
+      rest = zeros-all bs (given * 4 + 4) 1024 (λ i h t. zero-byte i t (or-right (eqb (i / 4) 0) _ (lt-ltb given (i / 4) (omega arith))));
     }
 
   pub changes-sound : (Tests → ChangesSound bs given) × (ChangesSound bs given → Tests)

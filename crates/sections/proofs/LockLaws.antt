@@ -8,10 +8,11 @@ use native.Mathlib.Omega.{arith}
 use lib.Dec.{leb, ltb, eqb}
 use lib.ListN.{getD, length}
 use lib.Seq.{ext-getD}
+use borrow.Author.Tests.{not-true, not-false, eqb-true, lt-ltb, le-ltb, ltb-true}
 use Rattle.rules.specs.Base.{allBelow, table}
 use Rattle.rules.specs.Sets.{Set}
 use Rattle.rules.specs.Sound.{heldSound}
-use Rattle.rules.proofs.BaseLaws.{and-left, and-right, or-cases, no-true, not-true, not-false, eqb-eq, ltb-true, ltb-false, lt-of, allBelow-at, allBelow-intro, Same, same, other, same?, Below, under, over, below}
+use Rattle.rules.proofs.BaseLaws.{and-left, and-right, or-cases, no-true, allBelow-at, allBelow-intro, Same, same, other, same?, Below, under, over, below}
 use Rattle.layout.specs.Codec.{bit, pack, unpack, lockByte, lockSection}
 use Rattle.layout.proofs.CodecLaws.{pack-most, pack-same, pack-none, unpack-pack}
 use Rattle.layout.proofs.SectionLaws.{Bytes, length-table, getD-table0}
@@ -30,7 +31,7 @@ pack-unpack n x h = unpack-ext n (pack n (unpack x)) x (pack-most n (unpack x)) 
 -- who holds a lock lives, and holds it on an entry that there is
 pub held-live : {bs : List ℕ} {entries : ℕ} {lives : Set} (s : LocksSound bs entries lives) (e c : ℕ) → (s .held e c ≡ 0 → ⊥) → (e < entries) × (lives c ≡ true)
 unfolding heldSound
-held-live {entries = entries} {lives = lives} s e c n = ⊎-elim (λ q. absurd (n (eqb-eq (s .held e c) 0 q))) (λ q. (lt-of e entries (and-left (ltb e entries) (lives c) q), and-right (ltb e entries) (lives c) q))
+held-live {entries = entries} {lives = lives} s e c n = ⊎-elim (λ q. absurd (n (eqb-true (s .held e c) 0 q))) (λ q. (ltb-true e entries (and-left (ltb e entries) (lives c) q), and-right (ltb e entries) (lives c) q))
     (or-cases (eqb (s .held e c) 0) _ (and-right (leb (s .held e c) 2) _ (s .fine e c)))
 
 module _ (bs : List ℕ) (b : Bytes bs) (size : length bs ≡ 16384) (entries : ℕ) (lives : Set) (most : entries ≤ 256) where
@@ -65,7 +66,7 @@ module _ (bs : List ℕ) (b : Bytes bs) (size : length bs ≡ 16384) (entries : 
   -- a bit of the section is what the lock says
   bit-of : LockTests → (e c m : ℕ) → e < 256 → c < 256 → m < 2 → eqb (heldAt e c) (suc m) ≡ bytesHave bs (e * 64 + m * 32) c
   unfolding heldAt reads writes
-  bit-of t e c m he hc hm = rw (ltb-true e 256 he, ltb-true c 256 hc) (go m hm (bits t e c he hc))
+  bit-of t e c m he hc hm = rw (lt-ltb e 256 he, lt-ltb c 256 hc) (go m hm (bits t e c he hc))
     where
       at : (x y : ℕ) → x ≡ y → unpack (getD bs x 0) (c % 8) ≡ unpack (getD bs y 0) (c % 8)
       at x y q = ap (λ z. unpack (getD bs z 0) (c % 8)) q
@@ -106,13 +107,13 @@ module _ (bs : List ℕ) (b : Bytes bs) (size : length bs ≡ 16384) (entries : 
     where
       known : (e c : ℕ) {r w : Bool} → Bits e c r w → leb (cond w 2 (bit r)) 2 && (eqb (cond w 2 (bit r)) 0 || (ltb e entries && lives c)) ≡ true
       known e c none = refl
-      known e c (reader h l) = rw (ltb-true e entries h, l)
-      known e c (writer h l) = rw (ltb-true e entries h, l)
+      known e c (reader h l) = rw (lt-ltb e entries h, l)
+      known e c (writer h l) = rw (lt-ltb e entries h, l)
 
       fine : (e c : ℕ) {x y : Bool} → Below e 256 x → Below c 256 y → leb (heldAt e c) 2 && (eqb (heldAt e c) 0 || (ltb e entries && lives c)) ≡ true
-      fine e c (under h) (under l) = unfold heldAt in rw (ltb-true e 256 h, ltb-true c 256 l) (known e c (bits t e c h l))
-      fine e c (over h) l = unfold heldAt in rw (ltb-false e 256 h)
-      fine e c (under h) (over l) = unfold heldAt in rw (ltb-false c 256 l, and-false (ltb e 256))
+      fine e c (under h) (under l) = unfold heldAt in rw (lt-ltb e 256 h, lt-ltb c 256 l) (known e c (bits t e c h l))
+      fine e c (over h) l = unfold heldAt in rw (le-ltb e 256 h)
+      fine e c (under h) (over l) = unfold heldAt in rw (le-ltb c 256 l, and-false (ltb e 256))
 
   module _ (s : LocksSound bs entries lives) where
     bit-read : (e c m : ℕ) → e < 256 → c < 256 → m < 2 → bytesHave bs (e * 64 + m * 32) c ≡ eqb (s .held e c) (suc m)
@@ -140,7 +141,7 @@ module _ (bs : List ℕ) (b : Bytes bs) (size : length bs ≡ 16384) (entries : 
     rest-of i h l = ap (λ x. getD x i 0) (s .bytes) ∙ getD-table0 16384 (lockByte (s .held)) i 0 l ∙ pack-none 8 _ (λ j k. none-there (i / 64) (i % 32 * 8 + j) (suc (i % 64 / 32)) (omega arith) (omega arith))
       where
         none-there : (e c m : ℕ) → entries ≤ e → 0 < m → eqb (s .held e c) m ≡ false
-        none-there e c m q p = no-true (eqb (s .held e c) m) (λ x. let y : s .held e c ≡ m = eqb-eq (s .held e c) m x in let z = held-live s e c (λ w. omega (arith, y, w, p)) .0 in omega arith)
+        none-there e c m q p = no-true (eqb (s .held e c) m) (λ x. let y : s .held e c ≡ m = eqb-true (s .held e c) m x in let z = held-live s e c (λ w. omega (arith, y, w, p)) .0 in omega arith)
 
     pub of-locks : LockTests
     of-locks = record { fine = allBelow-intro entries (rowFits bs lives) row-of; rest = zeros-all bs (entries * 64) 16384 rest-of }

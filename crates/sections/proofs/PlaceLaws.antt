@@ -1,6 +1,6 @@
 -- The values, each in its fixed place, and the line, which is zeros. Assumes nothing.
 use mathlib.Core.Path.{_≡_, refl, sym, _∙_, ap}
-use mathlib.Core.Logic.{_↔_, ⊎-elim}
+use mathlib.Core.Logic.{_↔_}
 use mathlib.Core.Bool.{Bool, true, cond, _&&_, _||_}
 use mathlib.Core.List.{List}
 use Prim.Native.Nat.{ℕ, _+_, _-_, _*_, _/_, _%_, _^_, _≤_, _<_}
@@ -8,9 +8,11 @@ use native.Mathlib.Omega.{arith}
 use lib.Dec.{ltb, eqb}
 use lib.ListN.{getD, length}
 use lib.Seq.{ext-getD}
+use borrow.Author.Tests.{lt-ltb}
 use Rattle.rules.specs.Base.{allBelow, table}
 use Rattle.rules.specs.Sound.{valueSound}
-use Rattle.rules.proofs.BaseLaws.{and-right, or-cases, lt-of, ltb-true, eqb-eq, Below, under, over, below}
+use Rattle.rules.proofs.BaseLaws.{Below, under, over, below}
+use Rattle.rules.proofs.SoundParts.{no-value}
 use Rattle.layout.specs.Codec.{byte, join4, valueByte, lineByte, valueSection, lineSection}
 use Rattle.layout.proofs.CodecLaws.{byte-zero}
 use Rattle.layout.proofs.SectionLaws.{Bytes, length-table, getD-table0}
@@ -31,7 +33,7 @@ module _ (bs : List ℕ) (b : Bytes bs) (size : length bs ≡ 1024) (entries : �
     where
       go : (i : ℕ) → i < 1024 → byte (i % 4) (cond (ltb (i / 4) 256) (join4 (λ k. getD bs (i / 4 * 4 + k) 0)) 0) ≡ getD bs i 0
       go i m = let q : i / 4 * 4 + i % 4 ≡ i = omega arith in
-          rw (ltb-true (i / 4) 256 (omega arith)) (byte-join4 (λ k. getD bs (i / 4 * 4 + k) 0) (λ k. b (i / 4 * 4 + k)) (i % 4) (omega arith) ∙ ap (λ x. getD bs x 0) q)
+          rw (lt-ltb (i / 4) 256 (omega arith)) (byte-join4 (λ k. getD bs (i / 4 * 4 + k) 0) (λ k. b (i / 4 * 4 + k)) (i % 4) (omega arith) ∙ ap (λ x. getD bs x 0) q)
 
   values-fine : allBelow (1024 - entries * 4) (byteIs bs (entries * 4) 0) ≡ true → (e : ℕ) → valueSound entries valueAt e ≡ true
   unfolding valueSound valueAt
@@ -44,15 +46,12 @@ module _ (bs : List ℕ) (b : Bytes bs) (size : length bs ≡ 1024) (entries : �
           → ltb (cond p (join4 (λ k. getD bs (e * 4 + k) 0)) 0) (2 ^ 32) && (q || eqb (cond p (join4 (λ k. getD bs (e * 4 + k) 0)) 0) 0) ≡ true
       go (over h) (under t) = refl
       go (over h) (over t) = refl
-      go (under h) (under t) = rw (ltb-true (join4 (λ k. getD bs (e * 4 + k) 0)) 4294967296 (join4-below (λ k. getD bs (e * 4 + k) 0) (λ k. b (e * 4 + k))))
+      go (under h) (under t) = rw (lt-ltb (join4 (λ k. getD bs (e * 4 + k) 0)) 4294967296 (join4-below (λ k. getD bs (e * 4 + k) 0) (λ k. b (e * 4 + k))))
       go (under h) (over t) = rw (rest e t h)
 
   values-zero : ValuesSound bs entries → allBelow (1024 - entries * 4) (byteIs bs (entries * 4) 0) ≡ true
-  unfolding valueSection valueByte valueSound
-  values-zero s = zeros-all bs (entries * 4) 1024 (λ i h t. ap (λ l. getD l i 0) (s .bytes) ∙ getD-table0 1024 (valueByte (s .value)) i 0 t ∙ ap (byte (i % 4)) (none (i / 4) (omega arith)) ∙ byte-zero (i % 4))
-    where
-      none : (e : ℕ) → entries ≤ e → s .value e ≡ 0
-      none e h = ⊎-elim (λ q. let l = lt-of e entries q in absurd (omega arith)) (eqb-eq (s .value e) 0) (or-cases (ltb e entries) _ (and-right (ltb (s .value e) 4294967296) _ (s .fine e)))
+  unfolding valueSection valueByte
+  values-zero s = zeros-all bs (entries * 4) 1024 (λ i h t. ap (λ l. getD l i 0) (s .bytes) ∙ getD-table0 1024 (valueByte (s .value)) i 0 t ∙ ap (byte (i % 4)) (no-value entries (s .value) (i / 4) (s .fine (i / 4)) (omega arith)) ∙ byte-zero (i % 4))
 
   pub values-sound : allBelow (1024 - entries * 4) (byteIs bs (entries * 4) 0) ≡ true ↔ ValuesSound bs entries
   values-sound = (λ z. record { value = valueAt; bytes = values-bytes; fine = values-fine z }, values-zero)

@@ -67,7 +67,7 @@ pub fn line(line: &[u8]) -> bool
     all_zero(line, 0, Line::SIZE)
 }
 
-// A byte as a wider number.
+// A byte as a wider number. A function, so that its contract says at each use that the number is the byte's.
 fn wide(x: u8) -> usize
     ensures { λ r. ⌜ r ≡ x ⌝ }
 {

@@ -5,13 +5,12 @@ use mathlib.Core.List.{List, [], _∷_, _++_}
 use Prim.Native.Nat.{ℕ, _+_, _*_, _/_, _%_, _≤_, _<_}
 use native.Mathlib.Nat.{mod-lt}
 use native.Mathlib.Omega.{arith}
-use borrow.Author.Tests.{le-leb, lt-leb}
+use borrow.Author.Tests.{le-leb, lt-leb, lt-ltb, le-ltb}
 use lib.Dec.{ltb}
 use lib.ListN.{length, getD, length-append}
 use lib.Pow.{pow-pos}
 use Rattle.rules.specs.Base.{table}
 use Rattle.rules.specs.Sets.{Set}
-use Rattle.rules.proofs.BaseLaws.{ltb-true, ltb-false}
 use Rattle.layout.specs.Codec.{byte, pack, unpack}
 use Rattle.layout.proofs.SectionLaws.{length-table, getD-table0}
 use Rattle.layout.proofs.RecordLaws.{table-append}
@@ -39,12 +38,12 @@ loaded-short bs at h k = rw (lt-leb (at + 32) (length bs) h, and-false (ltb k 25
 -- where there are, a member is a bit that is set
 pub loaded-full : (bs : List ℕ) (at : ℕ) → at + 32 ≤ length bs → (k : ℕ) → k < 256 → loaded bs at k ≡ bytesHave bs at k
 unfolding loaded
-loaded-full bs at h k l = rw (le-leb (at + 32) (length bs) h, ltb-true k 256 l)
+loaded-full bs at h k l = rw (le-leb (at + 32) (length bs) h, lt-ltb k 256 l)
 
 -- no number from 256 on
 loaded-above : (bs : List ℕ) (at k : ℕ) → 256 ≤ k → loaded bs at k ≡ false
 unfolding loaded
-loaded-above bs at k h = rw (ltb-false k 256 h)
+loaded-above bs at k h = rw (le-ltb k 256 h)
 
 -- four words that were gathered from 32 bytes
 word-of : (bs : List ℕ) (at o w i : ℕ) → at + 32 ≤ length bs → i < 4 → o ≡ at + 8 * i → ((k : ℕ) → k < 64 → unpack w k ≡ bytesHave bs o k)
@@ -103,7 +102,7 @@ words-bytes s =
     both : List ℕ → List ℕ → List ℕ
     both a b = a ++ b
 
--- where there is room they stand there, and nothing else has changed; elsewhere nothing has
+-- where there is room they stand there, and nothing else has changed
 stored-full : (s : Set) (bs : List ℕ) (at : ℕ) → at + 32 ≤ length bs → stored s bs at ≡ patch bs at (setBytes s)
 unfolding stored
 stored-full s bs at h = rw (le-leb (at + 32) (length bs) h)

@@ -7,11 +7,12 @@ use Prim.Native.Nat.{ℕ, _-_, _*_, _≤_, _<_}
 use native.Mathlib.Omega.{arith}
 use lib.Dec.{eqb}
 use lib.ListN.{length, getD}
+use borrow.Author.Tests.{eqb-true}
 use Rattle.rules.specs.Base.{countBelow, allBelow}
 use Rattle.rules.specs.Sets.{Set, closure}
 use Rattle.rules.specs.Window.{TieRecord}
 use Rattle.rules.specs.Ties.{isWait, isFall, isGroup, isArrow, tied, grouped, falling, leading}
-use Rattle.rules.proofs.BaseLaws.{or-left, or-right, or-cases, both-ways, eqb-eq, count-same, count-le, Below, under, over, below, Same, same, other, same?}
+use Rattle.rules.proofs.BaseLaws.{or-left, or-right, or-cases, both-ways, count-same, count-le, Below, under, over, below, Same, same, other, same?}
 use Rattle.rules.proofs.SetLaws.{closure-holds, closure-closed, closure-to}
 use Rattle.layout.specs.Codec.{noTie, tieSection}
 use Rattle.layout.specs.Records.{tieAt}
@@ -39,17 +40,17 @@ low-least Arrows = omega arith
 -- a group tie is gone along whichever others are
 group-follows : (along : Along) (k : ℕ) → isGroup k ≡ true → follows (lowKind along) k ≡ true
 unfolding isGroup
-group-follows along k e = rw (eqb-eq k 3 e) (follows-of (lowKind along) 3 (low-most along) (omega arith))
+group-follows along k e = rw (eqb-true k 3 e) (follows-of (lowKind along) 3 (low-most along) (omega arith))
 
 -- a fall tie is, with falls
 fall-follows : (k : ℕ) → isFall k ≡ true → follows 2 k ≡ true
 unfolding isFall
-fall-follows k e = rw (eqb-eq k 2 e) (follows-of 2 2 (omega arith) (omega arith))
+fall-follows k e = rw (eqb-true k 2 e) (follows-of 2 2 (omega arith) (omega arith))
 
 -- an arrow is, with arrows
 arrow-follows : (k : ℕ) → isArrow k ≡ true → follows 1 k ≡ true
 unfolding isArrow isWait isFall
-arrow-follows k e = ⊎-elim (λ q. rw (eqb-eq k 1 q) (follows-of 1 1 (omega arith) (omega arith))) (λ q. rw (eqb-eq k 2 q) (follows-of 1 2 (omega arith) (omega arith))) (or-cases (eqb k 1) (eqb k 2) e)
+arrow-follows k e = ⊎-elim (λ q. rw (eqb-true k 1 q) (follows-of 1 1 (omega arith) (omega arith))) (λ q. rw (eqb-true k 2 q) (follows-of 1 2 (omega arith) (omega arith))) (or-cases (eqb k 1) (eqb k 2) e)
 
 -- what a kind that is gone along can be
 kind-cases : (along : Along) (k : ℕ) → follows (lowKind along) k ≡ true → (isGroup k ≡ true) ⊎ (((lowKind along ≤ 2) × (isFall k ≡ true)) ⊎ ((lowKind along ≤ 1) × (isWait k ≡ true)))

@@ -4,11 +4,11 @@ use mathlib.Core.Bool.{Bool, not, _||_, false≢true}
 use Prim.Native.Nat.{ℕ, _+_, _*_, _/_, _%_, _<_}
 use native.Mathlib.Numerals.{add-one}
 use native.Mathlib.Omega.{arith}
-use borrow.Author.Tests.{eq-eqb, eqb-true}
+use borrow.Author.Tests.{eq-eqb, eqb-true, not-true}
 use lib.Dec.{eqb}
 use Rattle.rules.specs.Base.{anyBelow}
 use Rattle.rules.specs.Sets.{Set}
-use Rattle.rules.proofs.BaseLaws.{both-ways, not-true, any-intro, anyBelow-none, none-below}
+use Rattle.rules.proofs.BaseLaws.{both-ways, any-intro, anyBelow-none, none-below}
 use Rattle.layout.specs.Codec.{unpack}
 use Rattle.cells.proofs.Digits.{unpack-zero, unpack-ext}
 

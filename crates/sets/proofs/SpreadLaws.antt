@@ -8,11 +8,12 @@ use native.Mathlib.Decide.{decLt}
 use native.Mathlib.Omega.{arith}
 use lib.Dec.{eqb, ltb}
 use lib.ListN.{length, getD, replicate, length-replicate, getD-replicate, List·getD-eq-default}
+use borrow.Author.Tests.{eqb-true, ne-eqb, not-true, lt-ltb, le-ltb}
 use Rattle.rules.specs.Base.{countBelow, lowestBelow}
 use Rattle.rules.specs.Sets.{Set, closure}
 use Rattle.rules.specs.Window.{TieRecord}
 use Rattle.rules.specs.Ties.{isGroup}
-use Rattle.rules.proofs.BaseLaws.{or-left, or-right, or-cases, and-both, and-left, and-right, eqb-eq, eqb-same, eqb-other, no-true, not-true, count-le, Within, Same, same, other, same?, any-intro, any-elim, ltb-true, ltb-false}
+use Rattle.rules.proofs.BaseLaws.{or-left, or-right, or-cases, and-both, and-left, and-right, eqb-same, no-true, count-le, Within, Same, same, other, same?, any-intro, any-elim}
 use Rattle.layout.specs.Codec.{unpack, tieSection}
 use Rattle.layout.specs.Records.{tieAt}
 use Rattle.cells.proofs.Digits.{unpack-zero}
@@ -49,14 +50,14 @@ rows-none x y = rw (zero-at (x * 4 + y / 64), unpack-zero (y % 64)) (and-false (
 -- a row as a set
 pub row-set : (rows : List ℕ) (c k : ℕ) → members (ofWords (getD rows (c * 4) 0 ∷ getD rows (c * 4 + 1) 0 ∷ getD rows (c * 4 + 2) 0 ∷ getD rows (c * 4 + 3) 0 ∷ [])) k ≡ rowHas rows c k
 unfolding rowHas
-row-set rows c = four-words (rowHas rows c) _ _ _ _ (λ k h. rw (ltb-false k 256 h))
+row-set rows c = four-words (rowHas rows c) _ _ _ _ (λ k h. rw (le-ltb k 256 h))
     (word 0 (c * 4) (omega arith) (omega arith)) (word 1 (c * 4 + 1) (omega arith) (omega arith)) (word 2 (c * 4 + 2) (omega arith) (omega arith)) (word 3 (c * 4 + 3) (omega arith) (omega arith))
   where
     word : (i at : ℕ) → i < 4 → at ≡ c * 4 + i → (j : ℕ) → j < 64 → unpack (getD rows at 0) j ≡ ltb (64 * i + j) 256 && unpack (getD rows (c * 4 + (64 * i + j) / 64) 0) ((64 * i + j) % 64)
     word i at hi e j h =
         let x : at ≡ c * 4 + (64 * i + j) / 64 = omega arith in
         let y : j ≡ (64 * i + j) % 64 = omega arith in
-        rw (ltb-true (64 * i + j) 256 (omega arith)) (ap₂ (λ (u v : ℕ). unpack (getD rows u 0) v) x y)
+        rw (lt-ltb (64 * i + j) 256 (omega arith)) (ap₂ (λ (u v : ℕ). unpack (getD rows u 0) v) x y)
 
 -- SPREADING: s has grown from the seed, `left` are the members whose rows are still to be taken in, c the lowest of them
 pub record Spreading (rows : List ℕ) (seed s left : Set) (c : ℕ) : Type 0 where
@@ -106,13 +107,13 @@ module _ (rows : List ℕ) (seed s left : Set) (c : ℕ) (g : Spreading rows see
     where
       after : (a b : ℕ) → s′ a ≡ true → left′ a ≡ false → rowHas rows a b ≡ true → {t : Bool} → Same a c t → s′ b ≡ true
       after a b p q r (same e) = es b ∙ or-right (s b) (row b) (er b ∙ (rw e at r))
-      after a b p q r (other n) = ⊎-elim
-          (λ m. keeps b (g .done a b m (no-true (left a) (λ t. false≢true (sym q ∙ el a ∙ or-left (rest a) (fresh a) (rest-without left c (g .lowest) rest et a ∙ rw (eqb-other a c n, t))))) r))
-          (λ m. go (either (s a)) m)
-          (or-cases (s a) (row a) (sym (es a) ∙ p))
+      after a b p q r (other n) = ⊎-elim old (λ m. go (either (s a)) m) (or-cases (s a) (row a) (sym (es a) ∙ p))
         where
+          old : s a ≡ true → s′ b ≡ true
+          old m = keeps b (g .done a b m (no-true (left a) (λ t. false≢true (sym q ∙ el a ∙ or-left (rest a) (fresh a) (rest-without left c (g .lowest) rest et a ∙ rw (ne-eqb a c n, t))))) r)
+
           go : (s a ≡ true) ⊎ (s a ≡ false) → row a ≡ true → s′ b ≡ true
-          go (inl m) _ = keeps b (g .done a b m (no-true (left a) (λ t. false≢true (sym q ∙ el a ∙ or-left (rest a) (fresh a) (rest-without left c (g .lowest) rest et a ∙ rw (eqb-other a c n, t))))) r)
+          go (inl m) _ = old m
           go (inr m) t = absurd (false≢true (sym q ∙ el a ∙ or-right (rest a) (fresh a) (ef a ∙ rw (t, m))))
 
   -- and more rows have been taken in, which leaves fewer of the 256
@@ -147,9 +148,9 @@ module _ (low : ℕ) (bs : List ℕ) (n : ℕ) (rows : List ℕ) (is : (x y : �
   unfolding goneIn goneAt goneAlong
   of-row u w x y p e = let (j, h, q) = any-elim n (goneAt low bs x y) (sym (is x y) ∙ e) in ⊎-elim
       (λ a. let f = and-right (eqb x (tieAt bs j .leader)) _ a in
-      rw (eqb-eq y (tieAt bs j .follower) (and-left _ (follows low (tieAt bs j .kind)) f)) (w j h _ (pulled-follower low (tieAt bs j) u (and-right (eqb y (tieAt bs j .follower)) _ f) (rw (eqb-eq x (tieAt bs j .leader) (and-left _ _ a)) at p))))
+      rw (eqb-true y (tieAt bs j .follower) (and-left _ (follows low (tieAt bs j .kind)) f)) (w j h _ (pulled-follower low (tieAt bs j) u (and-right (eqb y (tieAt bs j .follower)) _ f) (rw (eqb-true x (tieAt bs j .leader) (and-left _ _ a)) at p))))
       (λ a. let f = and-right (eqb x (tieAt bs j .follower)) _ a in
-      rw (eqb-eq y (tieAt bs j .leader) (and-left _ (isGroup (tieAt bs j .kind)) f)) (w j h _ (pulled-leader low (tieAt bs j) u (and-right (eqb y (tieAt bs j .leader)) _ f) (rw (eqb-eq x (tieAt bs j .follower) (and-left _ _ a)) at p))))
+      rw (eqb-true y (tieAt bs j .leader) (and-left _ (isGroup (tieAt bs j .kind)) f)) (w j h _ (pulled-leader low (tieAt bs j) u (and-right (eqb y (tieAt bs j .leader)) _ f) (rw (eqb-true x (tieAt bs j .follower) (and-left _ _ a)) at p))))
       (or-cases _ _ q)
 
   pub spread-grows : Growing low (tieAt bs) n seed r

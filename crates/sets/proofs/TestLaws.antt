@@ -5,14 +5,14 @@ use mathlib.Core.List.{List}
 use Prim.Native.Nat.{ℕ, _+_, _*_, _^_, _<_}
 use native.Mathlib.Decide.{ℕ-discrete}
 use native.Mathlib.Omega.{arith}
-use borrow.Author.Tests.{eq-eqb, ne-eqb, eqb-true}
+use borrow.Author.Tests.{eq-eqb, ne-eqb, eqb-true, not-true}
 use lib.Bits.{bitOr, bitXor, xor-self}
 use lib.Count.{trailingZeros}
 use lib.Dec.{eqb}
 use lib.ListN.{length, getD}
 use lib.Seq.{ext-getD}
 use Rattle.rules.specs.Base.{anyBelow, allBelow, lowestBelow}
-use Rattle.rules.proofs.BaseLaws.{both-ways, not-true, none-below, anyBelow-none}
+use Rattle.rules.proofs.BaseLaws.{both-ways, none-below, anyBelow-none}
 use Rattle.layout.specs.Codec.{unpack}
 use Rattle.cells.proofs.Digits.{unpack-zero, unpack-ext, trailing-hit}
 use Rattle.words.proofs.BitLaws.{eqb-iff}

@@ -3,6 +3,7 @@ use cells::read_u64;
 use cells::write_u64;
 use passes::note_ties;
 use passes::pass;
+use words::among;
 use words::bit_in;
 use words::without_lowest;
 ghost use mathlib.Core.Path.{_≡_};
@@ -55,9 +56,7 @@ impl ChangeSet {
     pub fn has(self, c: u8) -> bool
         ensures { λ r. ⌜ r ≡ members self c ⌝ }
     {
-        let i = (c / 64) as usize;
-        let w = self.words;
-        (w[i] >> (c % 64)) % 2 == 1
+        among(&self.words, c)
     }
 
     // The set with c.

@@ -5,16 +5,18 @@ use mathlib.Core.List.{List, [], _∷_, _++_}
 use Prim.Native.Nat.{ℕ, suc}
 use native.Mathlib.Omega.{arith}
 use lib.ListN.{length, take, drop}
+use borrow.Author.Tests.{lt-ltb, ltb-true}
 use Rattle.rules.specs.Base.{all}
 use Rattle.rules.specs.Window.{limits, Window, live, lives}
 use Rattle.rules.specs.Sound.{heldSound, tieSound}
 use Rattle.rules.specs.Locks.{clashesPermitted}
 use Rattle.rules.specs.Ties.{acyclic}
-use Rattle.rules.proofs.BaseLaws.{and-both, over-false, within-of, ltb-true, lt-of}
+use Rattle.rules.proofs.BaseLaws.{and-both, over-false, within-of}
 use Rattle.rules.proofs.SoundParts.{Sound, ends-below, held-most, held-no-change, fits-all, fit-locks}
 use Rattle.layout.specs.Codec.{headAt, headSize, valuesAt, valuesSize, changesAt, changesSize, lineAt, lineSize, locksAt, locksSize, permitsAt, permitsSize, tiesAt, tiesSize, logAt, logSize, windowSize, figures, headSection, lay, encode, decode}
 use Rattle.layout.specs.Memory.{soundBytes}
 use Rattle.layout.specs.Records.{endsBelow}
+use Rattle.layout.proofs.SoundCodec.{entries-most, given-most}
 use Rattle.layout.proofs.MemoryLaws.{encode-sound, bytes-sound, part-of}
 use Rattle.layout.proofs.PartLaws.{head-part, values-part, changes-part, line-part, locks-part, permits-part, ties-part, log-part, eight-parts}
 use Rattle.cells.specs.Part.{part}
@@ -54,7 +56,7 @@ module _ (bs : List ℕ) (h : HeadSound (part bs headAt headSize)) (c : ChangesS
   pub gathered-sound : acyclic (suc (h .given)) (k .ties .ties) ≡ true → clashesPermitted gathered ≡ true → Sound limits gathered
   unfolding gathered live limits
   gathered-sound a p = record {
-    some = ltb-true 0 (h .entries) (omega (arith, h .some));
+    some = lt-ltb 0 (h .entries) (omega (arith, h .some));
     entries = ap not (over-false (h .entries) 256 (h .entries-most));
     changes = ap not (over-false (h .given) 255 (h .given-most));
     room-log = rw (k .log .size) (ap not (over-false (h .records) 2048 (h .records-most)));
@@ -126,9 +128,9 @@ module _ (bs : List ℕ) (s : soundBytes bs ≡ true) where
     permits = length (W .permits);
     ties = length (W .ties);
     bytes = at headAt headSize (head-part (figures W) W);
-    some = lt-of 0 (W .entries) (z .some);
-    entries-most = within-of (W .entries) 256 (z .entries);
-    given-most = within-of (W .given) 255 (z .changes);
+    some = ltb-true 0 (W .entries) (z .some);
+    entries-most = entries-most W z;
+    given-most = given-most W z;
     records-most = within-of (length (W .log)) 2048 (z .room-log);
     permits-most = within-of (length (W .permits)) 1024 (z .room-permits);
     ties-most = within-of (length (W .ties)) 512 (z .room-ties);

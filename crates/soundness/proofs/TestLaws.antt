@@ -6,7 +6,8 @@ use Prim.Native.Nat.{ℕ, _≤_, _<_}
 use native.Mathlib.Omega.{arith}
 use lib.ListN.{length, take}
 use mathlib.Core.Bool.{Bool, true, false, not, false≢true}
-use Rattle.rules.proofs.BaseLaws.{no-true, not-true, not-false, and-left, le-of, leb-true}
+use borrow.Author.Tests.{not-true, not-false, leb-true, le-leb}
+use Rattle.rules.proofs.BaseLaws.{no-true, and-left}
 use Rattle.layout.specs.Codec.{windowSize}
 use Rattle.layout.specs.Memory.{soundBytes, long, soundMemory}
 
@@ -22,9 +23,9 @@ passes {r} e n = e .0 (not-false r n)
 -- shorter than a window
 pub memory-short : (mem : List ℕ) → length mem < windowSize → false ≡ soundMemory mem
 unfolding soundMemory long
-memory-short mem h = sym (no-true _ (λ s. let l = le-of windowSize (length mem) (and-left _ _ s) in omega arith))
+memory-short mem h = sym (no-true _ (λ s. let l = leb-true windowSize (length mem) (and-left _ _ s) in omega arith))
 
 -- not shorter
 pub memory-long : (mem : List ℕ) → windowSize ≤ length mem → soundBytes (take windowSize mem) ≡ soundMemory mem
 unfolding soundMemory long
-memory-long mem h = rw (leb-true windowSize (length mem) h)
+memory-long mem h = rw (le-leb windowSize (length mem) h)

@@ -31,17 +31,17 @@ reading-room {l} {v} {i} r h k =
     let ten : 10 ^ i ≤ 10 ^ 9 = pow-le-pow-right (zero-lt-suc 9) few in omega (arith, r .small)
 
 -- a byte that is no digit
-other : {l : List ℕ} {v i : ℕ} → Reading l v i → i < length l → isDigit (getD l i 0) ≡ false → cond (all isDigit l) (valueAfter 0 l) noNumber ≡ noNumber
+not-digit : {l : List ℕ} {v i : ℕ} → Reading l v i → i < length l → isDigit (getD l i 0) ≡ false → cond (all isDigit l) (valueAfter 0 l) noNumber ≡ noNumber
 unfolding all
-other {l} {v} {i} r h e = rw (← r .digits, drop-cons l i 0 h, e) refl
+not-digit {l} {v} {i} r h e = rw (← r .digits, drop-cons l i 0 h, e)
 
 pub reading-low : {l : List ℕ} {v i : ℕ} → Reading l v i → i < length l → getD l i 0 < 48 → cond (all isDigit l) (valueAfter 0 l) noNumber ≡ noNumber
 unfolding isDigit
-reading-low {l} {v} {i} r h k = other r h (rw (lt-leb 48 (getD l i 0) k) refl)
+reading-low {l} {v} {i} r h k = not-digit r h (rw (lt-leb 48 (getD l i 0) k))
 
 pub reading-high : {l : List ℕ} {v i : ℕ} → Reading l v i → i < length l → 57 < getD l i 0 → cond (all isDigit l) (valueAfter 0 l) noNumber ≡ noNumber
 unfolding isDigit
-reading-high {l} {v} {i} r h k = other r h (rw (lt-leb (getD l i 0) 57 k) (and-false (leb 48 (getD l i 0))))
+reading-high {l} {v} {i} r h k = not-digit r h (rw (lt-leb (getD l i 0) 57 k) (and-false (leb 48 (getD l i 0))))
 
 -- one digit more
 pub reading-next : {l : List ℕ} {v i : ℕ} → Reading l v i → i < length l → 48 ≤ getD l i 0 → getD l i 0 ≤ 57 → Reading l (10 * v + (getD l i 0 - 48)) (i + 1)
@@ -57,12 +57,12 @@ reading-next {l} {v} {i} r h a b =
 -- all have been read
 pub reading-all : {l : List ℕ} {v i : ℕ} → Reading l v i → length l ≤ i → v ≡ cond (all isDigit l) (valueAfter 0 l) noNumber
 unfolding all valueAfter
-reading-all {l} {v} {i} r h = rw (← r .digits, ← r .value, drop-of-length-le l h) refl
+reading-all {l} {v} {i} r h = rw (← r .digits, ← r .value, drop-of-length-le l h)
 
 -- NO NUMBER
 none : (l : List ℕ) → (isNumber l ≡ true → ⊥) → number l ≡ noNumber
 unfolding number
-none l f = rw (no-true (isNumber l) f) refl
+none l f = rw (no-true (isNumber l) f)
 
 parts : (l : List ℕ) → isNumber l ≡ true
     → (all isDigit l ≡ true) × (leb 1 (length l) ≡ true) × (leb (length l) 10 ≡ true) × (not (leadingZero l) ≡ true) × (leb (valueAfter 0 l) 4294967295 ≡ true)
@@ -80,7 +80,7 @@ number-long l h = none l (λ e. omega (arith, leb-true (length l) 10 (parts l e 
 leading : (l : List ℕ) → 1 < length l → getD l 0 0 ≡ 48 → leadingZero l ≡ true
 unfolding leadingZero
 leading [] h e = absurd (omega (arith, h))
-leading (x ∷ l) h e = rw (eq-eqb x 48 e, ne-eqb (length l) 0 (λ z. omega (arith, h))) refl
+leading (x ∷ l) h e = rw (eq-eqb x 48 e, ne-eqb (length l) 0 (λ z. omega (arith, h)))
 
 -- a leading zero
 pub number-zero : (l : List ℕ) → 1 < length l → getD l 0 0 ≡ 48 → number l ≡ noNumber
@@ -91,7 +91,7 @@ pub not-leading : (l : List ℕ) → (1 < length l → getD l 0 0 ≡ 48 → ⊥
 unfolding leadingZero
 not-leading [] f = refl
 not-leading (x ∷ []) f = and-false (eqb x 48)
-not-leading (x ∷ y ∷ l) f = rw (ne-eqb x 48 (f (omega arith))) refl
+not-leading (x ∷ y ∷ l) f = rw (ne-eqb x 48 (f (omega arith)))
 
 -- what the digits say is too high
 pub number-above : (l : List ℕ) (v : ℕ) → v ≡ cond (all isDigit l) (valueAfter 0 l) noNumber → 4294967295 < v → number l ≡ noNumber

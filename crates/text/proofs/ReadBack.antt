@@ -23,18 +23,18 @@ digits-say =
 -- they are digits
 one-digit : (n : ℕ) → isDigit (48 + n % 10) ≡ true
 unfolding isDigit
-one-digit n = rw (le-leb 48 (48 + n % 10) (omega arith), le-leb (48 + n % 10) 57 (omega arith)) refl
+one-digit n = rw (le-leb 48 (48 + n % 10) (omega arith), le-leb (48 + n % 10) 57 (omega arith))
 
 digits-all : (k n : ℕ) (after : List ℕ) → n ≤ k → all isDigit (digitsBefore k n after) ≡ all isDigit after
 unfolding all
-digits-all = by-digits (λ n after l. all isDigit l ≡ all isDigit after) (λ after. refl) (λ n after l h e. e ∙ rw (one-digit n) refl)
+digits-all = by-digits (λ n after l. all isDigit l ≡ all isDigit after) (λ after. refl) (λ n after l h e. e ∙ rw (one-digit n))
 
 -- the first of them is not 0
 digits-first : (k n : ℕ) (after : List ℕ) → n ≤ k → (n ≡ 0 → leadingZero after ≡ false) → leadingZero (digitsBefore k n after) ≡ false
 unfolding leadingZero
 digits-first =
     by-digits (λ n after l. (n ≡ 0 → leadingZero after ≡ false) → leadingZero l ≡ false) (λ after f. f refl)
-    (λ n after l h e f. e (λ z. rw (ne-eqb (48 + n % 10) 48 (λ s. omega arith)) refl))
+    (λ n after l h e f. e (λ z. rw (ne-eqb (48 + n % 10) 48 (λ s. omega arith))))
 
 -- how many there are
 digits-count : (k n : ℕ) (after : List ℕ) → n ≤ k → (length after ≤ length (digitsBefore k n after)) × ((j : ℕ) → n < 10 ^ j → length (digitsBefore k n after) ≤ j + length after)

@@ -26,18 +26,18 @@ same-lengths (x ∷ a) (y ∷ b) h = go (eqb x y) (same-lengths a b (λ e. h (ap
 same-here : (a b : List ℕ) (i : ℕ) → i < length a → i < length b
     → sameBytes (drop i a) (drop i b) ≡ eqb (getD a i 0) (getD b i 0) && sameBytes (drop (i + 1) a) (drop (i + 1) b)
 unfolding sameBytes
-same-here a b i h k = rw (add-one i, drop-cons a i 0 h, drop-cons b i 0 k) refl
+same-here a b i h k = rw (add-one i, drop-cons a i 0 h, drop-cons b i 0 k)
 
 -- they differ there
 pub same-differ : (a b : List ℕ) (i : ℕ) → i < length a → i < length b → (getD a i 0 ≡ getD b i 0 → ⊥) → sameBytes (drop i a) (drop i b) ≡ false
-same-differ a b i h k e = same-here a b i h k ∙ rw (ne-eqb (getD a i 0) (getD b i 0) e) refl
+same-differ a b i h k e = same-here a b i h k ∙ rw (ne-eqb (getD a i 0) (getD b i 0) e)
 
 -- they do not
 pub same-next : (a b : List ℕ) (i : ℕ) → i < length a → i < length b → getD a i 0 ≡ getD b i 0
     → sameBytes (drop i a) (drop i b) ≡ sameBytes (drop (i + 1) a) (drop (i + 1) b)
-same-next a b i h k e = same-here a b i h k ∙ rw (eq-eqb (getD a i 0) (getD b i 0) e) refl
+same-next a b i h k e = same-here a b i h k ∙ rw (eq-eqb (getD a i 0) (getD b i 0) e)
 
 -- behind the last byte there is no difference
 pub same-end : (a b : List ℕ) (i : ℕ) → length a ≤ i → length b ≤ i → sameBytes (drop i a) (drop i b) ≡ true
 unfolding sameBytes
-same-end a b i h k = rw (drop-of-length-le a h, drop-of-length-le b k) refl
+same-end a b i h k = rw (drop-of-length-le a h, drop-of-length-le b k)

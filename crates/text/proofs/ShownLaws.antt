@@ -18,7 +18,7 @@ digits-none (suc k) after = refl
 -- any other number has a last one
 digits-more : (k n : ℕ) (after : List ℕ) → 0 < n → digitsBefore (suc k) n after ≡ digitsBefore k (n / 10) ((48 + n % 10) ∷ after)
 unfolding digitsBefore
-digits-more k n after h = rw (ne-eqb n 0 (λ e. omega arith)) refl
+digits-more k n after h = rw (ne-eqb n 0 (λ e. omega arith))
 
 -- what holds of a text with no digit in front, and is kept by each, holds of the text with all of them in front
 module _ (P : ℕ → List ℕ → List ℕ → Type 0) (none : (after : List ℕ) → P 0 after after)
@@ -57,7 +57,7 @@ shown-step n after = digits-enough n (n / 10) ((48 + n % 10) ∷ after) (omega a
 pub drop-set : (l : List ℕ) (i v m : ℕ) → m ≡ suc i → i < length l → drop i (set l i v) ≡ v ∷ drop m l
 drop-set l i v m e h =
     let there : i < length (set l i v) = rw length-set h in
-    drop-cons (set l i v) i 0 there ∙ rw (e, getD-set-same l i v 0 h, drop-set-lt (suc i) l i v (omega arith)) refl
+    drop-cons (set l i v) i 0 there ∙ rw (e, getD-set-same l i v 0 h, drop-set-lt (suc i) l i v (omega arith))
 
 -- PRINTING: the digits of n but those of `rest` stand from `at` on in text t, which was t₀, in front of what stood from `end` on
 pub record Showing (t₀ : List ℕ) (end n : ℕ) (t : List ℕ) (at rest : ℕ) : Type 0 where

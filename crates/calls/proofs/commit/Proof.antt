@@ -2,10 +2,10 @@
 use mathlib.Core.Path.{refl, sym, _∙_}
 use Rattle.rules.specs.Calls.{Commit}
 use Rattle.rules.specs.Events.{actionOf, isOpening, isOpen}
-use Rattle.rules.proofs.BaseLaws.{not-true, not-false}
 use Rattle.replies.proofs.GiveLaws.{unsound, on-memory}
 use Rattle.calls.proofs.LentLaws.{lent-room, lent-size, lent-sound}
 use borrow.Author.Needs.{needs}
+use borrow.Author.Tests.{not-true, not-false}
 use Rattle.calls.proofs.commit.Statement.{statement}
 use Rattle.calls.proofs.commit.Tie as tie
 

@@ -2,10 +2,10 @@
 use mathlib.Core.Path.{refl, sym, _∙_}
 use Rattle.rules.specs.Calls.{Parent}
 use Rattle.rules.specs.Events.{actionOf, isOpening, isOpen}
-use Rattle.rules.proofs.BaseLaws.{not-true, not-false}
 use Rattle.replies.proofs.GiveLaws.{unsound}
 use Rattle.calls.proofs.LentLaws.{lent-room, lent-size, lent-sound, looked-at}
 use borrow.Author.Needs.{needs}
+use borrow.Author.Tests.{not-true, not-false}
 use Rattle.calls.proofs.parent.Statement.{statement}
 use Rattle.calls.proofs.parent.Tie as tie
 

@@ -1,5 +1,5 @@
 -- `cells::all_zero` meets its contract: all bytes below i are 0, and the last block has those that are left. Assumes nothing.
-use mathlib.Core.Path.{_≡_, refl}
+use mathlib.Core.Path.{_≡_}
 use mathlib.Core.Bool.{true}
 use Prim.Native.Nat.{_-_, _≤_}
 use native.Mathlib.Nat.{sub-self}
@@ -19,7 +19,7 @@ abbrev μ-loop : tie.MeasureT-loop
 
 loop-holds : tie.Need-loop-holds Inv-loop μ-loop
 unfolding allBelow
-loop-holds c = (search needs, search needs, rw (sub-self (c .before .before .args .from)) refl)
+loop-holds c = (search needs, search needs, rw (sub-self (c .before .before .args .from)))
 
 returns-2 : tie.Need-returns-2 Inv-loop μ-loop
 returns-2 c =

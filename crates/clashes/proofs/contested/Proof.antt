@@ -1,6 +1,5 @@
 -- `clashes::contested` meets its contract: there is no writer, there is a reader beside one, or a writer besides the lowest is looked for. Assumes nothing.
 use mathlib.Core.Path.{sym, _∙_}
-use Prim.Native.Nat.{_+_, _*_}
 use native.Mathlib.Omega.{arith}
 use borrow.Author.Needs.{needs}
 use borrow.Author.Tests.{not-true, not-false}
@@ -13,21 +12,21 @@ use Rattle.clashes.proofs.contested.Tie as tie
 returns : tie.Need-returns
 returns c held e =
     let a = c .before .before .before .args in
-    let w = any-in-mode (a .locks .now) held e (a .entry) 1 (a .entry * 64 + 32) (search needs) (omega arith) (omega arith) (c .before .any-held .result) (c .before .any-held .ensures) in
+    let w = any-in-mode held e (a .entry) 1 (search needs) (omega arith) (omega arith) (c .before .any-held .ensures) in
     contested-not (inMode 1 (held (a .entry))) (inMode 2 (held (a .entry))) (sym w ∙ not-true _ (c .if1 .taken))
 
 returns-2 : tie.Need-returns-2
 returns-2 c held e =
     let a = c .before .before .before .before .before .args in
-    let w = any-in-mode (a .locks .now) held e (a .entry) 1 (a .entry * 64 + 32) (search needs) (omega arith) (omega arith) (c .before .before .before .any-held .result) (c .before .before .before .any-held .ensures) in
-    let r = any-in-mode (a .locks .now) held e (a .entry) 0 (a .entry * 64) (search needs) (omega arith) (omega arith) (c .before .any-held2 .result) (c .before .any-held2 .ensures) in
+    let w = any-in-mode held e (a .entry) 1 (search needs) (omega arith) (omega arith) (c .before .before .before .any-held .ensures) in
+    let r = any-in-mode held e (a .entry) 0 (search needs) (omega arith) (omega arith) (c .before .any-held2 .ensures) in
     contested-reader (inMode 1 (held (a .entry))) (inMode 2 (held (a .entry))) (modes-apart (held (a .entry))) (sym w ∙ not-false _ (c .before .before .if1 .left)) (sym r ∙ c .if2 .taken)
 
 returns-3 : tie.Need-returns-3
 returns-3 c held e =
     let a = c .before .before .before .before .before .before .before .before .args in
-    let w = any-in-mode (a .locks .now) held e (a .entry) 1 (a .entry * 64 + 32) (search needs) (omega arith) (omega arith) (c .before .before .before .before .before .before .any-held .result) (c .before .before .before .before .before .before .any-held .ensures) in
-    let r = any-in-mode (a .locks .now) held e (a .entry) 0 (a .entry * 64) (search needs) (omega arith) (omega arith) (c .before .before .before .before .any-held2 .result) (c .before .before .before .before .any-held2 .ensures) in
+    let w = any-in-mode held e (a .entry) 1 (search needs) (omega arith) (omega arith) (c .before .before .before .before .before .before .any-held .ensures) in
+    let r = any-in-mode held e (a .entry) 0 (search needs) (omega arith) (omega arith) (c .before .before .before .before .any-held2 .ensures) in
     contested-writers (inMode 1 (held (a .entry))) (inMode 2 (held (a .entry))) (members (c .before .before .writers .result)) (c .before .before .writers .ensures held e) (sym w ∙ not-false _ (c .before .before .before .before .before .if1 .left)) (sym r ∙ c .before .before .before .if2 .left)
     (members (c .before .rest .result)) (c .before .rest .ensures) (c .is-empty .result) (c .is-empty .ensures)
 

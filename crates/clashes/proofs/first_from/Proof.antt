@@ -2,9 +2,7 @@
 use Prim.Native.Nat.{_≤_, _-_, _*_}
 use native.Mathlib.Omega.{arith}
 use borrow.Author.Needs.{needs}
-use borrow.Author.Tests.{lt-leb}
-use Rattle.rules.specs.Locks.{makePermit}
-use Rattle.rules.proofs.BaseLaws.{leb-true}
+use borrow.Author.Tests.{lt-leb, le-leb}
 use Rattle.layout.specs.Records.{permitAt}
 use Rattle.beside.proofs.PlaceLaws.{Skipped, skipped-none, skipped-more, first-found, first-nothing}
 use Rattle.clashes.specs.Permits.{fromEntry}
@@ -24,14 +22,14 @@ cast-if1 : tie.Need-cast-if1 Inv-loop μ-loop
 cast-if1 c = omega (arith, c .shared-slice-known .given (c .before .before .loop .j * 4))
 
 returns : tie.Need-returns Inv-loop μ-loop
-unfolding fromEntry permitAt makePermit
+unfolding fromEntry permitAt
 returns c =
     let a = c .before .before .before .before .args in
     let l = c .before .before .before .loop in
-    first-found (fromEntry (a .entry)) (a .permits .now) (a .start) (a .count) (l .j) (l .inv .0) (omega arith) (l .inv .2) (leb-true (a .entry) _ (c .if1 .taken))
+    first-found (fromEntry (a .entry)) (a .permits .now) (a .start) (a .count) (l .j) (l .inv .0) (omega arith) (l .inv .2) (le-leb (a .entry) _ (c .if1 .taken))
 
 loop-again : tie.Need-loop-again Inv-loop μ-loop
-unfolding fromEntry permitAt makePermit
+unfolding fromEntry permitAt
 loop-again c =
     let a = c .before .before .before .before .args in
     let l = c .before .before .before .loop in

@@ -2,15 +2,15 @@
 use mathlib.Core.Path.{refl}
 use native.Mathlib.Omega.{arith}
 use borrow.Author.Needs.{needs}
+use borrow.Author.Tests.{not-true, not-false}
 use Rattle.rules.specs.Effects.{commitChange, effect}
-use Rattle.rules.proofs.BaseLaws.{not-true, not-false}
 use Rattle.layout.specs.Codec.{tiesAt, tiesSize}
 use Rattle.layout.proofs.MemoryLaws.{bytes-sound}
 use Rattle.cells.specs.Part.{part}
 use Rattle.cells.proofs.PartLaws.{length-part}
 use Rattle.sets.specs.Members.{members}
 use Rattle.reads.proofs.ReadLaws.{change-fits}
-use Rattle.endings.proofs.CallLaws.{commit-known, ended-so, ended-else, group-read, commit-waits, commit-done}
+use Rattle.endings.proofs.CallLaws.{commit-known, ended-so, ended-else, group-read, commit-waits, commit-ends}
 use Rattle.endings.proofs.commit.Statement.{statement}
 use Rattle.endings.proofs.commit.Tie as tie
 
@@ -65,7 +65,7 @@ returns-4 c =
     let blockers = c .before .before .before .before .before .before .before .before .blockers in
     let empty = c .before .before .before .before .before .before .before .is-empty in
     let count = c .before .count in
-    commit-done w (s .pre .1 .0) (s .args .change) (status .result) (s .pre .1 .1) (status .ensures) (c .before .before .before .before .before .before .before .before .before .before .before .before .before .before .before .before .if1 .left) (c .before .before .before .before .before .before .before .before .before .before .before .before .before .before .before .if2 .left)
+    commit-ends w (s .pre .1 .0) (s .args .change) (status .result) (s .pre .1 .1) (status .ensures) (c .before .before .before .before .before .before .before .before .before .before .before .before .before .before .before .before .if1 .left) (c .before .before .before .before .before .before .before .before .before .before .before .before .before .before .before .if2 .left)
     (members (group .result)) (group-read w (s .pre .1 .0) (s .args .change) (ties .result) (ties .ensures .0) (members (group .result)) (group .ensures))
     (members (blockers .result)) (blockers .ensures) (empty .result) (empty .ensures) (not-false _ (c .before .before .before .before .before .before .if3 .left))
     (count .result) (count .ensures) (c .done2 .result) (c .done2 .ensures) _ (c .before .before .before .before .end-all .ensures)

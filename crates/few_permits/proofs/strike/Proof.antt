@@ -3,6 +3,7 @@ use mathlib.Core.Path.{_∙_, ap₂}
 use Prim.Native.Nat.{ℕ, _+_, _*_}
 use borrow.Author.Needs.{needs}
 use lib.ListN.{getD}
+use Rattle.rules.specs.Locks.{makePermit}
 use Rattle.words.specs.Members.{wordsHave}
 use Rattle.layout.specs.Records.{permitAt}
 use Rattle.beside.specs.Beside.{containsHeld}
@@ -11,20 +12,22 @@ use Rattle.few_permits.proofs.strike.Statement.{statement}
 use Rattle.few_permits.proofs.strike.Tie as tie
 
 returns : tie.Need-returns
-unfolding permitAt
+unfolding permitAt makePermit
 returns c =
-    let a = c .before .before .before .before .before .before .before .before .before .before .args in
+    let a = c .before .before .before .before .before .before .before .before .before .before .before .before .args in
     let byte : ℕ → ℕ = λ i. getD (a .permits .now) (a .place * 4 + i) 0 in
-    let r = c .before .before .strike-set in (
+    let r = c .before .before .strike-set in
+    let read = c .before .before .before .contains2 in
+    let write = c .before .before .before .before .before .before .before .contains in (
       c .strike-set2 .ensures .0,
       λ k n. anybody-struck (wordsHave (a .readers .now)) (wordsHave (a .writers .now)) (a .writer) k (byte 1) (byte 2) (getD (a .permits .now) (a .place * 4) 0) (byte 3) n (wordsHave (a .left .now) k) (wordsHave (c .strike-set2 .last .0) k)
-          (c .before .before .before .before .before .if1 .taken) (c .before .before .before .before .if2 .taken) (wordsHave (r .last .0) k) (r .ensures .1 k) (c .strike-set2 .ensures .1 k),
+          (c .before .before .before .before .before .before .if1 .taken) (c .before .before .before .before .before .if2 .taken) (read .result) (write .result) (wordsHave (r .last .0) k) (read .ensures) (write .ensures) (r .ensures .1 k) (c .strike-set2 .ensures .1 k),
     )
 
 returns-2 : tie.Need-returns-2
-unfolding permitAt
+unfolding permitAt makePermit
 returns-2 c =
-    let a = c .before .before .before .before .before .before .before .before .before .before .before .args in
+    let a = c .before .before .before .before .before .before .before .before .before .before .before .before .args in
     let byte : ℕ → ℕ = λ i. getD (a .permits .now) (a .place * 4 + i) 0 in
     let served = c .before .before .contains-held in (
       c .strike-one .ensures .0,
@@ -33,13 +36,14 @@ returns-2 c =
     )
 
 returns-3 : tie.Need-returns-3
-unfolding permitAt
+unfolding permitAt makePermit
 returns-3 c =
-    let a = c .before .before .before .before .before .before .before .args in
-    let byte : ℕ → ℕ = λ i. getD (a .permits .now) (a .place * 4 + i) 0 in (
+    let a = c .before .before .before .before .before .before .before .before .args in
+    let byte : ℕ → ℕ = λ i. getD (a .permits .now) (a .place * 4 + i) 0 in
+    let write = c .before .before .before .contains in (
       c .strike-one2 .ensures .0,
       λ k n. giver-struck (wordsHave (a .readers .now)) (wordsHave (a .writers .now)) (a .writer) k (byte 1) (byte 2) (getD (a .permits .now) (a .place * 4) 0) (byte 3) n (wordsHave (a .left .now) k) (wordsHave (c .strike-one2 .last .0) k)
-          (c .before .before .if1 .left) (c .strike-one2 .ensures .1 k),
+          (c .before .before .if1 .left) (write .result) (write .ensures) (c .strike-one2 .ensures .1 k),
     )
 
 pub strike-spec : {M : Type 1} → statement M
@@ -53,6 +57,8 @@ strike-spec =
     (λ c. search needs)
     (λ c. search needs)
     (λ c. search needs)
+    (λ c κs. search needs)
+    (λ c κs. search needs)
     (λ c κs. search needs)
     (λ c κs. search needs)
     returns

@@ -2,7 +2,7 @@
 use mathlib.Core.Path.{refl, sym, _∙_}
 use native.Mathlib.Nat.{mod-lt}
 use lib.Dec.{lit≤}
-use Rattle.rules.proofs.BaseLaws.{not-true, not-false}
+use borrow.Author.Tests.{not-true, not-false}
 use Rattle.layout.specs.Codec.{decode}
 use Rattle.layout.proofs.MemoryLaws.{bytes-sound}
 use Rattle.handover.proofs.DelegateLaws.{to-live, from-fits, to-fits, refused-first, refused-last, handed-over}

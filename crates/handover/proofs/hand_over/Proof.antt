@@ -5,8 +5,8 @@ use native.Mathlib.Omega.{arith}
 use native.Mathlib.Nat.{le-of-eq, le-trans}
 use lib.Dec.{lit≤}
 use lib.ListN.{length-replicate}
+use borrow.Author.Tests.{not-true, not-false}
 use Rattle.rules.specs.Effects.{handOver}
-use Rattle.rules.proofs.BaseLaws.{not-true, not-false}
 use Rattle.layout.specs.Codec.{decode}
 use Rattle.layout.proofs.MemoryLaws.{bytes-sound}
 use Rattle.sets.specs.Entries.{onEntries}

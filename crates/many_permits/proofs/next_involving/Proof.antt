@@ -2,7 +2,6 @@
 use Prim.Native.Nat.{_≤_, _-_}
 use native.Mathlib.Omega.{arith}
 use borrow.Author.Needs.{needs}
-use Rattle.rules.specs.Locks.{makePermit}
 use Rattle.layout.specs.Records.{permitAt}
 use Rattle.beside.proofs.PlaceLaws.{Skipped, skipped-more, first-found, first-nothing}
 use Rattle.many_permits.specs.Named.{involves}
@@ -19,14 +18,14 @@ loop-holds : tie.Need-loop-holds Inv-loop μ-loop
 loop-holds c = let s = c .skip-blocks .ensures in (s .from, s .to, s .skipped)
 
 returns : tie.Need-returns Inv-loop μ-loop
-unfolding involves permitAt makePermit
+unfolding involves permitAt
 returns c =
     let a = c .before .before .before .before .before .before .before .args in
     let l = c .before .before .before .before .loop in
     first-found (involves (a .change)) (a .permits .now) (a .start) (a .count) (l .j) (l .inv .0) (omega arith) (l .inv .2) (c .if1 .taken)
 
 loop-again : tie.Need-loop-again Inv-loop μ-loop
-unfolding involves permitAt makePermit
+unfolding involves permitAt
 loop-again c =
     let a = c .before .before .before .before .before .before .before .args in
     let l = c .before .before .before .before .loop in

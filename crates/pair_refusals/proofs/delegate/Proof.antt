@@ -2,7 +2,7 @@
 use mathlib.Core.Path.{refl}
 use Rattle.rules.specs.Refusals.{_if_, checks}
 use borrow.Author.Needs.{needs}
-use Rattle.refusals.proofs.RefusalLaws.{all-passed, fails, passes, first, same, other}
+use Rattle.refusals.proofs.RefusalLaws.{all-passed, fails, passes, first, reads-same, reads-other}
 use Rattle.pair_refusals.proofs.PairLaws.{unless-every, neither}
 use Rattle.pair_refusals.proofs.delegate.Statement.{statement}
 use Rattle.pair_refusals.proofs.delegate.Tie as tie
@@ -40,7 +40,7 @@ returns-4 c =
     (passes (c1 .before .no-change .ensures) (c1 .if1 .left)
     (passes (c2 .before .no-change2 .ensures) (c2 .if2 .left)
     (passes (unless-every (a .entry) (c3 .before .no-entry .ensures)) (c3 .if3 .left)
-    (fails refl (same refl (a .to) (c .if4 .taken))))))
+    (fails refl (reads-same refl (a .to) (c .if4 .taken))))))
 
 returns-5 : tie.Need-returns-5
 unfolding checks _if_
@@ -54,7 +54,7 @@ returns-5 c =
     (passes (c1 .before .no-change .ensures) (c1 .if1 .left)
     (passes (c2 .before .no-change2 .ensures) (c2 .if2 .left)
     (passes (unless-every (a .entry) (c3 .before .no-entry .ensures)) (c3 .if3 .left)
-    (passes refl (other refl (a .to) (c4 .if4 .left))
+    (passes refl (reads-other refl (a .to) (c4 .if4 .left))
     (fails (neither (c .before .before .is-live .ensures) (c .before .is-live2 .ensures)) (c .if5 .taken))))))
 
 returns-6 : tie.Need-returns-6
@@ -69,7 +69,7 @@ returns-6 c =
     (passes (c1 .before .no-change .ensures) (c1 .if1 .left)
     (passes (c2 .before .no-change2 .ensures) (c2 .if2 .left)
     (passes (unless-every (a .entry) (c3 .before .no-entry .ensures)) (c3 .if3 .left)
-    (passes refl (other refl (a .to) (c4 .if4 .left))
+    (passes refl (reads-other refl (a .to) (c4 .if4 .left))
     (passes (neither (c .before .before .is-live .ensures) (c .before .is-live2 .ensures)) (c .if5 .left) all-passed)))))
 
 pub delegate-spec : {M : Type 1} → statement M

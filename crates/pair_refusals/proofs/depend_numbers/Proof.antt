@@ -2,7 +2,7 @@
 use mathlib.Core.Path.{refl}
 use Rattle.rules.specs.Refusals.{_if_, checks}
 use borrow.Author.Needs.{needs}
-use Rattle.refusals.proofs.RefusalLaws.{all-passed, fails, passes, first, same, other}
+use Rattle.refusals.proofs.RefusalLaws.{all-passed, fails, passes, first, reads-same, reads-other}
 use Rattle.pair_refusals.proofs.depend_numbers.Statement.{statement}
 use Rattle.pair_refusals.proofs.depend_numbers.Tie as tie
 
@@ -38,7 +38,7 @@ returns-4 c =
     (passes (c1 .before .no-change .ensures) (c1 .if1 .left)
     (passes (c2 .before .no-change2 .ensures) (c2 .if2 .left)
     (passes (c3 .before .outside .ensures) (c3 .if3 .left)
-    (fails refl (same refl (c1 .before .before .before .args .follower) (c .if4 .taken))))))
+    (fails refl (reads-same refl (c1 .before .before .before .args .follower) (c .if4 .taken))))))
 
 returns-5 : tie.Need-returns-5
 unfolding checks _if_
@@ -50,7 +50,7 @@ returns-5 c =
     (passes (c1 .before .no-change .ensures) (c1 .if1 .left)
     (passes (c2 .before .no-change2 .ensures) (c2 .if2 .left)
     (passes (c3 .before .outside .ensures) (c3 .if3 .left)
-    (passes refl (other refl (c1 .before .before .before .args .follower) (c .if4 .left)) all-passed))))
+    (passes refl (reads-other refl (c1 .before .before .before .args .follower) (c .if4 .left)) all-passed))))
 
 pub depend-numbers-spec : {M : Type 1} → statement M
 depend-numbers-spec =

@@ -2,7 +2,7 @@
 use mathlib.Core.Path.{refl}
 use Rattle.rules.specs.Refusals.{_if_, checks}
 use borrow.Author.Needs.{needs}
-use Rattle.refusals.proofs.RefusalLaws.{all-passed, fails, passes, first, below, not-below, same, other}
+use Rattle.refusals.proofs.RefusalLaws.{all-passed, fails, passes, first, reads-below, reads-not-below, reads-same, reads-other}
 use Rattle.pair_refusals.proofs.permit_numbers.Statement.{statement}
 use Rattle.pair_refusals.proofs.permit_numbers.Tie as tie
 
@@ -16,7 +16,7 @@ returns-2 c =
     let c1 = c .before .before in
     first
     (passes (c1 .before .no-change .ensures) (c1 .if1 .left)
-    (fails refl (below (c .before .given .ensures .0) _ (c .if2 .taken))))
+    (fails refl (reads-below (c .before .given .ensures .0) _ (c .if2 .taken))))
 
 returns-3 : tie.Need-returns-3
 unfolding checks _if_
@@ -25,7 +25,7 @@ returns-3 c =
     let c1 = c2 .before .before in
     first
     (passes (c1 .before .no-change .ensures) (c1 .if1 .left)
-    (passes refl (not-below (c2 .before .given .ensures .0) _ (c2 .if2 .left))
+    (passes refl (reads-not-below (c2 .before .given .ensures .0) _ (c2 .if2 .left))
     (fails (c .before .no-entry .ensures) (c .if3 .taken))))
 
 returns-4 : tie.Need-returns-4
@@ -36,7 +36,7 @@ returns-4 c =
     let c1 = c2 .before .before in
     first
     (passes (c1 .before .no-change .ensures) (c1 .if1 .left)
-    (passes refl (not-below (c2 .before .given .ensures .0) _ (c2 .if2 .left))
+    (passes refl (reads-not-below (c2 .before .given .ensures .0) _ (c2 .if2 .left))
     (passes (c3 .before .no-entry .ensures) (c3 .if3 .left)
     (fails (c .before .outside .ensures) (c .if4 .taken)))))
 
@@ -49,10 +49,10 @@ returns-5 c =
     let c1 = c2 .before .before in
     first
     (passes (c1 .before .no-change .ensures) (c1 .if1 .left)
-    (passes refl (not-below (c2 .before .given .ensures .0) _ (c2 .if2 .left))
+    (passes refl (reads-not-below (c2 .before .given .ensures .0) _ (c2 .if2 .left))
     (passes (c3 .before .no-entry .ensures) (c3 .if3 .left)
     (passes (c4 .before .outside .ensures) (c4 .if4 .left)
-    (fails refl (same refl (c1 .before .before .before .args .taker) (c .if5 .taken)))))))
+    (fails refl (reads-same refl (c1 .before .before .before .args .taker) (c .if5 .taken)))))))
 
 returns-6 : tie.Need-returns-6
 unfolding checks _if_
@@ -63,10 +63,10 @@ returns-6 c =
     let c1 = c2 .before .before in
     first
     (passes (c1 .before .no-change .ensures) (c1 .if1 .left)
-    (passes refl (not-below (c2 .before .given .ensures .0) _ (c2 .if2 .left))
+    (passes refl (reads-not-below (c2 .before .given .ensures .0) _ (c2 .if2 .left))
     (passes (c3 .before .no-entry .ensures) (c3 .if3 .left)
     (passes (c4 .before .outside .ensures) (c4 .if4 .left)
-    (passes refl (other refl (c1 .before .before .before .args .taker) (c .if5 .left)) all-passed)))))
+    (passes refl (reads-other refl (c1 .before .before .before .args .taker) (c .if5 .left)) all-passed)))))
 
 pub permit-numbers-spec : {M : Type 1} → statement M
 permit-numbers-spec =

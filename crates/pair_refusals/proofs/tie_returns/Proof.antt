@@ -2,11 +2,11 @@
 use mathlib.Core.Path.{sym}
 use native.Mathlib.Omega.{arith}
 use borrow.Author.Needs.{needs}
-use Rattle.rules.specs.Window.{limits}
-use Rattle.rules.proofs.SoundParts.{inside-of}
+use Rattle.rules.proofs.SoundParts.{ends-below, inside-of}
+use Rattle.layout.specs.Records.{endsBelow}
+use Rattle.layout.proofs.SoundCodec.{given-most}
 use Rattle.layout.proofs.MemoryLaws.{bytes-sound}
-use Rattle.graph.proofs.WindowLaws.{sound-ends}
-use Rattle.reads.proofs.ReadLaws.{given-most, ties-known}
+use Rattle.reads.proofs.ReadLaws.{ties-known}
 use Rattle.pair_refusals.proofs.tie_returns.Statement.{statement}
 use Rattle.pair_refusals.proofs.tie_returns.Tie as tie
 
@@ -20,11 +20,12 @@ cast-returns-3 : tie.Need-cast-returns-3
 cast-returns-3 c = let s = c .before .before .before in omega (arith, given-most _ (bytes-sound (s .args .w .now) (s .pre .1 .0)))
 
 returns : tie.Need-returns
+unfolding endsBelow
 returns c =
     let s = c .before .before .before .before in
     let bs = s .args .w .now in
     let k = bytes-sound bs (s .pre .1 .0) in
-    c .returns .ensures _ (sym (c .before .before .ties .ensures .0)) (ties-known bs (s .pre .1 .0)) _ (sound-ends limits _ k) (omega arith) (omega arith) (s .pre .1 .1 .0) (k .no-cycle)
+    c .returns .ensures _ (sym (c .before .before .ties .ensures .0)) (ties-known bs (s .pre .1 .0)) _ (ends-below _ (k .ties)) (omega arith) (omega arith) (s .pre .1 .1 .0) (k .no-cycle)
 
 pub tie-returns-spec : {M : Type 1} → statement M
 tie-returns-spec =

@@ -3,7 +3,7 @@ use mathlib.Core.Path.{refl, ap}
 use mathlib.Core.Bool.{not}
 use Rattle.rules.specs.Refusals.{_if_, checks}
 use borrow.Author.Needs.{needs}
-use Rattle.refusals.proofs.RefusalLaws.{all-passed, fails, passes, first, same, other}
+use Rattle.refusals.proofs.RefusalLaws.{all-passed, fails, passes, first, reads-same, reads-other}
 use Rattle.refusals.proofs.begin.Statement.{statement}
 use Rattle.refusals.proofs.begin.Tie as tie
 
@@ -17,7 +17,7 @@ returns-2 c =
     let c1 = c .before .before in
     first
     (passes (c1 .before .no-change .ensures) (c1 .if1 .left)
-    (fails refl (ap not (other (c .before .status .ensures) 1 (c .if2 .taken)))))
+    (fails refl (ap not (reads-other (c .before .status .ensures) 1 (c .if2 .taken)))))
 
 returns-3 : tie.Need-returns-3
 unfolding checks _if_
@@ -25,7 +25,7 @@ returns-3 c =
     let c1 = c .before .before in
     first
     (passes (c1 .before .no-change .ensures) (c1 .if1 .left)
-    (passes refl (ap not (same (c .before .status .ensures) 1 (c .if2 .left))) all-passed))
+    (passes refl (ap not (reads-same (c .before .status .ensures) 1 (c .if2 .left))) all-passed))
 
 pub begin-spec : {M : Type 1} → statement M
 begin-spec = tie.close (tie.spec (λ c κs. search needs) returns (λ c κs. search needs) returns-2 returns-3)

@@ -4,7 +4,7 @@ use mathlib.Core.Bool.{not}
 use Rattle.rules.specs.Window.{running}
 use Rattle.rules.specs.Refusals.{_if_, checks}
 use borrow.Author.Needs.{needs}
-use Rattle.refusals.proofs.RefusalLaws.{all-passed, fails, passes, first, same, other}
+use Rattle.refusals.proofs.RefusalLaws.{all-passed, fails, passes, first, reads-same, reads-other}
 use Rattle.refusals.proofs.complete.Statement.{statement}
 use Rattle.refusals.proofs.complete.Tie as tie
 
@@ -18,7 +18,7 @@ returns-2 c =
     let c1 = c .before .before in
     first
     (passes (c1 .before .no-change .ensures) (c1 .if1 .left)
-    (fails refl (ap not (other (c .before .status .ensures) 2 (c .if2 .taken)))))
+    (fails refl (ap not (reads-other (c .before .status .ensures) 2 (c .if2 .taken)))))
 
 returns-3 : tie.Need-returns-3
 unfolding checks _if_ running
@@ -26,7 +26,7 @@ returns-3 c =
     let c1 = c .before .before in
     first
     (passes (c1 .before .no-change .ensures) (c1 .if1 .left)
-    (passes refl (ap not (same (c .before .status .ensures) 2 (c .if2 .left))) all-passed))
+    (passes refl (ap not (reads-same (c .before .status .ensures) 2 (c .if2 .left))) all-passed))
 
 pub complete-spec : {M : Type 1} → statement M
 complete-spec = tie.close (tie.spec (λ c κs. search needs) returns (λ c κs. search needs) returns-2 returns-3)

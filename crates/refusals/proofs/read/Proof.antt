@@ -3,7 +3,7 @@ use mathlib.Core.Path.{refl, ap}
 use mathlib.Core.Bool.{not}
 use Rattle.rules.specs.Refusals.{_if_, checks}
 use borrow.Author.Needs.{needs}
-use Rattle.refusals.proofs.RefusalLaws.{all-passed, fails, passes, first, same, other}
+use Rattle.refusals.proofs.RefusalLaws.{all-passed, fails, passes, first, reads-same, reads-other}
 use Rattle.refusals.proofs.read.Statement.{statement}
 use Rattle.refusals.proofs.read.Tie as tie
 
@@ -39,7 +39,7 @@ returns-4 c =
     (passes (c1 .before .no-change .ensures) (c1 .if1 .left)
     (passes (c2 .before .no-entry .ensures) (c2 .if2 .left)
     (passes (ap not (c3 .before .is-running .ensures)) (c3 .if3 .left)
-    (fails refl (same (c .before .held .ensures) 0 (c .if4 .taken))))))
+    (fails refl (reads-same (c .before .held .ensures) 0 (c .if4 .taken))))))
 
 returns-5 : tie.Need-returns-5
 unfolding checks _if_
@@ -51,7 +51,7 @@ returns-5 c =
     (passes (c1 .before .no-change .ensures) (c1 .if1 .left)
     (passes (c2 .before .no-entry .ensures) (c2 .if2 .left)
     (passes (ap not (c3 .before .is-running .ensures)) (c3 .if3 .left)
-    (passes refl (other (c .before .held .ensures) 0 (c .if4 .left)) all-passed))))
+    (passes refl (reads-other (c .before .held .ensures) 0 (c .if4 .left)) all-passed))))
 
 pub read-spec : {M : Type 1} → statement M
 read-spec =

@@ -4,7 +4,7 @@ use mathlib.Core.Bool.{not}
 use Rattle.rules.specs.Window.{limits}
 use Rattle.rules.specs.Refusals.{_if_, checks}
 use borrow.Author.Needs.{needs}
-use Rattle.refusals.proofs.RefusalLaws.{all-passed, fails, passes, first, same, other, full, room}
+use Rattle.refusals.proofs.RefusalLaws.{all-passed, fails, passes, first, reads-same, reads-other, full, room}
 use Rattle.refusals.proofs.write.Statement.{statement}
 use Rattle.refusals.proofs.write.Tie as tie
 
@@ -40,7 +40,7 @@ returns-4 c =
     (passes (c1 .before .no-change .ensures) (c1 .if1 .left)
     (passes (c2 .before .no-entry .ensures) (c2 .if2 .left)
     (passes (ap not (c3 .before .is-running .ensures)) (c3 .if3 .left)
-    (fails refl (ap not (other (c .before .held .ensures) 2 (c .if4 .taken)))))))
+    (fails refl (ap not (reads-other (c .before .held .ensures) 2 (c .if4 .taken)))))))
 
 returns-5 : tie.Need-returns-5
 unfolding checks _if_ limits
@@ -53,7 +53,7 @@ returns-5 c =
     (passes (c1 .before .no-change .ensures) (c1 .if1 .left)
     (passes (c2 .before .no-entry .ensures) (c2 .if2 .left)
     (passes (ap not (c3 .before .is-running .ensures)) (c3 .if3 .left)
-    (passes refl (ap not (same (c4 .before .held .ensures) 2 (c4 .if4 .left)))
+    (passes refl (ap not (reads-same (c4 .before .held .ensures) 2 (c4 .if4 .left)))
     (fails refl (full (c .before .records .ensures .0) _ (c .if5 .taken)))))))
 
 returns-6 : tie.Need-returns-6
@@ -67,7 +67,7 @@ returns-6 c =
     (passes (c1 .before .no-change .ensures) (c1 .if1 .left)
     (passes (c2 .before .no-entry .ensures) (c2 .if2 .left)
     (passes (ap not (c3 .before .is-running .ensures)) (c3 .if3 .left)
-    (passes refl (ap not (same (c4 .before .held .ensures) 2 (c4 .if4 .left)))
+    (passes refl (ap not (reads-same (c4 .before .held .ensures) 2 (c4 .if4 .left)))
     (passes refl (room (c .before .records .ensures .0) _ (c .if5 .left)) all-passed)))))
 
 pub write-spec : {M : Type 1} → statement M

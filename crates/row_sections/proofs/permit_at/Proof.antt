@@ -1,11 +1,12 @@
 -- `row_sections::permit_at` meets its contract. Assumes nothing.
-use Rattle.layout.specs.Records.{permitAt}
 use borrow.Author.Needs.{needs}
+use Rattle.rules.specs.Locks.{makePermit}
+use Rattle.layout.specs.Records.{permitAt}
 use Rattle.row_sections.proofs.permit_at.Statement.{statement}
 use Rattle.row_sections.proofs.permit_at.Tie as tie
 
 returns : tie.Need-returns
-unfolding permitAt
+unfolding permitAt makePermit
 returns c = c .permit .ensures
 
 pub permit-at-spec : {M : Type 1} → statement M

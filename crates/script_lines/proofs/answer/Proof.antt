@@ -1,8 +1,8 @@
 -- `script_lines::answer` meets its contract. Assumes nothing.
 use native.Mathlib.Omega.{arith}
-use Rattle.rules.proofs.BaseLaws.{not-true, not-false}
 use Rattle.script_lines.proofs.LineLaws.{too-long, small, no-argument, arguments}
 use borrow.Author.Needs.{needs}
+use borrow.Author.Tests.{not-true, not-false}
 use Rattle.script_lines.proofs.answer.Statement.{statement}
 use Rattle.script_lines.proofs.answer.Tie as tie
 

@@ -1,5 +1,6 @@
 -- `soundness::back` meets its contract. Assumes nothing.
 use native.Mathlib.Omega.{arith}
+use Rattle.layout.specs.Codec.{locksAt, locksSize, logAt, logSize}
 use Rattle.cells.specs.Part.{part}
 use Rattle.cells.proofs.PartLaws.{length-part}
 use Rattle.rules.proofs.TurnLaws.{refused}
@@ -30,7 +31,7 @@ unfolding part
 log-requires c κs =
     let w = c .before .before .before .before .before .before .before .before .before .args .w .now in
     let p = c .before .before .before .before .before .before .before .before .before .pre in
-    (length-part w 25664 12288 (omega (arith, p .0)), (p .1 .2, length-part w 3136 16384 (omega (arith, p .0))))
+    (length-part w logAt logSize (omega (arith, p .0)), (p .1 .2, length-part w locksAt locksSize (omega (arith, p .0))))
 
 returns-3 : tie.Need-returns-3
 unfolding part

@@ -3,10 +3,11 @@ use mathlib.Core.Path.{sym, _∙_, ap}
 use mathlib.Core.Bool.{_&&_}
 use native.Mathlib.Omega.{arith}
 use Rattle.rules.specs.Locks.{clashesPermitted}
-use Rattle.rules.proofs.BaseLaws.{not-true, not-false}
+use Rattle.layout.specs.Codec.{locksAt, locksSize, permitsAt, permitsSize}
 use Rattle.cells.specs.Part.{part}
 use Rattle.cells.proofs.PartLaws.{length-part}
 use borrow.Author.Needs.{needs}
+use borrow.Author.Tests.{not-true, not-false}
 use Rattle.soundness.proofs.related.Statement.{statement}
 use Rattle.soundness.proofs.related.Tie as tie
 
@@ -24,7 +25,7 @@ unfolding part
 all-permitted-requires c κs =
     let w = c .before .before .before .before .before .before .args .w .now in
     let p = c .before .before .before .before .before .before .pre in
-    (length-part w 3136 16384 (omega (arith, p .0)), (length-part w 19520 4096 (omega (arith, p .0)), (p .1 .0, p .1 .1)))
+    (length-part w locksAt locksSize (omega (arith, p .0)), (length-part w permitsAt permitsSize (omega (arith, p .0)), (p .1 .0, p .1 .1)))
 
 returns-2 : tie.Need-returns-2
 unfolding part

@@ -2,13 +2,15 @@
 use mathlib.Core.Path.{sym, _∙_}
 use mathlib.Core.Bool.{false≢true}
 use native.Mathlib.Omega.{arith}
-use Rattle.rules.proofs.BaseLaws.{no-true, not-true, not-false, both-ways}
+use Rattle.rules.proofs.BaseLaws.{no-true, both-ways}
+use Rattle.layout.specs.Codec.{changesAt, changesSize}
 use Rattle.cells.specs.Part.{part}
 use Rattle.cells.proofs.PartLaws.{length-part}
 use Rattle.sets.specs.Members.{members}
 use Rattle.soundness.proofs.CheckLaws.{header-asked, changes-asked, front-asked, back-asked, related-asked, passed}
 use Rattle.soundness.proofs.TestLaws.{fails, passes}
 use borrow.Author.Needs.{needs}
+use borrow.Author.Tests.{not-true, not-false}
 use Rattle.soundness.proofs.sound.Statement.{statement}
 use Rattle.soundness.proofs.sound.Tie as tie
 
@@ -21,7 +23,7 @@ unfolding part
 changes-requires c κs =
     let h = passes (c .before .before .before .header .ensures) (c .before .before .if1 .left) in
     let a = c .before .read-figures .ensures h in
-    (length-part (c .before .before .before .before .before .before .args .w .now) 1088 1024 (omega (arith, c .before .before .before .before .before .before .pre)), omega (arith, a .given, h .given-most))
+    (length-part (c .before .before .before .before .before .before .args .w .now) changesAt changesSize (omega (arith, c .before .before .before .before .before .before .pre)), omega (arith, a .given, h .given-most))
 
 returns-2 : tie.Need-returns-2
 unfolding part
@@ -32,7 +34,7 @@ unfolding part
 live-set-requires c κs =
     let h = passes (c .before .before .before .before .before .before .header .ensures) (c .before .before .before .before .before .if1 .left) in
     let a = c .before .before .before .before .read-figures .ensures h in
-    (length-part (c .before .before .before .before .before .before .before .before .before .args .w .now) 1088 1024 (omega (arith, c .before .before .before .before .before .before .before .before .before .pre)), omega (arith, a .given, h .given-most))
+    (length-part (c .before .before .before .before .before .before .before .before .before .args .w .now) changesAt changesSize (omega (arith, c .before .before .before .before .before .before .before .before .before .pre)), omega (arith, a .given, h .given-most))
 
 front-requires : tie.Need-front-requires
 unfolding part
