@@ -19,6 +19,7 @@ pub fn readings() -> Vec<Try> {
         ("the lowest of those not completed and those who lead", lowest_in_the_way()),
         ("a hand-over of permits and of the greater lock", greater_lock()),
         ("to initiated and completed changes", to_any_live_change()),
+        ("equal values are logged too", equal_values()),
         ("what an end releases", released()),
         ("an open anew", open_anew()),
         ("three walks against the order of the numbers", three_walks()),
@@ -338,6 +339,24 @@ fn released() -> Vec<Line> {
             (Write(2, 0, 6), 0, 0),
             (Abort(2), 0, 1),
             (Value(0), 0, 6),
+        ],
+    )
+}
+
+fn equal_values() -> Vec<Line> {
+    runs(
+        1,
+        2,
+        &[
+            (Lock(1, 0, 2), 0, 0),
+            (Permit(1, 2, 0, 2), 0, 0),
+            (Lock(2, 0, 2), 0, 0),
+            (Write(1, 0, 5), 0, 0),
+            (Write(2, 0, 5), 0, 0),
+            (Abort(1), 0, 1),
+            (Value(0), 0, 0),
+            (Abort(2), 0, 1),
+            (Value(0), 0, 5),
         ],
     )
 }
