@@ -10,7 +10,7 @@ use Rattle.rules.specs.Base.{anyBelow}
 use Rattle.rules.specs.Window.{TieRecord}
 use Rattle.rules.specs.Ties.{isGroup, isArrow, tied, grouped, acyclic}
 use Rattle.rules.proofs.BaseLaws.{or-left, or-cases, both-ways, anyBelow-none}
-use Rattle.rules.proofs.PathLaws.{Way, stay, on, way-join, Arrow, Arrows, one, more, acyclic-paths}
+use Rattle.rules.proofs.PathLaws.{Way, stay, on, Arrow, Arrows, one, more, extend, acyclic-paths}
 use Rattle.rules.proofs.SourceLaws.{grouped-both}
 use Rattle.layout.specs.Codec.{noTie, tieSection}
 use Rattle.layout.specs.Records.{endsBelow, tieAt}
@@ -18,14 +18,6 @@ use Rattle.layout.proofs.ReadLaws.{section-read, tied-place, tied-at}
 use Rattle.cycles.specs.Graph.{Graph, ownLabels, labelled, arrowAt, graphOf, edge, noCycle}
 use Rattle.cycles.proofs.LabelLaws.{Labels, labels-all, small-labels}
 use Rattle.cycles.proofs.CycleLaws.{Small, small-graph, edge-at, edge-place, no-cycle-ways}
-
--- an arrow goes on inside the group that it enters, and so does a path of arrows
-further : {ts : List TieRecord} {x y z : ℕ} → Arrow ts x y → Way (grouped ts) y z → Arrow ts x z
-further a w = record { leader = a .leader; follower = a .follower; leaves = a .leaves; tie = a .tie; enters = way-join (a .enters) w }
-
-extend : {ts : List TieRecord} {x y z : ℕ} → Arrows ts x y → Way (grouped ts) y z → Arrows ts x z
-extend (one a) w = one (further a w)
-extend (more p a) w = more p (further a w)
 
 -- ties in bytes, and the labels of their groups
 module _ (bs : List ℕ) (ts : List TieRecord) (m : ℕ) (bytes : (i : ℕ) → getD bs i 0 < 256) (len : length ts ≡ m) (is : bs ≡ tieSection ts) (room : 4 * m ≤ length bs) where
@@ -102,7 +94,7 @@ module _ (bs : List ℕ) (ts : List TieRecord) (m : ℕ) (bytes : (i : ℕ) → 
   -- a path of arrows goes on along a way from label to label
   way-arrows : {b c : ℕ} → Way (edge G m) b c → (x y z : ℕ) → y < 256 → z < 256 → label y ≡ b → label z ≡ c → Arrows ts x y → Arrows ts x z
   unfolding graphOf arrowAt
-  way-arrows stay x y z hy hz ly lz p = extend p (by-label .reach y z hy hz (ly ∙ sym lz))
+  way-arrows stay x y z hy hz ly lz p = extend ts p (by-label .reach y z hy hz (ly ∙ sym lz))
   way-arrows (on {b = d} {c = c} w e) x y z hy hz ly lz p =
       let s = edge-place G m d c e in
       more (way-arrows w x y (t (s .0) .leader) hy (leaders (s .0)) ly (s .3) p) (arrow-at (s .0) (s .1) (s .2) z hz (s .4 ∙ sym lz))

@@ -7,7 +7,7 @@ use native.Mathlib.Numerals.{add-one}
 use native.Mathlib.Omega.{arith}
 use lib.Dec.{ltb, eqb}
 use lib.ListN.{length, getD}
-use borrow.Author.Tests.{ltb-true, lt-ltb}
+use borrow.Author.Tests.{lt-ltb}
 use Rattle.rules.specs.Base.{anyBelow}
 use Rattle.rules.specs.Sets.{Set, only, closure, reach}
 use Rattle.rules.specs.Window.{TieRecord}
@@ -15,8 +15,7 @@ use Rattle.rules.specs.Ties.{isWait, isFall, isArrow}
 use Rattle.rules.specs.Effects.{leadsTo, leadersOf}
 use Rattle.rules.proofs.BaseLaws.{and-both, both-ways, any-intro, any-elim, eqb-sym, Same, same, other, same?}
 use Rattle.rules.proofs.ListLaws.{all-places, any-at, any-place}
-use Rattle.rules.proofs.TieLaws.{grouped-ends, falling-ends, leading-ends}
-use Rattle.rules.proofs.PathLaws.{Bounded, closure-bound}
+use Rattle.rules.proofs.PathLaws.{Bounded, closure-bound, grouped-bounded, falling-bounded, leading-bounded}
 use Rattle.layout.specs.Codec.{noTie, tieSection}
 use Rattle.layout.specs.Records.{endsBelow, tieAt}
 use Rattle.layout.proofs.ReadLaws.{section-read, section-ends}
@@ -33,9 +32,9 @@ section-below bs ts m bytes room len e = all-places (λ t. ltb t.leader 256 && l
 -- a bound on the ends bounds the relation
 relation-bounded : (along : Along) (n : ℕ) (ts : List TieRecord) → endsBelow n ts ≡ true → Bounded n (relation along ts)
 unfolding relation endsBelow
-relation-bounded Groups n ts h a b e = let m = grouped-ends (λ x. ltb x n) ts h a b e in (ltb-true a n (m .0), ltb-true b n (m .1))
-relation-bounded Falls n ts h a b e = let m = falling-ends (λ x. ltb x n) ts h a b e in (ltb-true a n (m .0), ltb-true b n (m .1))
-relation-bounded Arrows n ts h a b e = let m = leading-ends (λ x. ltb x n) ts h a b e in (ltb-true a n (m .0), ltb-true b n (m .1))
+relation-bounded Groups n ts h = grouped-bounded ts n h
+relation-bounded Falls n ts h = falling-bounded ts n h
+relation-bounded Arrows n ts h = leading-bounded ts n h
 
 -- the empty set with one added
 pub one-added : (c : ℕ) (o s : Set) → ((k : ℕ) → o k ≡ false) → ((k : ℕ) → s k ≡ eqb k c || o k) → s ≡ only c

@@ -1,7 +1,7 @@
 -- When one tie more lets a path of arrows return to its group, where none did: an arrow, where its follower leads to its leader;
 -- a group tie, where one of its ends leads to the other and not back. Assumes nothing.
 use mathlib.Core.Path.{_≡_, refl, sym, ap, _∙_}
-use mathlib.Core.Bool.{Bool, Bool·beq, true, false, not, _&&_, _||_}
+use mathlib.Core.Bool.{Bool, Bool·beq, true, false, not, _&&_, _||_, true≢false}
 use mathlib.Core.List.{List, [], _∷_}
 use mathlib.Core.Logic.{_⊎_, inl, inr, ⊎-elim}
 use Prim.Native.Nat.{ℕ, _<_, min, max, Ordering, Ordering·lt, Ordering·eq, Ordering·gt}
@@ -14,11 +14,12 @@ use Rattle.rules.specs.Window.{TieRecord, tieKey}
 use Rattle.rules.specs.Ties.{isGroup, isArrow, makeTie, addTie, tied, grouped, leading, acyclic}
 use Rattle.rules.proofs.BaseLaws.{or-left, or-right, or-cases, or-map, or-none, and-both, and-left, and-right, no-true, Below, under, over, below}
 use Rattle.rules.proofs.SortLaws.{all-insert}
+use Rattle.rules.proofs.TieLaws.{arrow-not-group}
 use Rattle.rules.proofs.PathLaws.{Way, stay, on, way-join, way-map, by-arrow, NoReturn, acyclic-clear, clear-acyclic}
 use Rattle.rules.proofs.DemandEnds.{tie-old, tie-new}
 use Rattle.layout.specs.Records.{endsBelow}
 use Rattle.graph.proofs.ReachLaws.{arrow-of}
-use Rattle.graph.proofs.WayLaws.{reached, unreached, Round, around, not-both, back-or-arrow}
+use Rattle.graph.proofs.WayLaws.{reached, unreached, Round, around, back-or-arrow}
 
 -- ONE TIE MORE
 any-inserted {ℓ} : {A : Type ℓ} (key : A → Key) (p : A → Bool) (x : A) (l : List A) → any p (insert key (λ t u. u) x l) ≡ true → (p x ≡ true) ⊎ (any p l ≡ true)
@@ -62,7 +63,7 @@ module _ (t : TieRecord) (ts : List TieRecord) (clear : NoReturn ts) where
   -- AN ARROW
   module _ (arrow : isArrow t.kind ≡ true) where
     arrow-step : (a b : ℕ) → leading (addTie t ts) a b ≡ true → (leading ts a b ≡ true) ⊎ ((t .leader ≡ a) × (t .follower ≡ b))
-    arrow-step a b e = ⊎-elim inl (⊎-elim inr (λ m. absurd (not-both t.kind arrow (m .0)))) (leading-added t ts a b e)
+    arrow-step a b e = ⊎-elim inl (⊎-elim inr (λ m. absurd (true≢false (sym (m .0) ∙ arrow-not-group t.kind arrow)))) (leading-added t ts a b e)
 
     -- it lets none return whose follower does not lead to its leader
     arrow-clear : (Way (leading ts) t.follower t.leader → ⊥) → NoReturn (addTie t ts)
@@ -90,7 +91,7 @@ module _ (t : TieRecord) (ts : List TieRecord) (clear : NoReturn ts) where
 
     -- no arrow is new
     old-arrow : (l f : ℕ) → tied (addTie t ts) isArrow l f ≡ true → tied ts isArrow l f ≡ true
-    old-arrow l f e = ⊎-elim (λ o. o) (λ m. absurd (not-both t.kind (m .0) group)) (tied-added t ts isArrow l f e)
+    old-arrow l f e = ⊎-elim (λ o. o) (λ m. absurd (true≢false (sym group ∙ arrow-not-group t.kind (m .0)))) (tied-added t ts isArrow l f e)
 
     -- it lets none return where neither end leads to the other
     apart-clear : (Way (leading ts) t.leader t.follower → ⊥) → (Way (leading ts) t.follower t.leader → ⊥) → NoReturn (addTie t ts)

@@ -2,14 +2,11 @@
 use mathlib.Core.Path.{_≡_, sym, _∙_}
 use mathlib.Core.Bool.{true, false, false≢true}
 use mathlib.Core.List.{List}
-use mathlib.Core.Logic.{_⊎_, inl, inr, ⊎-elim}
+use mathlib.Core.Logic.{_⊎_, inl, inr}
 use Prim.Native.Nat.{ℕ}
-use native.Mathlib.Omega.{arith}
-use lib.Dec.{eqb}
-use borrow.Author.Tests.{eqb-true}
 use Rattle.rules.specs.Sets.{Rel, reach}
 use Rattle.rules.specs.Window.{TieRecord}
-use Rattle.rules.specs.Ties.{isWait, isFall, isGroup, isArrow, tied, grouped, leading}
+use Rattle.rules.specs.Ties.{isArrow, tied, grouped, leading}
 use Rattle.rules.proofs.BaseLaws.{or-left, or-cases}
 use Rattle.rules.proofs.PathLaws.{Way, stay, on, way-join, Bounded, reach-ways, leading-bounded}
 use Rattle.rules.proofs.SourceLaws.{grouped-both}
@@ -51,11 +48,6 @@ module _ (r s : Rel) (In Out : ℕ → Type 0) (ways : (a b : ℕ) → s a b ≡
       go (inr m) (inr q) = inr (record { enter = m .enter; leave = w; goes = m .goes; comes = q .1; to = m .to; fro = stay })
 
 -- ARROWS ON THE WAY
--- a group tie is no arrow
-pub not-both : (k : ℕ) → isArrow k ≡ true → isGroup k ≡ true → ⊥
-unfolding isArrow isWait isFall isGroup
-not-both k a g = ⊎-elim (λ e. omega (arith, eqb-true k 1 e, eqb-true k 3 g)) (λ e. omega (arith, eqb-true k 2 e, eqb-true k 3 g)) (or-cases (eqb k 1) (eqb k 2) a)
-
 -- a path from x to y that goes along an arrow
 pub record Crossing (ts : List TieRecord) (x y : ℕ) : Type 0 where
   pub leader : ℕ

@@ -1,4 +1,4 @@
-// Groups, end sets and leaders of changes, read from the first `count` ties of a section.
+// Groups, end sets and leaders of changes, and whether a new tie would let a path return to its group: read from the first `count` ties of a section.
 use layout::Ties;
 use passes::is_arrow;
 use sets::Along;

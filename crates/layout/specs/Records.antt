@@ -6,18 +6,15 @@ use Prim.Native.Nat.{ℕ}
 use lib.Dec.{ltb}
 use lib.ListN.{getD, length}
 use Rattle.rules.specs.Base.{all}
-use Rattle.rules.specs.Window.{LogRecord, PermitRecord, TieRecord}
-use Rattle.layout.specs.Codec.{permitIn, tieIn, recordIn}
+use Rattle.rules.specs.Window.{PermitRecord, TieRecord}
+use Rattle.layout.specs.Codec.{permitIn, tieIn}
 
--- a permit, a tie and a log record at a place of their section
+-- a permit and a tie at a place of their section
 unfoldable pub permitAt : List ℕ → ℕ → PermitRecord
 permitAt bs j = permitIn (λ i. getD bs i 0) j
 
 unfoldable pub tieAt : List ℕ → ℕ → TieRecord
 tieAt bs j = tieIn (λ i. getD bs i 0) j
-
-unfoldable pub recordAt : List ℕ → ℕ → LogRecord
-recordAt bs j = recordIn (λ i. getD bs i 0) j
 
 -- a tie by its parts
 abbrev pub tieOf : ℕ → ℕ → ℕ → TieRecord

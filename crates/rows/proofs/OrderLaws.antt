@@ -1,4 +1,4 @@
--- Where a key belongs among rows in order, and what putting a row there makes of them. Assumes nothing.
+-- Keys and their ranks, the search by halves, and a row put behind, before or in place of another. Assumes nothing.
 use mathlib.Core.Path.{_≡_, refl, sym, ap}
 use mathlib.Core.Logic.{⊎-elim}
 use mathlib.Core.Bool.{true}

@@ -11,7 +11,7 @@ use Rattle.rules.specs.Ties.{grouped, groupOf}
 use Rattle.rules.specs.Calls.{Call, Open, fits}
 use Rattle.rules.specs.Effects.{endAll, addChange, handOver}
 use Rattle.rules.specs.Refusals.{step}
-use Rattle.rules.specs.Events.{Event, Action, opening, initiating, other as nothing, locking, permitting, delegating, tying, actionOf, action, isOpening, isTying, highestAfter}
+use Rattle.rules.specs.Events.{Event, Action, opening, initiating, other, locking, permitting, delegating, tying, actionOf, action, isOpening, isTying, highestAfter}
 use Rattle.rules.specs.Lists.{status, remember, event, history, tieMade, enter, strike, book, highest, isGrouped, firstOfGroup, liveGroups, walks, Demand3After, Demand3, final}
 use Rattle.rules.proofs.BaseLaws.{never, none-below, within-of, or-cases, and-both, and-left, and-right, any-intro, Within, count-within}
 use Rattle.rules.proofs.DemandBook.{bookOf, strike-same, book-next, clash-permitted}
@@ -36,7 +36,7 @@ is-opening : (d : Action) → isOpening d ≡ true → d ≡ opening
 unfolding isOpening
 is-opening opening e = refl
 is-opening initiating e = absurd (false≢true e)
-is-opening nothing e = absurd (false≢true e)
+is-opening other e = absurd (false≢true e)
 is-opening (locking c x m) e = absurd (false≢true e)
 is-opening (permitting g t x o) e = absurd (false≢true e)
 is-opening (delegating f t x) e = absurd (false≢true e)

@@ -7,17 +7,18 @@ use Prim.Native.Nat.{ℕ, suc, _≤_, _<_}
 use native.Mathlib.Omega.{arith}
 use lib.Dec.{eqb}
 use lib.ListN.{length}
-use borrow.Author.Tests.{eqb-true, ne-eqb}
+use borrow.Author.Tests.{eqb-true}
 use Rattle.rules.specs.Base.{any}
 use Rattle.rules.specs.Sets.{Set}
 use Rattle.rules.specs.Window.{Window, fresh, isEnded, live, noChange}
-use Rattle.rules.specs.Ties.{isWait, isFall, isArrow, tied, grouped}
+use Rattle.rules.specs.Ties.{isWait, isFall, isArrow, tied, grouped, isGroup}
 use Rattle.rules.specs.Events.{Event, action, isTying}
 use Rattle.rules.specs.Lists.{status, endedAs, endedAt, tieMade, Grouped, itself, along, against}
 use Rattle.rules.proofs.BaseLaws.{or-right, or-cases, and-left, and-right, cond-same, Same, same, other, same?}
 use Rattle.rules.proofs.DemandEnds.{Ending, how-ended, grouped-stays, New, ofKind}
 use Rattle.rules.proofs.DemandMoves.{shownStatus, ended-0, ended-4, ended-5, live-unended, live-not}
 use Rattle.rules.proofs.SourceLaws.{grouped-both}
+use Rattle.rules.proofs.TieLaws.{arrow-not-group}
 
 -- what an arrow's leader has come to when its follower may commit
 unfoldable pub passes : ℕ → ℕ → Bool
@@ -70,10 +71,6 @@ as-kept e p c h = go (same? (endedAt p c) 0)
 as-first : (e : Event) (p : List Event) (c : ℕ) → endedAt p c ≡ 0 → isEnded (e .status c) ≡ true → endedAs (e ∷ p) c ≡ e .status c
 unfolding endedAs
 as-first e p c h k = rw (h, k)
-
-arrow-kind : (k : ℕ) → isArrow k ≡ true → eqb k 3 ≡ false
-unfolding isArrow isWait isFall
-arrow-kind k e = ne-eqb k 3 (λ q. false≢true (rw q at e))
 
 module _ (W X : Window) (s : Set) (how : ℕ) (P : Ending W X s how) (p : List Event) (S : TieHistory W p) (e : Event) (shows : (c : ℕ) → e .status c ≡ shownStatus X c) where
   -- a change before and after the call
@@ -188,7 +185,7 @@ module _ (W X : Window) (s : Set) (how : ℕ) (P : Ending W X s how) (p : List E
       yet = yet-next;
       lasts = lasts-next;
       bound = λ l f h. ⊎-elim (λ q. let n = new 3 l f q in stands (n .lead) (n .follow) (n .group refl)) (λ q. bound-next l f (S .bound l f q)) (or-cases (isTying 3 l f (action e)) _ h);
-      drawn = λ k l f r h. ⊎-elim (λ q. let n = new k l f q in stands (n .lead) (n .follow) (n .arrow (arrow-kind k r))) (λ q. led-next k l f r (S .drawn k l f r q)) (or-cases (isTying k l f (action e)) _ h);
+      drawn = λ k l f r h. ⊎-elim (λ q. let n = new k l f q in stands (n .lead) (n .follow) (n .arrow (unfold isGroup in arrow-not-group k r))) (λ q. led-next k l f r (S .drawn k l f r q)) (or-cases (isTying k l f (action e)) _ h);
     }
 
 -- the window that an open has left

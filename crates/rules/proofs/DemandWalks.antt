@@ -17,7 +17,7 @@ use Rattle.rules.specs.Calls.{Call, Commit, done, unchanged}
 use Rattle.rules.specs.Effects.{effect, commitChange, commitBlockers, commitGroup, tiesLeft, endAll, leadsTo, leadersOf}
 use Rattle.rules.specs.Refusals.{step, settle, checks, firstFailed, _if_}
 use Rattle.rules.specs.Lists.{final, walks}
-use Rattle.rules.proofs.BaseLaws.{never, none-below, or-none, or-cases, and-both, and-left, and-right, Same, same, other, same?, any-intro, Within, count-within, count-same}
+use Rattle.rules.proofs.BaseLaws.{no-true, never, none-below, or-none, or-cases, and-both, and-left, and-right, Same, same, other, same?, any-intro, Within, count-within, count-same}
 use Rattle.rules.proofs.BoundLaws.{lowest-hit, lowest-below}
 use Rattle.rules.proofs.DemandEnds.{Ending, grouped-stays, commit-ending}
 use Rattle.rules.proofs.DemandMoves.{shownStatus, ended-4, live-unended, live-status, not-ended}
@@ -77,27 +77,15 @@ module _ (L : Limits) (W : Window) (z : Sound L W) where
     unfolding X live endAll putAll outside
     out d h = go (groupOf W c d) refl h
       where
-        dead : (a : Bool) → a && false ≡ true → ⊥
-        dead true e = false≢true e
-        dead false e = false≢true e
-
         go : (b : Bool) → groupOf W c d ≡ b → ltb d (suc (W .given)) && not (outside 1 3 (cond b 4 (W .status d))) ≡ true → (groupOf W c d ≡ false) × (live W d ≡ true)
-        go true e q = absurd (dead (ltb d (suc (W .given))) q)
+        go true e q = absurd (false≢true (and-right (ltb d (suc (W .given))) false q))
         go false e q = (e, q)
 
     not-in : (a b : ℕ) → live W a ≡ true → live W b ≡ true → groupOf W c a ≡ false → groupOf W a b ≡ true → groupOf W c b ≡ false
-    not-in a b la lb n g = go (groupOf W c b) refl
-      where
-        go : (x : Bool) → groupOf W c b ≡ x → x ≡ false
-        go true e = absurd (true≢false (sym (group-through c b a la e (group-back a b la lb g)) ∙ n))
-        go false e = refl
+    not-in a b la lb n g = no-true (groupOf W c b) (λ e. true≢false (sym (group-through c b a la e (group-back a b la lb g)) ∙ n))
 
     not-next : (a b : ℕ) → live W a ≡ true → live W b ≡ true → groupOf W c a ≡ false → grouped (W .ties) a b ≡ true → groupOf W c b ≡ false
-    not-next a b la lb n g = go (groupOf W c b) refl
-      where
-        go : (x : Bool) → groupOf W c b ≡ x → x ≡ false
-        go true e = absurd (true≢false (sym (P .together b a lb la (grouped-both (W .ties) a b g) e) ∙ n))
-        go false e = refl
+    not-next a b la lb n g = no-true (groupOf W c b) (λ e. true≢false (sym (P .together b a lb la (grouped-both (W .ties) a b g) e) ∙ n))
 
     still-step : (a x y : ℕ) → x < suc (W .given) → y < suc (W .given) → groupOf X a x ≡ true → grouped (X .ties) x y ≡ true → groupOf X a y ≡ true
     unfolding groupOf X endAll tiesLeft

@@ -9,11 +9,11 @@ use borrow.Author.Tests.{ltb-true, eqb-true}
 use Rattle.rules.specs.Base.{all}
 use Rattle.rules.specs.Sets.{Set, Rel, only, closure, reach}
 use Rattle.rules.specs.Window.{TieRecord}
-use Rattle.rules.specs.Ties.{isArrow, tied, grouped, leading, acyclic}
+use Rattle.rules.specs.Ties.{isArrow, tied, grouped, falling, leading, acyclic}
 use Rattle.rules.proofs.BaseLaws.{or-left, or-right, or-cases, and-left, and-right, eqb-same, both-ways, no-true}
 use Rattle.rules.proofs.ListLaws.{all-members, find}
 use Rattle.rules.proofs.SetLaws.{closure-to, closure-holds, closure-closed, reach-to}
-use Rattle.rules.proofs.TieLaws.{leading-ends, stands-tied}
+use Rattle.rules.proofs.TieLaws.{grouped-ends, falling-ends, leading-ends, stands-tied}
 
 -- a path along a relation, of any number of steps
 pub data Way (r : Rel) (a : ℕ) : ℕ → Type 0 where
@@ -87,17 +87,21 @@ module _ (ts : List TieRecord) where
   across : {x y : ℕ} → Arrow ts x y → Way (leading ts) x y
   across a = way-join (on (way-map by-group (a .leaves)) (by-arrow _ _ (a .tie))) (way-map by-group (a .enters))
 
-  -- a path of arrows goes on inside the last group, and along one more arrow
-  in-group : {x y z : ℕ} → Arrows ts x y → grouped ts y z ≡ true → Arrows ts x z
-  in-group (one a) g = one (record { leader = a .leader; follower = a .follower; leaves = a .leaves; tie = a .tie; enters = on (a .enters) g })
-  in-group (more p a) g = more p (record { leader = a .leader; follower = a .follower; leaves = a .leaves; tie = a .tie; enters = on (a .enters) g })
+  -- an arrow goes on inside the group that it enters, and so does a path of arrows
+  inside : {x y z : ℕ} → Arrow ts x y → Way (grouped ts) y z → Arrow ts x z
+  inside a w = record { leader = a .leader; follower = a .follower; leaves = a .leaves; tie = a .tie; enters = way-join (a .enters) w }
 
+  pub extend : {x y z : ℕ} → Arrows ts x y → Way (grouped ts) y z → Arrows ts x z
+  extend (one a) w = one (inside a w)
+  extend (more p a) w = more p (inside a w)
+
+  -- along any path of ties
   further : {x y z : ℕ} → Arrows ts x y → Way (leading ts) y z → Arrows ts x z
   further p stay = p
   further p (on {b = u} {c = w} q e) = go (either-way u w e) (further p q)
     where
       go : {x : ℕ} → (grouped ts u w ≡ true) ⊎ (tied ts isArrow u w ≡ true) → Arrows ts x u → Arrows ts x w
-      go (inl g) r = in-group r g
+      go (inl g) r = extend r (on stay g)
       go (inr t) r = more r (record { leader = u; follower = w; leaves = stay; tie = t; enters = stay })
 
   -- its first arrow, and the way from there
@@ -106,8 +110,18 @@ module _ (ts : List TieRecord) where
   first (more p a) = let m = first p in (m .0, m .1, m .2, m .3, way-join (m .4) (across a))
 
   module _ (n : ℕ) (ends : all (λ t. ltb t.leader n && ltb t.follower n) ts ≡ true) where
+    -- a bound on the ends of ties bounds what they tie
+    bounded : {r : Rel} → ((a b : ℕ) → r a b ≡ true → (ltb a n ≡ true) × (ltb b n ≡ true)) → Bounded n r
+    bounded f a b e = let m = f a b e in (ltb-true a n (m .0), ltb-true b n (m .1))
+
+    pub grouped-bounded : Bounded n (grouped ts)
+    grouped-bounded = bounded (grouped-ends (λ x. ltb x n) ts ends)
+
+    pub falling-bounded : Bounded n (falling ts)
+    falling-bounded = bounded (falling-ends (λ x. ltb x n) ts ends)
+
     pub leading-bounded : Bounded n (leading ts)
-    leading-bounded a b e = let m = leading-ends (λ x. ltb x n) ts ends a b e in (ltb-true a n (m .0), ltb-true b n (m .1))
+    leading-bounded = bounded (leading-ends (λ x. ltb x n) ts ends)
 
     -- acyclic ties have none that returns
     pub acyclic-clear : acyclic n ts ≡ true → NoReturn ts

@@ -6,9 +6,9 @@ use mathlib.Core.Bool.{Bool, true, false, not, cond, _&&_, false≢true, true≢
 use mathlib.Core.List.{List, [], _∷_, List·Memᴰ}
 use Prim.Native.Nat.{ℕ, suc}
 use native.Mathlib.Omega.{arith}
-use lib.Dec.{ltb, eqb}
+use lib.Dec.{eqb}
 use lib.ListN.{length}
-use borrow.Author.Tests.{ltb-true, not-true, not-false, eqb-false, eqb-true}
+use borrow.Author.Tests.{not-true, not-false, eqb-false, eqb-true}
 use Rattle.rules.specs.Base.{put, exceeds, anyBelow, any}
 use Rattle.rules.specs.Sets.{Set, putAll}
 use Rattle.rules.specs.Window.{Limits, LogRecord, TieRecord, Window, tieKey, withValue, live, isEnded}
@@ -20,24 +20,24 @@ use Rattle.rules.specs.Refusals.{checks, firstFailed, _if_, settle, step
 use Rattle.rules.proofs.BaseLaws.{or-cases, or-none, and-both, and-left, and-right, none-below, anyBelow-none}
 use Rattle.rules.proofs.DemandMoves.{live-status, not-ended}
 use Rattle.rules.proofs.ListLaws.{any-find, any-weaken}
-use Rattle.rules.proofs.PathLaws.{Way, reach-ways, Arrows, acyclic-paths}
+use Rattle.rules.proofs.PathLaws.{Way, reach-ways, Arrows, grouped-bounded, falling-bounded, acyclic-paths}
 use Rattle.rules.proofs.SortLaws.{insert-standing}
 use Rattle.rules.proofs.SoundLock.{grant}
 use Rattle.rules.proofs.SoundParts.{Sound, live-below, live-change, ends-below, ends-live}
 use Rattle.rules.proofs.SoundStep.{group-live}
-use Rattle.rules.proofs.TieLaws.{tied-ends, grouped-ends, falling-ends, stands-tied}
+use Rattle.rules.proofs.TieLaws.{tied-ends, stands-tied}
 
 -- of a sound window
 module _ (L : Limits) (W : Window) (z : Sound L W) where
   -- "A group is a live change with all that group ties reach from it"
   pub group-ways : (c d : ℕ) → groupOf W c d ≡ true ↔ Way (grouped W.ties) c d
   unfolding groupOf
-  group-ways = reach-ways (suc W.given) (grouped W.ties) (λ a b e. let m = grouped-ends (λ x. ltb x (suc W.given)) W.ties (ends-below W (z .ties)) a b e in (ltb-true a _ (m .0), ltb-true b _ (m .1)))
+  group-ways = reach-ways (suc W.given) (grouped W.ties) (grouped-bounded W.ties (suc W.given) (ends-below W (z .ties)))
 
   -- "the least set that holds the change and is closed under group ties either way and under fall ties from leader to follower"
   pub end-ways : (c d : ℕ) → endSet W c d ≡ true ↔ Way (falling W.ties) c d
   unfolding endSet
-  end-ways = reach-ways (suc W.given) (falling W.ties) (λ a b e. let m = falling-ends (λ x. ltb x (suc W.given)) W.ties (ends-below W (z .ties)) a b e in (ltb-true a _ (m .0), ltb-true b _ (m .1)))
+  end-ways = reach-ways (suc W.given) (falling W.ties) (falling-bounded W.ties (suc W.given) (ends-below W (z .ties)))
 
   -- "no path of arrows returns to its group"
   pub no-return : (x : ℕ) → Arrows W.ties x x → ⊥

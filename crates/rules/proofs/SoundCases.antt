@@ -55,6 +55,7 @@ faults =
     ∷ withTies good (tie1 3 2 3 ∷ tie1 1 1 2 ∷ []) ∷ withTies good (tie1 1 1 2 ∷ tie1 1 1 2 ∷ []) ∷ withTies good (tie1 3 3 2 ∷ []) ∷ withTies good (tie1 1 2 2 ∷ [])
     ∷ withTies good (tie1 0 1 2 ∷ []) ∷ withTies good (tie1 4 1 2 ∷ []) ∷ withTies good (tie1 1 0 2 ∷ []) ∷ withTies good (tie1 1 1 4 ∷ [])
     ∷ withTies good (tie1 1 1 2 ∷ tie1 2 2 1 ∷ []) ∷ withTies good (tie1 1 1 2 ∷ tie1 2 3 1 ∷ tie1 3 2 3 ∷ []) ∷ withTies good (tie1 1 2 3 ∷ tie1 3 2 3 ∷ [])
+    ∷ withPermits good (makePermit 1 0 0 2 ∷ makePermit 1 2 0 1 ∷ makePermit 1 3 0 1 ∷ makePermit 2 1 0 1 ∷ []) ∷ withTies good (tie1 1 1 2 ∷ tie1 1 1 3 ∷ tie1 2 1 2 ∷ tie1 3 2 3 ∷ [])
     ∷ []
 
 -- it is sound, also where 2 writes, since anybody may write beside 1; no fault is
@@ -62,6 +63,6 @@ pub good-sound : map (sound small) (good ∷ withHeld good (put2 good.held 0 2 2
 unfolding rules sound parts valueSound statusSound parentSound heldSound recordSound permitSound tieSound
 good-sound = refl
 
-pub faults-refused : map (sound small) faults ≡ replicate 49 false
+pub faults-refused : map (sound small) faults ≡ replicate 51 false
 unfolding rules sound parts valueSound statusSound parentSound heldSound recordSound permitSound tieSound
 faults-refused = refl

@@ -46,9 +46,9 @@ module _ (L : Limits) (W : Window) (c e m : ℕ) (k : Sound L W)
   unfolding pairPermitted putHeld withHeld put2
   lock-pair x a b = go (same? x e) (same? a c) (same? b c)
     where
-      four : (p q r s : Bool) → q ≡ true → p || q || r || s ≡ true
-      four true q r s h = refl
-      four false q r s h = rw h
+      second : (p q r s : Bool) → q ≡ true → p || q || r || s ≡ true
+      second true q r s h = refl
+      second false q r s h = rw h
 
       third : (p q r s : Bool) → r ≡ true → p || q || r || s ≡ true
       third p q r s h = or-left (p || q || r) s (or-right (p || q) r h)
@@ -60,9 +60,9 @@ module _ (L : Limits) (W : Window) (c e m : ℕ) (k : Sound L W)
       go (same i) (other n) (other o) = k .locks x a b
       go (same i) (same j) (same l) = or-left _ _ (or-left _ _ (or-left (eqb a b) _ (rw (j, l) (eqb-same c))))
       go (same i) (same j) (other o) = ⊎-elim
-          (λ f. four (eqb a b) _ _ _ (rw (i, clash-swap m) f))
+          (λ f. second (eqb a b) _ _ _ (rw (i, clash-swap m) f))
           (λ f. or-right (eqb a b || not (clash m (W .held x b)) || permitted W.permits a b x (W .held x b)) _ (rw (i, j) f)) (grant L W k c e m free b o)
-      go (same i) (other n) (same l) = ⊎-elim (λ f. four (eqb a b) _ _ _ (rw i f)) (λ f. third (eqb a b) _ _ _ (rw (i, l) f)) (grant L W k c e m free a n)
+      go (same i) (other n) (same l) = ⊎-elim (λ f. second (eqb a b) _ _ _ (rw i f)) (λ f. third (eqb a b) _ _ _ (rw (i, l) f)) (grant L W k c e m free a n)
 
   lock-held : (x d : ℕ) → heldSound W.entries (live W) (putHeld W e c m .held) x d ≡ true
   unfolding heldSound putHeld withHeld put2

@@ -1,19 +1,24 @@
 -- Ties: who is at their ends, and that fewer of them, or more changes, close no cycle. Assumes nothing.
 use mathlib.Core.Path.{_≡_, refl}
 use mathlib.Core.Logic.{⊎-elim}
-use mathlib.Core.Bool.{Bool, true, false, not, _&&_, _||_}
+use mathlib.Core.Bool.{Bool, true, false, not, _&&_, _||_, false≢true}
 use mathlib.Core.List.{List, List·Memᴰ}
 use Prim.Native.Nat.{ℕ, suc, _<_}
 use native.Mathlib.Omega.{arith}
 use lib.Dec.{ltb, eqb}
-use borrow.Author.Tests.{ltb-true, eqb-true}
+use borrow.Author.Tests.{ltb-true, eqb-true, ne-eqb}
 use Rattle.rules.specs.Base.{all, keep}
 use Rattle.rules.specs.Sets.{Set, Rel, reach}
 use Rattle.rules.specs.Window.{TieRecord, Window}
-use Rattle.rules.specs.Ties.{isGroup, isArrow, isFall, tied, grouped, falling, leading, acyclic, groupOf}
+use Rattle.rules.specs.Ties.{isGroup, isArrow, isWait, isFall, tied, grouped, falling, leading, acyclic, groupOf}
 use Rattle.rules.proofs.BaseLaws.{or-cases, or-map, and-left, and-right, eqb-same, Within}
 use Rattle.rules.proofs.ListLaws.{all-weaken, all-and, all-keep, all-members, any-member, any-keep, find}
 use Rattle.rules.proofs.SetLaws.{reach-seed, reach-closed, reach-least}
+
+-- a group tie is no arrow
+pub arrow-not-group : (k : ℕ) → isArrow k ≡ true → isGroup k ≡ false
+unfolding isArrow isWait isFall isGroup
+arrow-not-group k e = ne-eqb k 3 (λ q. false≢true (rw q at e))
 
 -- kind 3 is the group's
 pub group-is : (k : ℕ) → k ≡ 3 → isGroup k ≡ true
@@ -68,15 +73,16 @@ leading-keep q ts a b = or-map _ _ _ _ (or-map _ _ _ _ (any-keep _ q ts) (any-ke
 pub reach-fewer : (n : ℕ) (r s : Rel) → ((a b : ℕ) → r a b ≡ true → s a b ≡ true) → (c : ℕ) → Within n (reach n r c) (reach n s c)
 reach-fewer n r s f c = reach-least n r c (reach n s c) (reach-seed n s c) (λ d e hd he p q. reach-closed n s c d e hd he p (f d e q))
 
-not-both : (a b : Bool) → (b ≡ true → a ≡ true) → not a ≡ true → not b ≡ true
-not-both a true f e = rw (f refl) at e
-not-both a false f e = refl
+-- what a test follows from fails with it
+contrary : (a b : Bool) → (b ≡ true → a ≡ true) → not a ≡ true → not b ≡ true
+contrary a true f e = rw (f refl) at e
+contrary a false f e = refl
 
 pub acyclic-keep : (n : ℕ) (q : TieRecord → Bool) (ts : List TieRecord) → all (λ t. ltb t.leader n) ts ≡ true → acyclic n ts ≡ true → acyclic n (keep q ts) ≡ true
 unfolding acyclic
 acyclic-keep n q ts b e = all-keep (λ t. ltb t.leader n && (not (isArrow t.kind) || not (reach n (leading ts) t.follower t.leader))) q
     (λ t. not (isArrow t.kind) || not (reach n (leading (keep q ts)) t.follower t.leader))
-    (λ t p x. or-map (not (isArrow t.kind)) _ (not (isArrow t.kind)) _ (λ y. y) (not-both _ _ (reach-fewer n (leading (keep q ts)) (leading ts) (leading-keep q ts) t.follower t.leader (ltb-true t.leader n (and-left (ltb t.leader n) _ p)))) (and-right (ltb t.leader n) _ p))
+    (λ t p x. or-map (not (isArrow t.kind)) _ (not (isArrow t.kind)) _ (λ y. y) (contrary _ _ (reach-fewer n (leading (keep q ts)) (leading ts) (leading-keep q ts) t.follower t.leader (ltb-true t.leader n (and-left (ltb t.leader n) _ p)))) (and-right (ltb t.leader n) _ p))
     ts (all-and _ _ ts b e)
 
 -- one more change, to which no tie goes, closes no cycle
@@ -85,7 +91,7 @@ unfolding acyclic
 acyclic-more n ts b e = all-weaken (λ t. (ltb t.leader n && ltb t.follower n) && (not (isArrow t.kind) || not (reach n (leading ts) t.follower t.leader)))
     (λ t. not (isArrow t.kind) || not (reach (suc n) (leading ts) t.follower t.leader))
     (λ t p. or-map (not (isArrow t.kind)) _ (not (isArrow t.kind)) _ (λ y. y)
-    (not-both _ _ (go t (ltb-true t.leader n (and-left (ltb t.leader n) (ltb t.follower n) (and-left (ltb t.leader n && ltb t.follower n) _ p))))) (and-right (ltb t.leader n && ltb t.follower n) _ p))
+    (contrary _ _ (go t (ltb-true t.leader n (and-left (ltb t.leader n) (ltb t.follower n) (and-left (ltb t.leader n && ltb t.follower n) _ p))))) (and-right (ltb t.leader n && ltb t.follower n) _ p))
     ts (all-and _ _ ts b e)
   where
     go : (t : TieRecord) → t .leader < n → reach (suc n) (leading ts) t.follower t.leader ≡ true → reach n (leading ts) t.follower t.leader ≡ true

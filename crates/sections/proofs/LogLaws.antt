@@ -9,12 +9,12 @@ use lib.ListN.{getD, length, replicate}
 use borrow.Author.Tests.{eqb-true, lt-ltb}
 use Rattle.rules.specs.Base.{allBelow, table}
 use Rattle.rules.specs.Sets.{Set}
+use Rattle.rules.specs.Window.{LogRecord}
 use Rattle.rules.specs.Sound.{recordSound}
 use Rattle.rules.proofs.BaseLaws.{allBelow-at, allBelow-intro}
 use Rattle.rules.proofs.ListLaws.{all-at, all-table}
 use Rattle.rules.proofs.SoundParts.{record-parts}
-use Rattle.layout.specs.Codec.{byte, join4, noRecord, recordBytes, logByte, logSection, lockSection}
-use Rattle.layout.specs.Records.{recordAt}
+use Rattle.layout.specs.Codec.{byte, join4, recordIn, noRecord, recordBytes, logByte, logSection, lockSection}
 use Rattle.layout.proofs.RecordLaws.{placed, place-at, places-again, places-rest, first-byte}
 use Rattle.layout.proofs.SectionLaws.{Bytes, length-table}
 use Rattle.cells.specs.Part.{byteIs}
@@ -25,6 +25,10 @@ use Rattle.sections.specs.Cells.{writes, recordFits}
 use Rattle.sections.specs.Sections.{LocksSound, LogSound}
 use Rattle.sections.proofs.ByteLaws.{join4-below, byte-join4}
 use Rattle.sections.proofs.LockLaws.{held-live}
+
+-- the log record at a place of its section
+abbrev recordAt : List ℕ → ℕ → LogRecord
+recordAt bs = recordIn (λ i. getD bs i 0)
 
 -- a writer's bit is the write lock
 writes-held : (locks : List ℕ) (held : ℕ → ℕ → ℕ) → locks ≡ lockSection held → (e c : ℕ) → e < 256 → c < 256 → writes locks e c ≡ eqb (held e c) 2
@@ -46,7 +50,7 @@ module _ (bs : List ℕ) (b : Bytes bs) (size : length bs ≡ 12288) (n : ℕ) (
 
   -- the record at a place has the bytes of the place
   whole : (j k : ℕ) → k < 6 → getD (recordBytes (recordAt bs j)) k 0 ≡ getD bs (j * 6 + k) 0
-  unfolding recordBytes recordAt
+  unfolding recordBytes
   whole j zero l = first-byte (λ i. getD bs i 0) (j * 6)
   whole j (suc zero) l = refl
   whole j (suc (suc zero)) l = byte-join4 (λ k. getD bs (j * 6 + (k + 2)) 0) (λ k. b (j * 6 + (k + 2))) 0 (omega arith)
@@ -56,7 +60,7 @@ module _ (bs : List ℕ) (b : Bytes bs) (size : length bs ≡ 12288) (n : ℕ) (
   whole j (suc (suc (suc (suc (suc (suc k)))))) l = absurd (omega arith)
 
   record-fine : (j : ℕ) → recordFits bs locks j ≡ true → recordSound entries lives (z .held) (recordAt bs j) ≡ true
-  unfolding recordFits recordSound recordAt
+  unfolding recordFits recordSound
   record-fine j h =
       let o = getD bs (j * 6) 0 in
       let e = getD bs (j * 6 + 1) 0 in
