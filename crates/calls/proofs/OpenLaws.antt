@@ -14,10 +14,11 @@ use Rattle.rules.specs.Effects.{effect}
 use Rattle.rules.specs.Refusals.{_if_, checks, firstFailed, settle, step}
 use Rattle.rules.proofs.BaseLaws.{Below, under, over, below, no-true, both-ways, over-false, over-true}
 use Rattle.layout.specs.Codec.{windowSize, encode}
-use Rattle.layout.specs.Memory.{long, handBack, perform}
+use Rattle.layout.specs.Memory.{long, perform}
 use Rattle.layout.proofs.MemoryLaws.{perform-short, perform-still, open-answered, open-numbered, opened-bytes}
 use Rattle.replies.specs.declared.Reply.{Reply}
 use Rattle.replies.specs.Gives.{Gives}
+use Rattle.replies.proofs.GiveLaws.{handed-back}
 
 -- a figure above a bound, by clauses and as a comparison
 exceeds-ltb : (m n : ℕ) → exceeds m n ≡ ltb n m
@@ -38,8 +39,8 @@ module _ (mem : List ℕ) (n : ℕ) where
       go false = refl
 
   pub open-short : length mem < windowSize → (r : Reply) → (r .answer ≡ 1) × (r .number ≡ 0) → Gives (perform mem (Open n)) r mem
-  unfolding long handBack
-  open-short h r e = rw (perform-short mem (Open n) (no-true (leb windowSize (length mem)) (λ q. omega (arith, leb-true windowSize (length mem) q)))) (record { answer = e .0; number = e .1; bytes = refl })
+  unfolding long
+  open-short h r e = rw (perform-short mem (Open n) (no-true (leb windowSize (length mem)) (λ q. omega (arith, leb-true windowSize (length mem) q)))) (handed-back mem 1 r e)
 
   module _ (room : windowSize ≤ length mem) where
     is-long : long mem ≡ true

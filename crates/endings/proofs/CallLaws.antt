@@ -27,7 +27,7 @@ use Rattle.layout.proofs.MemoryLaws.{bytes-sound}
 use Rattle.rules.proofs.BoundLaws.{any-bound, lowest-bound, count-bound}
 use Rattle.replies.specs.declared.Reply.{Reply}
 use Rattle.replies.specs.Gives.{Gives, written}
-use Rattle.replies.proofs.GiveLaws.{left, looked, unrefused}
+use Rattle.replies.proofs.GiveLaws.{left, looked, unrefused, given-done}
 use Rattle.reads.proofs.ReadLaws.{changes-known, ties-known}
 use Rattle.ended.proofs.EndLaws.{undo-sound}
 
@@ -141,10 +141,10 @@ module _ (bs : List ℕ) (s : soundBytes bs ≡ true) where
 
       pub commit-ends : (empty : Bool) → empty ≡ not (anyBelow 256 b) → empty ≡ true → (count : ℕ) → count ≡ countBelow 256 g → (r : Reply) → (r .answer ≡ 0) × (r .number ≡ count) → (after : List ℕ) → after ≡ encode (endAll 4 g (decode bs))
           → Gives (written (effect (decode bs) (Commit c))) r after
-      unfolding effect commitChange commitGroup written done
+      unfolding effect commitChange commitGroup
       commit-ends empty x y count k r a after w =
           let t = sym any-blocks ∙ not-true (anyBelow 256 b) (sym x ∙ y) in
-          not-ended c st e 4 5 _ n m (rw (← is) (rw t (record { answer = a .0; number = a .1 ∙ k ∙ all-counted g group-lives; bytes = w })))
+          not-ended c st e 4 5 _ n m (rw (← is) (rw t (given-done _ _ r after (a .0, a .1 ∙ k ∙ all-counted g group-lives) w)))
 
   -- ABORT
   module _ (c st : ℕ) (q : firstFailed (checks limits (decode bs) (Abort c)) ≡ 0) (e : st ≡ decode bs .status c) (n : st ≢ 5) (m : st ≢ 4) (g : Set) (is : g ≡ endSet (decode bs) c) where
@@ -153,9 +153,6 @@ module _ (bs : List ℕ) (s : soundBytes bs ≡ true) where
 
     pub abort-done : (mid : List ℕ) → mid ≡ encode (withValue (decode bs) (undo g (decode bs .log) (decode bs .value))) → (count : ℕ) → count ≡ countBelow 256 g → (r : Reply) → (r .answer ≡ 0) × (r .number ≡ count)
         → (after : List ℕ) → after ≡ encode (endAll 5 g (decode mid)) → Gives (written (effect (decode bs) (Abort c))) r after
-    unfolding effect abortChange abortAll written done
-    abort-done mid u count k r a after w = not-ended c st e 5 4 _ n m (rw (← is) (record {
-      answer = a .0;
-      number = a .1 ∙ k ∙ all-counted g end-lives;
-      bytes = w ∙ ap (λ (W : Window). encode (endAll 5 g W)) (ap decode u ∙ sound-again _ (undo-sound bs s g));
-    }))
+    unfolding effect abortChange abortAll
+    abort-done mid u count k r a after w = not-ended c st e 5 4 _ n m (rw (← is)
+        (given-done _ _ r after (a .0, a .1 ∙ k ∙ all-counted g end-lives) (w ∙ ap (λ (W : Window). encode (endAll 5 g W)) (ap decode u ∙ sound-again _ (undo-sound bs s g)))))

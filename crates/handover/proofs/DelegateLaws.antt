@@ -23,7 +23,7 @@ use Rattle.sets.specs.Entries.{onEntries}
 use Rattle.sets.proofs.EntryLaws.{on-named}
 use Rattle.replies.specs.declared.Reply.{Reply}
 use Rattle.replies.specs.Gives.{Gives, written}
-use Rattle.replies.proofs.GiveLaws.{turned-back, let-through}
+use Rattle.replies.proofs.GiveLaws.{turned-back, let-through, given-done}
 use Rattle.reads.proofs.ReadLaws.{change-fits, entry-fits}
 use Rattle.pair_refusals.proofs.PairLaws.{stopped, went-on, delegate-passed}
 
@@ -84,9 +84,6 @@ module _ (bs : List ℕ) (s : soundBytes bs ≡ true) (f t e code : ℕ) (is : c
         rw l (turned-back bs s (Delegate f t e) 10 r (rw h at last-failed) (omega arith) a)
 
     pub handed-over : b ≡ true → (r .answer ≡ 0) × (r .number ≡ 0) → Gives (written (step limits (decode bs) (Delegate f t e))) r after
-    unfolding written effect done
-    handed-over h a = let-through (decode bs) (Delegate f t e) 0 (rw h at last-failed) refl (λ q. record {
-      answer = a .0;
-      number = a .1;
-      bytes = (rw h at left) ∙ ap (λ on. encode (handOver (decode bs) f t on)) on-named-entries;
-    })
+    unfolding effect
+    handed-over h a = let-through (decode bs) (Delegate f t e) 0 (rw h at last-failed) refl
+        (λ q. given-done 0 _ r after a ((rw h at left) ∙ ap (λ on. encode (handOver (decode bs) f t on)) on-named-entries))

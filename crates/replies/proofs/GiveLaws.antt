@@ -31,8 +31,7 @@ module _ (bs : List ℕ) (s : soundBytes bs ≡ true) where
 
   -- done, and nothing changed
   pub looked : (k : ℕ) (r : Reply) → (r .answer ≡ 0) × (r .number ≡ k) → Gives (written (done k (decode bs))) r bs
-  unfolding written done
-  looked k r e = record { answer = e .0; number = e .1; bytes = sym (bytes-again bs s) }
+  looked k r e = given-done k (decode bs) r bs e (sym (bytes-again bs s))
 
   -- a refusal that applies
   pub turned-back : (call : Call) (code : ℕ) (r : Reply) → code ≡ firstFailed (checks limits (decode bs) call) → code ≢ 0 → (r .answer ≡ code) × (r .number ≡ 0)
@@ -55,11 +54,15 @@ unfolding step settle
 let-through W call code {r} {after} e z f = let q = sym e ∙ z in rw q (f q)
 
 -- ON LENT MEMORY
+-- handed back as it was
+pub handed-back : (mem : List ℕ) (a : ℕ) (r : Reply) → (r .answer ≡ a) × (r .number ≡ 0) → Gives (handBack mem a) r mem
+unfolding handBack
+handed-back mem a r e = record { answer = e .0; number = e .1; bytes = refl }
+
 module _ (mem : List ℕ) (call : Call) where
   -- memory that is not a sound window
   pub unsound : soundMemory mem ≡ false → isOpen call ≡ false → (r : Reply) → (r .answer ≡ 1) × (r .number ≡ 0) → Gives (perform mem call) r mem
-  unfolding handBack
-  unsound h o r e = rw (perform-unsound mem call h o) (record { answer = e .0; number = e .1; bytes = refl })
+  unsound h o r e = rw (perform-unsound mem call h o) (handed-back mem 1 r e)
 
   -- the window at its front, lent and handed back
   pub on-memory : soundMemory mem ≡ true → (r : Reply) (after : List ℕ) → Gives (written (step limits (windowOf mem) call)) r after

@@ -12,15 +12,15 @@ use lib.ListN.{length}
 use Rattle.rules.specs.Calls.{Call}
 use Rattle.rules.specs.Base.{allBelow}
 use Rattle.rules.proofs.BaseLaws.{Below, under, over, below, allBelow-at}
-use Rattle.layout.specs.Memory.{handBack}
 use Rattle.replies.specs.declared.Reply.{Reply}
 use Rattle.replies.specs.Gives.{Gives}
+use Rattle.replies.proofs.GiveLaws.{handed-back}
 use Rattle.script_calls.specs.Fields.{Reads, nothing, one, two, three, four, readings, placed, made, callOf, replyOf, lastField}
 
 -- a broken line does nothing
 pub broken : (mem : List ℕ) (r : Reply) → (r .answer ≡ 30) × (r .number ≡ 0) → Gives (replyOf mem none) r mem
-unfolding replyOf handBack
-broken mem r e = record { answer = e .0; number = e .1; bytes = refl }
+unfolding replyOf
+broken mem r e = handed-back mem 30 r e
 
 -- THE LAST FIELD IN USE
 -- each test of unused fields is a bound on it; it is 1 to 4
