@@ -284,7 +284,8 @@ fn setting(name: &str, default: usize) -> usize {
 fn main() {
     let (seed, calls) = (setting("WINDOW_TEST_SEED", 20_260_417), setting("WINDOW_TEST_CALLS", 300_000));
     println!("seed {seed}");
-    let tries = [tries::calls_to_try(), tries::errors(), readings::readings(), tied::tied(), full_tables::full_tables()].concat();
+    let tries =
+        [tries::calls_to_try(), tries::errors(), readings::readings(), tied::tied(), full_tables::full_tables()].concat();
     tries.iter().for_each(follow);
     println!("{} lists by hand", tries.len());
     picture();

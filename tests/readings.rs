@@ -171,7 +171,6 @@ fn reader_to_writer() -> Vec<Line> {
     )
 }
 
-/// 21, 1, 22, 2, ..., 40, 20: each falls with the one before it, and 41 is of 20's group.
 fn greater_lock() -> Vec<Line> {
     runs(
         2,

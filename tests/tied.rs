@@ -80,6 +80,7 @@ fn falls_go_on() -> Vec<Line> {
     )
 }
 
+/// 21, 1, 22, 2, ..., 40, 20: each falls with the one before it, and 41 is of 20's group.
 fn falls_turn() -> Vec<Line> {
     let chain: Vec<u32> = (1..=20).flat_map(|c| [20 + c, c]).collect();
     let mut lines = running(1, 41);
