@@ -9,7 +9,7 @@ use lib.ListN.{length, take, drop, getD}
 unfoldable pub part : List ℕ → ℕ → ℕ → List ℕ
 part l at n = take n (drop at l)
 
--- l with xs in the place of the elements from index at: the form in which the borrow checker hands a lent part back
+-- l with xs in the place of as many elements from index at
 unfoldable pub patch : List ℕ → ℕ → List ℕ → List ℕ
 patch l at xs = take at l ++ (xs ++ drop (length xs) (drop at l))
 

@@ -10,7 +10,7 @@ use Rattle.rules.specs.Window.{LogRecord, PermitRecord, TieRecord, Window, with
 use Rattle.layout.specs.Codec.{headAt, headSize, valuesAt, valuesSize, changesAt, changesSize, locksAt, locksSize, permitsAt, permitsSize, tiesAt, tiesSize, logAt, logSize, headByte, valueByte, changeByte, lockByte, permitByte, tieByte, logByte, headSection, valueSection, changeSection, lockSection, permitSection, tieSection, logSection, lay}
 use Rattle.layout.proofs.SectionLaws.{Section, section, layOut, sections, lay-sections, offset, nth, replaced, layOut-put}
 
--- the bytes with others in the place of a part
+-- the bytes with others in the place of a part: the form in which the borrow checker hands a lent part back
 abbrev pub laidAt : List ℕ → ℕ → ℕ → List ℕ → List ℕ
 laidAt bs at size xs = take at bs ++ (xs ++ drop size (drop at bs))
 
