@@ -8,7 +8,7 @@ pub fn live() -> Vec<u8> {
     (1..=GIVEN).filter(|c| ![3, 5, 6].contains(&(c % 8))).collect()
 }
 
-/// Of ten live changes one is initiated and one completed; so are the first two, which are a group.
+/// Of ten live changes one is initiated and one completed; the first two, which are a group, are completed too.
 fn status(c: u8) -> u8 {
     match live().iter().position(|l| *l == c) {
         Some(i) if i % 10 == 9 => 1,
@@ -84,7 +84,7 @@ impl Filler {
         }
     }
 
-    /// What an entry has hangs on its number times 89, which spreads the kinds. The last eleven have nothing.
+    /// What an entry has hangs on its number times 89, which spreads the kinds. Eleven have nothing.
     fn fill(&mut self, entry: u8) {
         match entry.wrapping_mul(89) {
             0..=54 => self.one_writer(entry, 2),

@@ -18,28 +18,8 @@ const GREY: &str = "#6e7781";
 const RULE: &str = "#e4e7eb";
 const WITHIN: &str = "#4c8dae";
 const ABOVE: &str = "#d9843b";
-const GOAL: &str = "#b3261e";
-
-/// The names of the rows, those with one goal on the typical window side by side.
-const ROWS: [&str; 17] = [
-    "the check alone",
-    "read",
-    "status",
-    "parent",
-    "value",
-    "read, refused",
-    "open",
-    "initiate",
-    "begin",
-    "complete",
-    "lock",
-    "write",
-    "permit",
-    "depend",
-    "commit",
-    "abort",
-    "delegate",
-];
+/// The style of a goal's line.
+const GOAL: &str = "stroke=\"#b3261e\" stroke-width=\"2\" stroke-dasharray=\"4 2\"";
 
 /// A panel: for each row its passes and its goal.
 struct Panel {
@@ -49,16 +29,16 @@ struct Panel {
 }
 
 impl Panel {
-    /// The highest figures of some windows.
-    fn new(title: &'static str, under: &'static str, windows: &[Measured]) -> Panel {
+    /// The highest figures of some windows, in the order of the names.
+    fn new(title: &'static str, under: &'static str, names: &[&str], windows: &[Measured]) -> Panel {
         let bar = |name: &&str| {
             let rows = windows.iter().flat_map(|m| &m.rows).filter(|row| row.name == *name);
             rows.map(|row| (row.passes(), row.goal)).fold((0.0, 0.0), |a: (f64, f64), b| if a.0 < b.0 { b } else { a })
         };
-        Panel { title, under, bars: ROWS.iter().map(bar).collect() }
+        Panel { title, under, bars: names.iter().map(bar).collect() }
     }
 
-    /// The numbers 1, 2 and 5 at every power of ten, from below the shortest bar to above the longest.
+    /// The numbers 1, 2 and 5 at every power of ten, from below the shortest bar to the longest bar or goal or above it.
     fn marks(&self) -> Vec<f64> {
         let low = self.bars.iter().fold(f64::MAX, |a, b| a.min(b.0));
         let high = self.bars.iter().fold(0.0, |a: f64, b| a.max(b.0).max(b.1));
@@ -99,7 +79,7 @@ fn rectangle(svg: &mut String, at: (f64, f64), size: (f64, f64), style: &str) {
 /// The scale: a thin line at each mark, with its number below; powers of ten alone where there is no room.
 fn scale(svg: &mut String, panel: &Panel, left: f64) {
     let marks = panel.marks();
-    let bottom = y(ROWS.len());
+    let bottom = y(panel.bars.len());
     for mark in &marks {
         let x = left + panel.x(*mark);
         line(svg, (x, TOP - 4.0), (x, bottom), &format!("stroke=\"{RULE}\""));
@@ -125,8 +105,7 @@ fn goals(svg: &mut String, panel: &Panel, left: f64) {
     let mut from = 0;
     for same in panel.bars.chunk_by(|a, b| a.1 == b.1) {
         let x = left + panel.x(same[0].1);
-        let style = format!("stroke=\"{GOAL}\" stroke-width=\"2\" stroke-dasharray=\"4 2\"");
-        line(svg, (x, y(from) + 1.0), (x, y(from + same.len()) - 1.0), &style);
+        line(svg, (x, y(from) + 1.0), (x, y(from + same.len()) - 1.0), GOAL);
         from += same.len();
     }
 }
@@ -145,12 +124,7 @@ fn legend(svg: &mut String, at: f64) {
     text(svg, LEFT + 20.0, at, &style, "within the goal");
     rectangle(svg, (LEFT + 120.0, at - 10.0), (14.0, 10.0), &format!("fill=\"{ABOVE}\" rx=\"2\""));
     text(svg, LEFT + 140.0, at, &style, "above the goal");
-    line(
-        svg,
-        (LEFT + 240.0, at - 11.0),
-        (LEFT + 240.0, at + 1.0),
-        &format!("stroke=\"{GOAL}\" stroke-width=\"2\" stroke-dasharray=\"4 2\""),
-    );
+    line(svg, (LEFT + 240.0, at - 11.0), (LEFT + 240.0, at + 1.0), GOAL);
     text(svg, LEFT + 248.0, at, &style, "the goal");
     text(
         svg,
@@ -161,23 +135,31 @@ fn legend(svg: &mut String, at: f64) {
     );
 }
 
+/// The names of a window's rows, those with one goal side by side.
+fn names(typical: &Measured) -> Vec<&'static str> {
+    let mut rows: Vec<_> = typical.rows.iter().map(|row| (row.goal, row.name)).collect();
+    rows.sort_by(|a, b| a.0.total_cmp(&b.0));
+    rows.into_iter().map(|row| row.1).collect()
+}
+
 /// The picture of all windows: typical, busy, and the highest figure of the others.
 pub fn chart(all: &[Measured]) -> String {
-    let height = y(ROWS.len()) + 60.0;
+    let names = names(&all[0]);
+    let height = y(names.len()) + 60.0;
     let mut svg = format!(
         "<svg xmlns=\"http://www.w3.org/2000/svg\" width=\"{WIDTH}\" height=\"{height}\" viewBox=\"0 0 {WIDTH} {height}\" \
          font-family=\"{FONT}\">\n"
     );
     rectangle(&mut svg, (0.0, 0.0), (WIDTH, height), "fill=\"#ffffff\"");
     text(&mut svg, 20.0, 32.0, &format!("fill=\"{INK}\" style=\"font: 600 18px {FONT}\""), "The calls in passes");
-    for (i, name) in ROWS.iter().enumerate() {
+    for (i, name) in names.iter().enumerate() {
         let style = format!("fill=\"{INK}\" font-size=\"12\" text-anchor=\"end\"");
         text(&mut svg, LEFT - 10.0, y(i) + ROW / 2.0 + 4.0, &style, name);
     }
     let panels = [
-        Panel::new("Typical window", "goals: 1.5 to read, 2 to write, 5 to delegate", &all[..1]),
-        Panel::new("Busy window", "256 entries, 100 live changes; goal: 10", &all[1..2]),
-        Panel::new("Worst windows", "the highest figure of four; goal: 300", &all[2..]),
+        Panel::new("Typical window", "goals: 1.5 to read, 2 to write, 5 to delegate", &names, &all[..1]),
+        Panel::new("Busy window", "256 entries, 100 live changes; goal: 10", &names, &all[1..2]),
+        Panel::new("Worst windows", "the highest figure of four; goal: 300", &names, &all[2..]),
     ];
     for (i, panel) in panels.iter().enumerate() {
         draw(&mut svg, panel, LEFT + (PANEL + GAP) * i as f64);

@@ -36,7 +36,7 @@ pub fn goal(set: &Set, case: &Case) -> f64 {
     }
 }
 
-/// Three figures that count, and no more than one decimal above 10.
+/// Two decimals below 10, one below 100, none above; thousands are set apart.
 pub fn short(x: f64) -> String {
     match x {
         x if x < 10.0 => format!("{x:.2}"),

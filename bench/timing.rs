@@ -50,7 +50,8 @@ pub struct Times {
     pub effect: Option<f64>,
 }
 
-/// Where one case is timed: the lent memory, what it held before, and the blocks that the call changes.
+/// Where one case is timed: the lent memory, what it held before, zeros for memchr, the blocks that the call changes
+/// (none for open, which needs no restoring), and whether the effect is written by hand too.
 struct Place {
     kind: Kind,
     memory: Box<Memory>,
@@ -167,6 +168,7 @@ impl Place {
             self.turn(job);
         }
         let start = Instant::now();
+        // One arm for each job, so that the choice of the job is made outside the loop.
         match job {
             Pass => (0..turns).for_each(|_| self.turn(Pass)),
             PlainPass => (0..turns).for_each(|_| self.turn(PlainPass)),

@@ -5,7 +5,7 @@
  *   window  the memory, not null; its first WINDOW_SIZE bytes are the window
  *   length  how many bytes are lent; those past the window are neither read nor changed
  * and gives an answer and a second number. The number is 0 where nothing is said of it.
- * A call answered otherwise than WINDOW_DONE has changed no byte. Where several answers apply, the lowest is given.
+ * A call answered otherwise than WINDOW_DONE has changed no byte, and read, status, parent and value never do. Where several answers apply, the lowest is given.
  *
  * Entries are numbered from 0, changes from 1. Calls on one window must not overlap. A call needs some 25 KiB of stack.
  * 'Answers' lists what a call can answer besides WINDOW_DONE and WINDOW_NOT_SOUND, by the numbers of enum window_answer.

@@ -277,12 +277,8 @@ fn random_lists(r: &mut Random, calls: usize, tally: &mut Tally) {
     println!("{made} random calls, {} lists ended in walks", tally.walked);
 }
 
-fn setting(name: &str, default: usize) -> usize {
-    std::env::var(name).map_or(default, |v| v.parse().expect("a number"))
-}
-
 fn main() {
-    let (seed, calls) = (setting("WINDOW_TEST_SEED", 20_260_417), setting("WINDOW_TEST_CALLS", 300_000));
+    let (seed, calls) = (random::seed(), random::setting("WINDOW_TEST_CALLS", 300_000) as usize);
     println!("seed {seed}");
     let tries =
         [tries::calls_to_try(), tries::errors(), readings::readings(), tied::tied(), full_tables::full_tables()].concat();
@@ -292,6 +288,6 @@ fn main() {
     let mut tally = Tally::default();
     lent_lengths(&mut tally);
     long_walks(&mut tally);
-    random_lists(&mut Random(seed as u64), calls, &mut tally);
+    random_lists(&mut Random(seed), calls, &mut tally);
     tally.judge();
 }

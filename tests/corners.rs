@@ -1,5 +1,6 @@
 //! Scripts at the edges of document 01's rules for the script program, with the listings worked out by hand.
 use crate::listing::{FIRST, HEADER};
+use crate::perform::NAMES;
 
 /// A name, a script and its listing.
 pub type Corner = (String, Vec<u8>, Vec<u8>);
@@ -220,29 +221,13 @@ fn field_counts() -> Vec<Corner> {
     lines.iter().map(|line| broken("fields", line)).collect()
 }
 
-/// Call names, and how many fields each reads.
-const READS: [(&str, usize); 15] = [
-    ("open", 1),
-    ("initiate", 1),
-    ("begin", 1),
-    ("complete", 1),
-    ("lock", 3),
-    ("read", 2),
-    ("write", 3),
-    ("permit", 4),
-    ("delegate", 3),
-    ("depend", 3),
-    ("commit", 1),
-    ("abort", 1),
-    ("status", 1),
-    ("parent", 1),
-    ("value", 1),
-];
+/// How many fields each call reads, in the order of NAMES.
+const READS: [usize; 15] = [1, 1, 1, 1, 3, 2, 3, 4, 3, 3, 1, 1, 1, 1, 1];
 
 /// Each call before open gets 1; with something in an unused field its line is broken.
 fn unused_fields() -> Vec<Corner> {
     let mut corners = vec![];
-    for (name, reads) in READS {
+    for (name, reads) in NAMES.into_iter().zip(READS) {
         let line = |fields: [&str; 4]| format!("{name},{}\n", fields.join(","));
         let mut fields = ["0"; 4];
         fields[..reads].fill("300");
@@ -267,7 +252,7 @@ fn no_names() -> Vec<Corner> {
         b"\0open", b"\xefpen", b"call", b"0",
     ];
     let mut corners: Vec<Corner> = names.iter().map(|n| broken("no name", &[n, &b",2,0,0,0"[..]].concat())).collect();
-    for (name, reads) in READS {
+    for (name, reads) in NAMES.into_iter().zip(READS) {
         let rest = ["", ",1,0,0,0", ",1,1,0,0", ",1,1,1,0", ",1,1,1,1"][reads];
         let (less, more, upper) = (&name[..name.len() - 1], format!("{name}{}", &name[..1]), name.to_uppercase());
         for other in [less, &name[1..], &more, &upper] {

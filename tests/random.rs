@@ -27,6 +27,15 @@ impl Random {
     }
 }
 
+/// A number that the environment sets, or its default.
+pub fn setting(name: &str, default: u64) -> u64 {
+    std::env::var(name).map_or(default, |v| v.parse().expect("a number"))
+}
+
+pub fn seed() -> u64 {
+    setting("WINDOW_TEST_SEED", 20_260_417)
+}
+
 /// What a list of calls is like: its entries, how many changes it keeps live, and how often each call comes, in the
 /// order of perform::NAMES.
 pub struct Kind {

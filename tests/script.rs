@@ -223,7 +223,7 @@ fn main() {
     };
     let (alone, stressed) = (flag("--model-only"), flag("stress"));
     let program = arguments.pop().unwrap_or("target/bin/script".to_string());
-    let seed = std::env::var("WINDOW_TEST_SEED").map_or(20_260_417, |v| v.parse().expect("a number"));
+    let seed = random::seed();
     fs::create_dir_all("target").expect("target/");
     if stressed {
         return stress::stress(&program, &mut Random(seed));

@@ -4,8 +4,8 @@ use mathlib.Core.Bool.{Bool, true, false}
 use mathlib.Core.List.{List}
 use Prim.Native.Nat.{ℕ, _+_, _≤_, _<_}
 use native.Mathlib.Omega.{arith}
+use borrow.Author.Count.{below-more}
 use Rattle.rules.specs.Window.{PermitRecord}
-use Rattle.rules.proofs.BaseLaws.{Same, same, other, same?}
 use Rattle.layout.specs.Records.{permitAt}
 use Rattle.rules.proofs.BoundLaws.{any-ext}
 use Rattle.beside.specs.Permits.{anyOf, NoneBefore, FirstOf}
@@ -25,11 +25,7 @@ module _ (p : PermitRecord → Bool) (bs : List ℕ) (start : ℕ) where
   skipped-none k h l = absurd (omega arith)
 
   pub skipped-more : (j : ℕ) → Skipped j → p (permitAt bs j) ≡ false → Skipped (j + 1)
-  skipped-more j before e k h l = go (same? k j)
-    where
-      go : {b : Bool} → Same k j b → p (permitAt bs k) ≡ false
-      go (same q) = rw q e
-      go (other n) = before k h (omega arith)
+  skipped-more j before e k h l = below-more (λ (i : ℕ). start ≤ i → p (permitAt bs i) ≡ false) j (λ i m s. before i s m) (λ _. e) k l h
 
   pub none-before : (count j : ℕ) → start ≤ j → j ≤ count → Skipped j → NoneBefore p bs count start j
   none-before count j h l before = record { from = h; to = l; skipped = before }

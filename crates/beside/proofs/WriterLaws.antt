@@ -40,11 +40,8 @@ module _ (x : Set) (q : ℕ → Bool) where
       kept : (k : ℕ) → a < k → left′ k ≡ x k
       kept k h = without k ∙ rw (ne-eqb k a (λ e. omega arith)) (w .later k (omega arith))
 
-      pub walk-rises : a < a′
-      walk-rises = lowest-rises left a (w .lowest) left′ without ha a′ next
-
       pub walk-next : (r : Bool) → r ≡ q a → r ≡ true → Walked x q left′ a′
-      walk-next r e f = record { lowest = next; later = λ k h. kept k (omega (arith, walk-rises)); passed = allBelow-intro a′ _ (λ k h. go k h (decLt k a) (same? k a)) }
+      walk-next r e f = record { lowest = next; later = λ k h. kept k (omega (arith, lowest-rises left a (w .lowest) left′ without ha a′ next)); passed = allBelow-intro a′ _ (λ k h. go k h (decLt k a) (same? k a)) }
         where
           go : (k : ℕ) → k < a′ → Dec (k < a) → {b : Bool} → Same k a b → not (x k) || q k ≡ true
           go k h (yes l) s = allBelow-at a _ (w .passed) k l

@@ -9,10 +9,9 @@ use borrow.Author.Tests.{leb-true}
 use Rattle.rules.specs.Window.{limits}
 use Rattle.rules.specs.Calls.{Call}
 use Rattle.rules.specs.Refusals.{step}
-use Rattle.rules.proofs.BaseLaws.{and-right}
 use Rattle.layout.specs.Codec.{windowSize}
 use Rattle.layout.specs.Memory.{soundBytes, long, soundMemory, windowOf, perform}
-use Rattle.layout.proofs.MemoryLaws.{sound-long}
+use Rattle.layout.proofs.MemoryLaws.{sound-long, sound-front}
 use Rattle.replies.specs.declared.Reply.{Reply}
 use Rattle.replies.specs.Gives.{Gives, written}
 use Rattle.replies.proofs.GiveLaws.{on-memory}
@@ -26,8 +25,7 @@ module _ (mem : List ℕ) (h : soundMemory mem ≡ true) where
   lent-size = length-take-le windowSize mem lent-room
 
   pub lent-sound : soundBytes (take windowSize mem) ≡ true
-  unfolding soundMemory
-  lent-sound = and-right (long mem) (soundBytes (take windowSize mem)) h
+  lent-sound = sound-front mem h
 
 -- the window lent to be looked at alone
 pub looked-at : (mem : List ℕ) (call : Call) → soundMemory mem ≡ true → (r : Reply) → Gives (written (step limits (windowOf mem) call)) r (take windowSize mem) → Gives (perform mem call) r mem

@@ -1,32 +1,24 @@
 -- What open does on lent memory. Assumes nothing.
 use mathlib.Core.Path.{_≡_, refl, sym, _∙_, ap}
-use mathlib.Core.Bool.{Bool, true, false, cond, _||_, false≢true}
+use mathlib.Core.Bool.{Bool, true, false, cond, _||_}
 use mathlib.Core.List.{List, _++_}
 use Prim.Native.Nat.{ℕ, _<_, _≤_}
 use native.Mathlib.Omega.{arith}
-use lib.Dec.{leb, ltb}
+use lib.Dec.{ltb}
 use lib.ListN.{length, take, drop}
-use borrow.Author.Tests.{leb-true, le-leb, ltb-true}
-use Rattle.rules.specs.Base.{exceeds, outside}
+use borrow.Author.Tests.{le-leb, lt-leb}
+use Rattle.rules.specs.Base.{outside}
 use Rattle.rules.specs.Window.{limits, fresh}
 use Rattle.rules.specs.Calls.{Open, done, unchanged}
 use Rattle.rules.specs.Effects.{effect}
 use Rattle.rules.specs.Refusals.{_if_, checks, firstFailed, settle, step}
-use Rattle.rules.proofs.BaseLaws.{Below, under, over, below, no-true, both-ways, over-false, over-true}
+use Rattle.rules.proofs.BaseLaws.{exceeds-ltb}
 use Rattle.layout.specs.Codec.{windowSize, encode}
 use Rattle.layout.specs.Memory.{long, perform}
 use Rattle.layout.proofs.MemoryLaws.{perform-short, perform-still, open-answered, open-numbered, opened-bytes}
 use Rattle.replies.specs.declared.Reply.{Reply}
 use Rattle.replies.specs.Gives.{Gives}
 use Rattle.replies.proofs.GiveLaws.{handed-back}
-
--- a figure above a bound, by clauses and as a comparison
-exceeds-ltb : (m n : ℕ) → exceeds m n ≡ ltb n m
-exceeds-ltb m n = both-ways _ _ (up (below n m)) (λ e. over-true m n (ltb-true n m e))
-  where
-    up : {b : Bool} → Below n m b → exceeds m n ≡ true → b ≡ true
-    up (under h) e = refl
-    up (over h) e = absurd (false≢true (sym (over-false m n h) ∙ e))
 
 module _ (mem : List ℕ) (n : ℕ) where
   -- what the rules answer
@@ -40,7 +32,7 @@ module _ (mem : List ℕ) (n : ℕ) where
 
   pub open-short : length mem < windowSize → (r : Reply) → (r .answer ≡ 1) × (r .number ≡ 0) → Gives (perform mem (Open n)) r mem
   unfolding long
-  open-short h r e = rw (perform-short mem (Open n) (no-true (leb windowSize (length mem)) (λ q. omega (arith, leb-true windowSize (length mem) q)))) (handed-back mem 1 r e)
+  open-short h r e = rw (perform-short mem (Open n) (lt-leb windowSize (length mem) h)) (handed-back mem 1 r e)
 
   module _ (room : windowSize ≤ length mem) where
     is-long : long mem ≡ true

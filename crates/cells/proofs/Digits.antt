@@ -1,15 +1,14 @@
 -- The binary digits of a number, lowest first, as `unpack` reads them: of 0 and of a power, of the operators on words, of the place of the lowest. Assumes nothing.
-use mathlib.Core.Path.{_≡_, refl, sym, ap, ap₂, _∙_}
+use mathlib.Core.Path.{_≡_, refl, sym, ap, _∙_}
 use mathlib.Core.Bool.{true, false, not, _&&_, _||_, true≢false, false≢true}
 use Prim.Native.Nat.{ℕ, zero, suc, _+_, _-_, _*_, _/_, _%_, _^_, _≤_, _<_, min, max}
-use native.Mathlib.Nat.{zero-add, suc-add, mul-one, div-div-eq-div-mul, div-one, pow-succ', mod-lt, zero-lt-suc, div-eq-of-lt}
-use native.Mathlib.Numerals.{add-one}
+use native.Mathlib.Nat.{div-div-eq-div-mul, div-one, pow-succ', mod-lt, zero-lt-suc, div-eq-of-lt}
 use native.Mathlib.Omega.{arith}
 use lib.Dec.{eqb, eqb·zero-suc, eqb·suc-zero, eqb·suc-suc}
-use lib.Pow.{pow-mono, mod-pow-add, shr-shr}
+use lib.Pow.{pow-mono, shl-shr, shr-shr, field, mod-mod-pow}
 use lib.Bits.{bitAnd, bitOr, and-step, or-step, and-shr, or-shr, shifted-half, shifted-even}
 use lib.Count.{trailingZeros, under}
-use Rattle.layout.specs.Codec.{unpack}
+use Rattle.layout.specs.Codec.{bit, unpack}
 
 -- a remainder by 2 is 0 or 1
 pub data Digit : ℕ → Type 0 where
@@ -24,6 +23,11 @@ digit w = go (w % 2) (mod-lt w (zero-lt-suc 1))
     go zero h = none
     go (suc zero) h = one
     go (suc (suc d)) h = absurd (omega arith)
+
+-- it is the bit that tells whether it is 1
+pub digit-bit : {d : ℕ} → Digit d → d ≡ bit (eqb d 1)
+digit-bit none = refl
+digit-bit one = refl
 
 -- the lowest digit, and those above it
 pub unpack-first : (w : ℕ) → unpack w 0 ≡ eqb (w % 2) 1
@@ -103,7 +107,7 @@ unpack-not (suc n) a (suc k) h l =
     let e : (2 ^ suc n - 1 - a) / 2 ≡ 2 ^ n - 1 - a / 2 = omega arith in
     unpack-next (2 ^ suc n - 1 - a) k ∙ ap (λ (x : ℕ). unpack x k) e ∙ unpack-not n (a / 2) k (omega arith) (omega arith) ∙ ap not (sym (unpack-next a k))
 
--- a number is its digits
+-- a digit is known by whether it is 1
 same-digit : {p q : ℕ} → Digit p → Digit q → eqb p 1 ≡ eqb q 1 → p ≡ q
 same-digit none none e = refl
 same-digit none one e = absurd (false≢true e)
@@ -118,24 +122,22 @@ unpack-ext (suc n) a b ha hb h =
     let high : a / 2 ≡ b / 2 = unpack-ext n (a / 2) (b / 2) (omega arith) (omega arith) (λ k l. sym (unpack-next a k) ∙ h (suc k) (omega arith) ∙ unpack-next b k) in
     omega arith
 
--- `%` by a power, `<<` and `>>`
-cut : (n x : ℕ) → x % 2 ^ suc n ≡ (x / 2 % 2 ^ n) * 2 + x % 2
-cut n x = ap (λ (m : ℕ). x % 2 ^ m) (sym (add-one n)) ∙ mod-pow-add x n 1
-
--- what is cut off plays no part below
+-- what `%` by a power cuts off plays no part below
 pub unpack-mod : (n x k : ℕ) → k < n → unpack (x % 2 ^ n) k ≡ unpack x k
-unpack-mod zero x k l = absurd (omega arith)
-unpack-mod (suc n) x zero l =
-    let e : x % 2 ^ suc n % 2 ≡ x % 2 = omega (arith, cut n x) in unpack-first (x % 2 ^ suc n) ∙ ap (λ (y : ℕ). eqb y 1) e ∙ sym (unpack-first x)
-unpack-mod (suc n) x (suc k) l =
-    let e : x % 2 ^ suc n / 2 ≡ x / 2 % 2 ^ n = omega (arith, cut n x) in
-    unpack-next (x % 2 ^ suc n) k ∙ ap (λ (y : ℕ). unpack y k) e ∙ unpack-mod n (x / 2) k (omega arith) ∙ sym (unpack-next x k)
+unfolding unpack
+unpack-mod n x k l =
+    let e : n - k + k ≡ n = omega arith in
+    let f : n - k - 1 + 1 ≡ n - k = omega arith in
+    ap (λ (y : ℕ). eqb (y % 2) 1) (rw e at (field x (n - k) k)) ∙ ap (λ (y : ℕ). eqb y 1) (rw f at (mod-mod-pow (x / 2 ^ k) (n - k - 1) 1))
 
--- `<<` moves the digits up
+-- `>>` moves the digits down
+pub unpack-shr : (s w k : ℕ) → unpack (w / 2 ^ s) k ≡ unpack w (s + k)
+unfolding unpack
+unpack-shr s w k = ap (λ (x : ℕ). eqb (x % 2) 1) (shr-shr w s k)
+
+-- `<<` moves them up
 pub unpack-shl : (s w k : ℕ) → unpack (w * 2 ^ s) (s + k) ≡ unpack w k
-unpack-shl zero w k = ap₂ unpack (mul-one w) (zero-add k)
-unpack-shl (suc s) w k =
-    ap (unpack (w * 2 ^ suc s)) (suc-add s k) ∙ unpack-next (w * 2 ^ suc s) (s + k) ∙ ap (λ (x : ℕ). unpack x (s + k)) (shifted-half w s) ∙ unpack-shl s w k
+unpack-shl s w k = sym (unpack-shr s (w * 2 ^ s) k) ∙ ap (λ (x : ℕ). unpack x k) (shl-shr w s)
 
 -- and leaves none below
 pub unpack-shl-low : (s w k : ℕ) → k < s → unpack (w * 2 ^ s) k ≡ false
@@ -143,11 +145,6 @@ unpack-shl-low zero w k l = absurd (omega arith)
 unpack-shl-low (suc s) w zero l = unpack-first (w * 2 ^ suc s) ∙ ap (λ (x : ℕ). eqb x 1) (shifted-even w s)
 unpack-shl-low (suc s) w (suc k) l =
     unpack-next (w * 2 ^ suc s) k ∙ ap (λ (x : ℕ). unpack x k) (shifted-half w s) ∙ unpack-shl-low s w k (omega arith)
-
--- `>>` moves them down
-pub unpack-shr : (s w k : ℕ) → unpack (w / 2 ^ s) k ≡ unpack w (s + k)
-unfolding unpack
-unpack-shr s w k = ap (λ (x : ℕ). eqb (x % 2) 1) (shr-shr w s k)
 
 -- `trailing_zeros`: the lowest digit that is set, and none before it
 hit-step : (n w d : ℕ) → Digit d → w % 2 ≡ d → w < 2 ^ suc n → 0 < w

@@ -2,14 +2,13 @@
 use mathlib.Core.Path.{_≡_, refl, sym, ap, _∙_}
 use mathlib.Core.List.{List, [], _∷_}
 use Prim.Native.Nat.{ℕ, zero, suc, _+_, _/_, _%_, _^_, _≤_, _<_}
-use native.Mathlib.Nat.{pow-suc, pow-zero, mul-comm, div-div-eq-div-mul, div-one, div-lt-iff-lt-mul, zero-lt-suc, le-of-suc-le-suc, not-suc-le-zero}
+use native.Mathlib.Nat.{pow-suc, pow-succ', pow-zero, div-div-eq-div-mul, div-one, div-lt-iff-lt-mul, zero-lt-suc, le-of-suc-le-suc, not-suc-le-zero}
 use native.Mathlib.Omega.{arith}
 use native.Mathlib.Numerals.{towards-suc}
 use lib.ListN.{length, getD, set}
-use lib.Seq.{ext-getD}
 use Rattle.rules.specs.Base.{table}
 use Rattle.layout.specs.Codec.{byte}
-use Rattle.layout.proofs.SectionLaws.{length-table, getD-table0}
+use Rattle.layout.proofs.SectionLaws.{table-list}
 use Rattle.cells.specs.Part.{part, patch}
 use Rattle.cells.specs.Num.{le, num}
 use Rattle.cells.proofs.PartLaws.{part-cons, sets-patch}
@@ -26,12 +25,11 @@ unfolding le byte
 le-byte zero j v h = absurd (not-suc-le-zero h)
 le-byte (suc n) zero v h = ap (λ (x : ℕ). x % 256) (sym (div-one v))
 le-byte (suc n) (suc j) v h = le-byte n j (v / 256) (le-of-suc-le-suc h)
-    ∙ ap (λ (x : ℕ). x % 256) (div-div-eq-div-mul v 256 (256 ^ j) ∙ ap (λ (x : ℕ). v / x) (mul-comm 256 (256 ^ j) ∙ sym (pow-suc 256 j)))
+    ∙ ap (λ (x : ℕ). x % 256) (div-div-eq-div-mul v 256 (256 ^ j) ∙ ap (λ (x : ℕ). v / x) (sym (pow-succ' 256 j)))
 
 -- its n bytes
 pub le-bytes : (n v : ℕ) → le n v ≡ table n 0 (λ j. byte j v)
-le-bytes n v = ext-getD 0 (le n v) (table n 0 (λ j. byte j v)) (length-le n v ∙ sym (length-table n 0 (λ j. byte j v)))
-    (λ j h. let t : j < n = rw length-le at h in le-byte n j v t ∙ sym (getD-table0 n (λ j. byte j v) j 0 t))
+le-bytes n v = sym (table-list 0 (le n v) (λ j. byte j v) (length-le n v) (λ j h. sym (le-byte n j v h)))
 
 -- what was stored is read
 pub num-le : (n v : ℕ) → v < 256 ^ n → num (le n v) ≡ v

@@ -1,12 +1,11 @@
 -- A part of a list, and a list with a part replaced. Assumes nothing.
 use mathlib.Core.Path.{ap₂, _≡_, refl, sym, ap, _∙_}
-use mathlib.Core.List.{List, [], _∷_, _++_, append-assoc}
+use mathlib.Core.List.{List, [], _∷_, _++_, append-assoc, append-nil}
 use Prim.Native.Nat.{ℕ, zero, suc, _+_, _-_, _≤_, _<_}
 use native.Mathlib.Nat.{le-of-suc-le-suc, not-suc-le-zero, suc-add, zero-add, add-zero}
 use native.Mathlib.Omega.{arith}
-use native.Mathlib.Numerals.{add-one}
-use lib.ListN.{length, take, drop, getD, set, length-append, length-take, length-drop, take-append-drop, length-set}
-use lib.Seq.{sets, take-at, drop-at, take-append-le, drop-append-add, getD-take, getD-drop, take-take, drop-drop, length-take-le, drop-cons, set-at}
+use lib.ListN.{length, take, drop, getD, set, replicate, length-append, length-take, length-drop, take-append-drop, length-set, length-replicate, drop-of-length-le}
+use lib.Seq.{sets, take-at, drop-at, take-append-le, drop-append-add, getD-take, getD-drop, take-take, drop-drop, length-take-le, drop-cons}
 use Rattle.cells.specs.Part.{part, patch}
 
 -- LENGTHS: of a part
@@ -105,21 +104,6 @@ sets-patch l at (x ∷ xs) h =
     let h′ : at + suc (length xs) ≤ length l = h in
     sets-patch (set l at x) (suc at) xs (simp length-set (omega (arith, suc-add at (length xs)))) ∙ patch-cons l at x xs (omega arith)
 
--- a store right after what was written: the step of every loop that writes upwards
-pub patch-next : (l : List ℕ) (at : ℕ) (xs : List ℕ) (v m : ℕ) → at + length xs ≡ m → m < length l → set (patch l at xs) m v ≡ patch l at (xs ++ (v ∷ []))
-unfolding patch
-patch-next l at xs v m e h =
-    let n : ℕ = length xs in
-    let d : List ℕ = drop at l in
-    let hd : n < length d = simp length-drop (omega arith) in
-    let lp : length (take at l ++ xs) ≡ m = simp (length-append, length-take) (omega arith) in
-    let ln : length (xs ++ (v ∷ [])) ≡ suc n = length-append xs (v ∷ []) ∙ add-one n in
-    ap (λ (r : List ℕ). set r m v) (ap (λ (r : List ℕ). take at l ++ (xs ++ r)) (drop-cons d n 0 hd) ∙ sym (append-assoc (take at l) xs (getD d n 0 ∷ drop (suc n) d)))
-    ∙ set-at (take at l ++ xs) (getD d n 0) (drop (suc n) d) v m lp
-    ∙ append-assoc (take at l) xs (v ∷ drop (suc n) d)
-    ∙ ap (λ (r : List ℕ). take at l ++ r) (sym (append-assoc xs (v ∷ []) (drop (suc n) d)))
-    ∙ ap (λ (k : ℕ). take at l ++ ((xs ++ (v ∷ [])) ++ drop k d)) (sym ln)
-
 -- a patch right after another is one
 pub patch-append : (l : List ℕ) (at : ℕ) (xs ys : List ℕ) (m : ℕ) → at + length xs ≡ m → m + length ys ≤ length l → patch (patch l at xs) m ys ≡ patch l at (xs ++ ys)
 unfolding patch
@@ -130,6 +114,15 @@ patch-append l at xs ys m e h =
     ap₂ (λ (a b : List ℕ). a ++ (ys ++ drop (length ys) b)) front (back ∙ ap (λ (k : ℕ). drop k l) (sym e) ∙ sym (drop-drop (length xs) at l))
     ∙ append-assoc (take at l) xs (ys ++ drop (length ys) (drop (length xs) (drop at l)))
     ∙ ap (λ (r : List ℕ). take at l ++ r) (sym (append-assoc xs ys (drop (length ys) (drop (length xs) (drop at l)))) ∙ ap (λ (r : List ℕ). (xs ++ ys) ++ r) (drop-drop (length ys) (length xs) (drop at l) ∙ ap (λ (k : ℕ). drop k (drop at l)) (sym n)))
+
+-- a store right after what was written: the step of every loop that writes upwards
+pub patch-next : (l : List ℕ) (at : ℕ) (xs : List ℕ) (v m : ℕ) → at + length xs ≡ m → m < length l → set (patch l at xs) m v ≡ patch l at (xs ++ (v ∷ []))
+patch-next l at xs v m e h = sets-patch (patch l at xs) m (v ∷ []) (omega (arith, length-patch l at xs (omega arith))) ∙ patch-append l at xs (v ∷ []) m e (omega arith)
+
+-- a copy in a fresh array of the same size
+pub copied : (size : ℕ) (s c : List ℕ) → length s ≡ size → c ≡ patch (replicate size 0) 0 s → c ≡ s
+unfolding patch
+copied size s c h e = e ∙ ap (λ (t : List ℕ). s ++ t) (drop-of-length-le (replicate size 0) {i = length s} (omega (arith, length-replicate {A = ℕ} size 0))) ∙ append-nil s
 
 -- ONE ELEMENT MORE, at the front
 pub part-cons : (l : List ℕ) (at n : ℕ) → at < length l → part l at (suc n) ≡ getD l at 0 ∷ part l (suc at) n

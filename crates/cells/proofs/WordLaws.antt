@@ -3,7 +3,7 @@ use mathlib.Core.Path.{_≡_, refl, sym, ap, ap₂, _∙_}
 use mathlib.Core.Bool.{_&&_, _||_, or-false}
 use mathlib.Core.List.{List, [], _∷_}
 use Prim.Native.Nat.{ℕ, zero, suc, _+_, _-_, _*_, _/_, _%_, _^_, _≤_, _<_}
-use native.Mathlib.Nat.{div-div-eq-div-mul, div-one, mul-comm, pow-suc, zero-add}
+use native.Mathlib.Nat.{div-div-eq-div-mul, div-one, pow-succ', zero-add}
 use native.Mathlib.Decide.{decLt}
 use native.Mathlib.Numerals.{towards-suc}
 use native.Mathlib.Omega.{arith}
@@ -60,7 +60,7 @@ unfolding byte
 unpack-byte zero w b h = unpack-mod 8 (w / 256 ^ 0) b h ∙ ap₂ unpack (div-one w) (sym (zero-add b))
 unpack-byte (suc j) w b h =
     let q : 8 + (8 * j + b) ≡ 8 * suc j + b = omega arith in
-    ap (λ (x : ℕ). unpack (x % 256) b) (ap (λ (x : ℕ). w / x) (pow-suc 256 j ∙ mul-comm (256 ^ j) 256) ∙ sym (div-div-eq-div-mul w 256 (256 ^ j)))
+    ap (λ (x : ℕ). unpack (x % 256) b) (ap (λ (x : ℕ). w / x) (pow-succ' 256 j) ∙ sym (div-div-eq-div-mul w 256 (256 ^ j)))
     ∙ unpack-byte j (w / 256) b h ∙ unpack-shr 8 w (8 * j + b) ∙ ap (unpack w) q
 
 -- the eight bytes

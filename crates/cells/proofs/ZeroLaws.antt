@@ -1,6 +1,6 @@
 -- A range of bytes that is zero. Assumes nothing.
-use mathlib.Core.Path.{_≡_, refl, sym, _∙_}
-use mathlib.Core.Bool.{Bool, true, false, not, _&&_, false≢true}
+use mathlib.Core.Path.{_≡_, sym, _∙_}
+use mathlib.Core.Bool.{Bool, true, false, not, _&&_}
 use mathlib.Core.List.{List}
 use Prim.Native.Nat.{ℕ, _+_, _-_, _≤_, _<_}
 use native.Mathlib.Numerals.{add-one}
@@ -8,21 +8,26 @@ use native.Mathlib.Omega.{arith}
 use lib.ListN.{getD}
 use lib.Dec.{eqb}
 use lib.Bits.{bitOr, or-add-and, and-le-l, and-le-r}
-use borrow.Author.Tests.{eq-eqb, ne-eqb, eqb-true, eqb-false, not-true, not-false}
+use borrow.Author.Tests.{eq-eqb, eqb-true}
 use Rattle.rules.specs.Base.{allBelow}
-use Rattle.rules.proofs.BaseLaws.{no-true, both-ways, Below, under, over, below, allBelow-intro, allBelow-at}
+use Rattle.rules.proofs.BaseLaws.{and-both, and-left, and-right, no-true, both-ways, Below, under, over, below, allBelow-intro, allBelow-at}
+use Rattle.rules.proofs.TurnLaws.{failed, held}
 use Rattle.cells.specs.Part.{byteIs}
 
--- an or is zero where both are
-or-zero : (a b : ℕ) (s t : Bool) → eqb a 0 ≡ s → eqb b 0 ≡ t → eqb (bitOr a b) 0 ≡ s && t
-or-zero a b true true p q = eq-eqb (bitOr a b) 0 (omega (arith, or-add-and a b, eqb-true a 0 p, eqb-true b 0 q))
-or-zero a b true false p q = ne-eqb (bitOr a b) 0 (λ e. eqb-false b 0 q (omega (arith, or-add-and a b, and-le-l a b, e)))
-or-zero a b false t p q = ne-eqb (bitOr a b) 0 (λ e. eqb-false a 0 p (omega (arith, or-add-and a b, and-le-r a b, e)))
+-- of an or that is zero both are
+pub or-zero : (a b : ℕ) → bitOr a b ≡ 0 → (a ≡ 0) × (b ≡ 0)
+or-zero a b e = (omega (arith, or-add-and a b, and-le-r a b), omega (arith, or-add-and a b, and-le-l a b))
+
+-- and it is zero where both are
+or-test : (a b : ℕ) → eqb (bitOr a b) 0 ≡ eqb a 0 && eqb b 0
+or-test a b = both-ways _ _
+    (λ e. let p = or-zero a b (eqb-true (bitOr a b) 0 e) in and-both _ _ (eq-eqb a 0 (p .0)) (eq-eqb b 0 (p .1)))
+    (λ e. eq-eqb (bitOr a b) 0 (omega (arith, or-add-and a b, eqb-true a 0 (and-left (eqb a 0) (eqb b 0) e), eqb-true b 0 (and-right (eqb a 0) (eqb b 0) e))))
 
 -- one byte more
 pub zero-more : (l : List ℕ) (at i acc : ℕ) → eqb acc 0 ≡ allBelow i (byteIs l at 0) → eqb (bitOr acc (getD l (at + i) 0)) 0 ≡ allBelow (i + 1) (byteIs l at 0)
 unfolding allBelow byteIs
-zero-more l at i acc e = rw add-one (or-zero acc (getD l (at + i) 0) (allBelow i (byteIs l at 0)) (eqb (getD l (at + i) 0) 0) e refl)
+zero-more l at i acc e = rw (add-one, sym e) (or-test acc (getD l (at + i) 0))
 
 -- the test, by elements: what it shows
 pub zeros-at : (l : List ℕ) (from to : ℕ) → allBelow (to - from) (byteIs l from 0) ≡ true → (i : ℕ) → from ≤ i → i < to → getD l i 0 ≡ 0
@@ -53,14 +58,13 @@ block l at n r f = let size : at + n - at ≡ n = omega arith in rw size f
 -- a block that passes
 pub block-passed : (l : List ℕ) (from mid n : ℕ) (r : Bool) → from ≤ mid → allBelow (mid - from) (byteIs l from 0) ≡ true
     → r ≡ allBelow n (byteIs l mid 0) → not r ≡ false → allBelow (mid + n - from) (byteIs l from 0) ≡ true
-block-passed l from mid n r h e f t = sym (zeros-rest l from mid mid (mid + n) h (omega arith) (omega arith) e) ∙ sym (block l mid n r f) ∙ not-false r t
+block-passed l from mid n r h e f t = sym (zeros-rest l from mid mid (mid + n) h (omega arith) (omega arith) e) ∙ held (block l mid n r f) t
 
 -- one that does not
 pub block-failed : (l : List ℕ) (from mid n to : ℕ) (r : Bool) → from ≤ mid → mid + n ≤ to
     → r ≡ allBelow n (byteIs l mid 0) → not r ≡ true → false ≡ allBelow (to - from) (byteIs l from 0)
 block-failed l from mid n to r h k f t =
-    sym (no-true (allBelow (to - from) (byteIs l from 0)) (λ a.
-    false≢true (sym (not-true r t) ∙ block l mid n r f ∙ zeros-all l mid (mid + n) (λ i x y. zeros-at l from to a i (omega arith) (omega arith)))))
+    sym (no-true (allBelow (to - from) (byteIs l from 0)) (λ a. failed (block l mid n r f) t (zeros-all l mid (mid + n) (λ i x y. zeros-at l from to a i (omega arith) (omega arith)))))
 
 -- the last one, which may begin among the bytes that are zero
 pub block-last : (l : List ℕ) (from mid n to : ℕ) (r : Bool) → from + n ≤ to → to ≤ mid + n → mid ≤ to → allBelow (mid - from) (byteIs l from 0) ≡ true

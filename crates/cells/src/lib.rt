@@ -127,7 +127,7 @@ pub fn copy_in(src: &[u8], dst: &mut [u8], at: usize)
 }
 
 // Whether n bytes from an index on are 0. No early way out: the or of the bytes.
-fn run_zero(s: &[u8], at: usize, n: usize) -> bool
+pub fn run_zero(s: &[u8], at: usize, n: usize) -> bool
     requires { ⌜ at + n ≤ length (now s) ⌝ }
     ensures { λ r. ⌜ r ≡ allBelow n (byteIs (now (s .entry)) at 0) ⌝ }
 {

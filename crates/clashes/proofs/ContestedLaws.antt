@@ -4,32 +4,37 @@ use mathlib.Core.Bool.{Bool, true, false, not, _&&_, false≢true, Bool·not-not
 use mathlib.Core.List.{List}
 use Prim.Native.Nat.{ℕ, suc, _+_, _*_, _/_, _%_, _≤_, _<_}
 use native.Mathlib.Omega.{arith}
-use lib.Bits.{bitOr, or-lt}
 use lib.Dec.{ltb, eqb}
 use lib.ListN.{length, getD}
-use borrow.Author.Tests.{eqb-true, ne-eqb}
-use Rattle.rules.specs.Base.{anyBelow, lowestBelow}
+use borrow.Author.Tests.{eq-eqb, eqb-true, ne-eqb, not-true}
+use Rattle.rules.specs.Base.{allBelow, anyBelow, lowestBelow}
 use Rattle.rules.specs.Sets.{Set}
-use Rattle.rules.proofs.BaseLaws.{Same, same, other, same?, and-both, and-left, and-right, both-ways, any-intro, any-elim, anyBelow-none, none-below}
+use Rattle.rules.proofs.BaseLaws.{Same, same, other, same?, and-both, and-left, and-right, both-ways, any-intro, any-elim, anyBelow-none, none-below, allBelow-intro, allBelow-at}
 use Rattle.layout.specs.Codec.{lockSection}
-use Rattle.cells.proofs.Digits.{unpack-or}
+use Rattle.layout.proofs.SectionLaws.{Bytes}
+use Rattle.cells.specs.Part.{byteIs}
+use Rattle.cells.proofs.Digits.{unpack-zero, unpack-ext}
 use Rattle.sets.specs.Members.{loaded}
 use Rattle.sets.proofs.Bytes.{loaded-full}
 use Rattle.rules.proofs.BoundLaws.{any-ext, lowest-hit}
-use Rattle.sets.proofs.GatherLaws.{Gathered, gathered-more}
 use Rattle.locks.specs.Held.{inMode}
 use Rattle.locks.proofs.SectionLaws.{row-loaded}
 use Rattle.beside.specs.Beside.{otherHolder}
 use Rattle.clashes.specs.Contested.{contested}
 
 -- A SET'S BYTES
--- one more in the or of all
-pub loaded-more : (bs : List ℕ) (at n acc : ℕ) → at + 32 ≤ length bs → n < 32 → getD bs (at + n) 0 < 256 → Gathered (loaded bs at) n acc → Gathered (loaded bs at) (n + 1) (bitOr acc (getD bs (at + n) 0))
-loaded-more bs at n acc room h small g = gathered-more (loaded bs at) n acc (bitOr acc (getD bs (at + n) 0)) (or-lt 8 acc (getD bs (at + n) 0) (g .small) small)
-    (λ b l.
-    let x : (n * 8 + b) / 8 ≡ n = omega arith in
-    let y : (n * 8 + b) % 8 ≡ b = omega arith in
-    unpack-or acc (getD bs (at + n) 0) b ∙ rw (loaded-full bs at room (n * 8 + b) (omega arith), x, y)) g
+-- it has a member where they are not all 0
+pub any-loaded : (bs : List ℕ) (at : ℕ) → at + 32 ≤ length bs → Bytes bs → (r : Bool) → r ≡ allBelow 32 (byteIs bs at 0) → not r ≡ anyBelow 256 (loaded bs at)
+unfolding byteIs
+any-loaded bs at room b r e = ap not (e ∙ both-ways (allBelow 32 (byteIs bs at 0)) (not (anyBelow 256 (loaded bs at)))
+    (λ z. ap not (none-below 256 (loaded bs at) (λ k h t.
+    let none : getD bs (at + k / 8) 0 ≡ 0 = eqb-true (getD bs (at + k / 8) 0) 0 (allBelow-at 32 (byteIs bs at 0) z (k / 8) (omega arith)) in
+    false≢true (sym (loaded-full bs at room k h ∙ rw none (unpack-zero (k % 8))) ∙ t))))
+    (λ q. allBelow-intro 32 (byteIs bs at 0) (λ i h. eq-eqb (getD bs (at + i) 0) 0 (unpack-ext 8 (getD bs (at + i) 0) 0 (b (at + i)) (omega arith) (λ j l.
+    let x : (i * 8 + j) / 8 ≡ i = omega arith in
+    let y : (i * 8 + j) % 8 ≡ j = omega arith in
+    sym (rw (x, y) at (loaded-full bs at room (i * 8 + j) (omega arith))) ∙ anyBelow-none 256 (loaded bs at) (not-true _ q) (i * 8 + j) (omega arith) ∙ sym (unpack-zero j))))))
+    ∙ Bool·not-not (anyBelow 256 (loaded bs at))
 
 -- a set of an entry's row: its readers (m is 0) or its writers (m is 1)
 pub any-in-mode : {bs : List ℕ} (held : ℕ → ℕ → ℕ) → bs ≡ lockSection held → (e m : ℕ) {at : ℕ} → e < 256 → m < 2 → at ≡ e * 64 + m * 32

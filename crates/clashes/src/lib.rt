@@ -1,5 +1,6 @@
 // Whether each clashing pair of locks has a permit, in the lent sections of locks and of permits.
 // A clashing pair has a writer in it: each writer of an entry is held against the entry's other holders.
+use cells::run_zero;
 use few_permits::few_permitted;
 use layout::Locks;
 use layout::Permits;
@@ -20,18 +21,12 @@ ghost use Rattle.clashes.specs.LocksAndPermits.{LocksAndPermits};
 ghost use Rattle.clashes.specs.Permits.{permitFrom, fromEntry};
 ghost use Rattle.clashes.specs.Contested.{contested};
 
-// Whether the set in the 32 bytes at a place has a member. No early way out: the or of the bytes.
+// Whether the set in the 32 bytes at a place has a member.
 fn any_held(locks: &[u8], at: usize) -> bool
     requires { ⌜ at + 32 ≤ length (now locks) ⌝ }
     ensures { λ r. ⌜ r ≡ anyBelow 256 (loaded (now (locks .entry)) at) ⌝ }
 {
-    let mut acc: u8 = 0;
-    let mut i: usize = 0;
-    while i < Locks::SET {
-        acc = acc | locks[at + i];
-        i += 1;
-    }
-    acc != 0
+    !run_zero(locks, at, Locks::SET)
 }
 
 // Whether an entry has a writer and another holder. A reader is another than any writer.

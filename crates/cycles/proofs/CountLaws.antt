@@ -1,15 +1,14 @@
 -- How many arrows come to a label from a set, and the last that goes from one. Assumes nothing.
 use mathlib.Core.Path.{_≡_, refl, sym, _∙_}
-use mathlib.Core.Bool.{Bool, true, false, cond, not, _&&_, false≢true, and-false}
+use mathlib.Core.Bool.{Bool, true, false, cond, not, _&&_, and-false}
 use mathlib.Core.Logic.{_≢_}
-use Prim.Native.Nat.{ℕ, zero, suc, _+_, _≤_, _<_}
+use Prim.Native.Nat.{ℕ, zero, suc, _+_, _≤_}
 use native.Mathlib.Omega.{arith}
 use lib.Dec.{eqb}
 use borrow.Author.Tests.{eqb-true, ne-eqb}
 use Rattle.rules.specs.Base.{countBelow}
 use Rattle.rules.specs.Sets.{Set, only}
-use Rattle.rules.proofs.BaseLaws.{and-map, no-true, count-within, eqb-same, Same, same, other, same?}
-use Rattle.rules.proofs.BoundLaws.{count-more}
+use Rattle.rules.proofs.BaseLaws.{and-map, count-within, eqb-same, Same, same, other, same?}
 use Rattle.cycles.specs.Graph.{Graph, comes, lastFrom}
 
 -- of no arrows none comes
@@ -25,7 +24,7 @@ module _ (G : Graph) (s : Set) (m k : ℕ) where
   comes-none e = rw e
 
   -- it goes from outside the set
-  pub comes-out : s (G .from m) ≡ false → comes G s (suc m) k ≡ comes G s m k
+  comes-out : s (G .from m) ≡ false → comes G s (suc m) k ≡ comes G s m k
   unfolding comes countBelow
   comes-out e = rw (e, and-false (G.arrow m))
 
@@ -113,20 +112,6 @@ module _ (G : Graph) (k : ℕ) where
       go (miss q) e h = absurd (omega arith)
 
 -- COUNTS
--- where none is counted none passes
-pub count-none : (n : ℕ) (p : ℕ → Bool) → countBelow n p ≡ 0 → (j : ℕ) → j < n → p j ≡ false
-count-none n p e j h = no-true (p j) (λ q. omega (arith, count-more n (λ i. false) p (λ i l z. absurd (false≢true z)) j h refl q))
-
--- where one is counted one passes
-pub count-some : (n : ℕ) (p : ℕ → Bool) → (countBelow n p ≡ 0 → ⊥) → (j : ℕ) × (j < n) × (p j ≡ true)
-unfolding countBelow
-count-some zero p h = absurd (h refl)
-count-some (suc n) p h = go (p n) refl h (count-some n p)
-  where
-    go : (b : Bool) → p n ≡ b → (cond b (suc (countBelow n p)) (countBelow n p) ≡ 0 → ⊥) → ((countBelow n p ≡ 0 → ⊥) → (j : ℕ) × (j < n) × (p j ≡ true)) → (j : ℕ) × (j < suc n) × (p j ≡ true)
-    go true e f ih = (n, omega arith, e)
-    go false e f ih = let w = ih f in (w .0, omega (arith, w .1), w .2)
-
 -- from a larger set no fewer come
 pub comes-within : (G : Graph) (s t : Set) (m k : ℕ) → ((i : ℕ) → s i ≡ true → t i ≡ true) → comes G s m k ≤ comes G t m k
 unfolding comes

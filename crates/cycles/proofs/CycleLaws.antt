@@ -1,20 +1,17 @@
 -- Arrows close no cycle just where taking away, one at a time, what no arrow comes to leaves nothing (a topological sort). Assumes nothing.
 use mathlib.Core.Path.{_≡_, refl, sym, _∙_}
-use mathlib.Core.Bool.{Bool, true, false, not, _&&_, _||_, false≢true}
+use mathlib.Core.Bool.{Bool, true, false, not, _&&_, _||_, false≢true, true≢false}
 use mathlib.Core.Logic.{_↔_}
 use mathlib.Core.List.{List}
-use Prim.Native.Nat.{ℕ, zero, suc, _+_, _≤_, _<_}
-use native.Mathlib.Omega.{arith}
+use Prim.Native.Nat.{ℕ, _<_}
 use lib.Dec.{eqb}
-use lib.ListN.{getD}
 use borrow.Author.Tests.{not-true, eqb-true}
-use Rattle.rules.specs.Base.{allBelow, anyBelow, countBelow}
+use Rattle.rules.specs.Base.{allBelow, anyBelow}
 use Rattle.rules.specs.Sets.{Set, reach}
-use Rattle.rules.proofs.BaseLaws.{and-left, and-right, any-intro, any-elim, anyBelow-none, allBelow-intro, allBelow-at, both-ways, no-true, eqb-same, count-le, Same, same, other, same?}
-use Rattle.rules.proofs.SetLaws.{reach-seed}
+use Rattle.rules.proofs.BaseLaws.{and-left, and-right, any-intro, any-elim, anyBelow-none, allBelow-intro, allBelow-at, both-ways, no-true, eqb-same, Same, same, other, same?}
 use Rattle.rules.proofs.PathLaws.{Way, stay, on, way-join, Bounded, reach-ways}
-use Rattle.rules.proofs.SourceLaws.{reach-through}
-use Rattle.rules.proofs.BoundLaws.{count-more}
+use Rattle.rules.proofs.SourceLaws.{source}
+use Rattle.layout.proofs.SectionLaws.{Bytes}
 use Rattle.cycles.specs.Graph.{Graph, graphOf, edge, noCycle}
 
 -- labels below 256
@@ -22,7 +19,7 @@ abbrev pub Small : Graph → ℕ → Type 0
 Small G m = (j : ℕ) → j < m → (G.from j < 256) × (G.to j < 256)
 
 -- labels that are bytes
-pub small-graph : (bs labels : List ℕ) → ((i : ℕ) → getD labels i 0 < 256) → (m : ℕ) → Small (graphOf bs labels) m
+pub small-graph : (bs labels : List ℕ) → Bytes labels → (m : ℕ) → Small (graphOf bs labels) m
 unfolding graphOf
 small-graph bs labels h m j l = (h _, h _)
 
@@ -51,7 +48,7 @@ module _ (G : Graph) (m : ℕ) where
 
   module _ (small : Small G m) where
     -- arrows between numbers below 256
-    pub edge-bounded : Bounded 256 (edge G m)
+    edge-bounded : Bounded 256 (edge G m)
     edge-bounded a b e = let w = edge-place a b e in (rw (← w .3) (small (w .0) (w .1) .0), rw (← w .4) (small (w .0) (w .1) .1))
 
     -- the test in words of paths
@@ -69,21 +66,12 @@ module _ (G : Graph) (m : ℕ) where
         back f j h false e = refl
         back f j h true e = rw (no-true (reach 256 (edge G m) (G.to j) (G.from j)) (λ q. f (G.from j) (G.to j) (edge-at j h e) (reach-ways 256 (edge G m) edge-bounded (G.to j) (G.from j) .0 q)))
 
-    -- without cycles, the beginning of an arrow leads to more than its end
-    climb : Free G m → (y x : ℕ) → edge G m y x ≡ true → countBelow 256 (reach 256 (edge G m) x) < countBelow 256 (reach 256 (edge G m) y)
-    climb f y x e = count-more 256 (reach 256 (edge G m) x) (reach 256 (edge G m) y) (reach-through 256 (edge G m) y x (reach-ways 256 (edge G m) edge-bounded y x .1 (on stay e)))
-        y (edge-bounded y x e .0) (no-true (reach 256 (edge G m) x y) (λ q. f y x e (reach-ways 256 (edge G m) edge-bounded x y .0 q))) (reach-seed 256 (edge G m) y)
-
-    -- a set to each member of which an arrow comes from a member
-    module _ (f : Free G m) (left : Set) (blocked : (x : ℕ) → x < 256 → left x ≡ true → (y : ℕ) × (left y ≡ true) × (edge G m y x ≡ true)) where
-      -- going back from a member reaches ever more
-      ascend : (k x : ℕ) → x < 256 → left x ≡ true → 256 ≤ k + countBelow 256 (reach 256 (edge G m) x) → ⊥
-      ascend zero x l e h = let w = blocked x l e in omega (arith, climb f (w .0) x (w .2), count-le 256 (reach 256 (edge G m) (w .0)))
-      ascend (suc k) x l e h = let w = blocked x l e in ascend k (w .0) (edge-bounded (w .0) x (w .2) .0) (w .1) (omega (arith, climb f (w .0) x (w .2)))
-
-      -- so there is none
-      none-blocked : (x : ℕ) → x < 256 → left x ≡ true → ⊥
-      none-blocked x l e = ascend 256 x l e (omega arith)
+    -- without cycles, no set has for each of its members an arrow to it from a member
+    none-blocked : Free G m → (left : Set) → ((x : ℕ) → x < 256 → left x ≡ true → (y : ℕ) × (left y ≡ true) × (edge G m y x ≡ true)) → (x : ℕ) → x < 256 → left x ≡ true → ⊥
+    none-blocked f left blocked x h e = true≢false (source 256 (edge G m) edge-bounded left (λ v. true) by x h e .3)
+      where
+        by : (v : ℕ) → v < 256 → left v ≡ true → _≡_ {A = Bool} true true → (y : ℕ) × (y < 256) × (left y ≡ true) × Way (edge G m) y v × (Way (edge G m) v y → ⊥)
+        by v l q t = let w = blocked v l q in (w .0, edge-bounded (w .0) v (w .2) .0, w .1, on stay (w .2), f (w .0) v (w .2))
 
 -- no cycle goes through what was taken away
 abbrev pub Clear : Graph → ℕ → Set → Type 0

@@ -10,11 +10,11 @@ use borrow.Author.Tests.{not-true, not-false, eqb-true}
 use Rattle.rules.specs.Base.{anyBelow, countBelow, lowestBelow}
 use Rattle.rules.specs.Sets.{Set, everything, only}
 use Rattle.rules.proofs.BaseLaws.{and-left, and-right, any-intro, eqb-same}
-use Rattle.rules.proofs.BoundLaws.{count-ext, count-more, lowest-found, lowest-below}
+use Rattle.rules.proofs.BoundLaws.{count-none, count-some, count-ext, count-more, lowest-found, lowest-below}
 use Rattle.cycles.specs.Graph.{Graph, edge, noCycle, comes, leads, sources}
 use Rattle.cycles.specs.Links.{Lists, Linked, Shows, Removable, Removed}
 use Rattle.cycles.proofs.CycleLaws.{Small, Clear, edge-at, edge-place, clear-none, clear-next, decided}
-use Rattle.cycles.proofs.CountLaws.{comes-last, last-most, last-again, comes-within, comes-parts, count-none, count-some}
+use Rattle.cycles.proofs.CountLaws.{comes-last, last-most, last-again, comes-within, comes-parts}
 
 -- what is left: the arrows that come from it are counted and shown, and no cycle goes through what was taken away
 pub record Eliminating (G : Graph) (m : ℕ) (incoming : List ℕ) (left blocked : Set) : Type 0 where
@@ -45,6 +45,10 @@ module _ (G : Graph) (m : ℕ) (s : Lists) (p : Linked G m s) where
     shown = record { counted = λ k h. rw (p .incoming k h) (p .blocked k) };
     clear = clear-none G m (s .leaders) lead;
   }
+
+-- the arrows from a label stand in the first m places
+pub source-most : {G : Graph} {m : ℕ} {s : Lists} → Linked G m s → (v : ℕ) → v < 256 → getD (s .heads) v 0 ≤ m
+source-most {G} {m} q v h = rw (q .heads v h) (last-most G v m)
 
 module _ (G : Graph) (m : ℕ) (incoming : List ℕ) (left blocked : Set) (p : Eliminating G m incoming left blocked) where
   -- no arrow comes to an unblocked label from what is left
@@ -104,10 +108,6 @@ module _ (G : Graph) (m : ℕ) (incoming : List ℕ) (left blocked : Set) (p : E
       enough = λ i l. rw (q .heads v h, comes-last G v m i, p .counted i l) (comes-within G (only v) left m i (λ k z. rw (eqb-true k v z) is-left));
       shown = p .shown;
     }
-
-    -- they stand in the first m places
-    pub source-most : (s : Lists) → Linked G m s → getD (s .heads) v 0 ≤ m
-    source-most s q = rw (q .heads v h) (last-most G v m)
 
     -- it is taken away
     module _ (rest : Set) (is : (k : ℕ) → rest k ≡ not (eqb k v) && left k) where

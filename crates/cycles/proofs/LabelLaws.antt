@@ -14,10 +14,10 @@ use Rattle.rules.specs.Sets.{Rel}
 use Rattle.rules.specs.Window.{TieRecord}
 use Rattle.rules.specs.Ties.{isGroup}
 use Rattle.rules.proofs.BaseLaws.{cond-same, Same, same, other, same?, eqb-same, Below, under, over, below}
-use Rattle.rules.proofs.PathLaws.{Way, stay, on, way-join}
+use Rattle.rules.proofs.PathLaws.{Way, stay, on, way-join, way-back}
 use Rattle.rules.proofs.TieLaws.{group-is}
 use Rattle.layout.specs.Records.{tieOf}
-use Rattle.layout.proofs.SectionLaws.{length-table, getD-table0}
+use Rattle.layout.proofs.SectionLaws.{Bytes, length-table, getD-table0}
 use Rattle.cycles.specs.Graph.{ownLabels, instead, joined, labelled}
 use Rattle.cycles.proofs.LoopLaws.{getD-map}
 
@@ -89,11 +89,6 @@ pub record Labels (R : Rel) (t : ℕ → TieRecord) (j : ℕ) (l : List ℕ) : T
   pub reach : (a b : ℕ) → a < 256 → b < 256 → getD l a 0 ≡ getD l b 0 → Way R a b
 
 module _ (R : Rel) (both : (a b : ℕ) → R a b ≡ true → R b a ≡ true) (t : ℕ → TieRecord) (leaders : (j : ℕ) → t j .leader < 256) (followers : (j : ℕ) → t j .follower < 256) where
-  -- a way goes back
-  way-back : {a b : ℕ} → Way R a b → Way R b a
-  way-back stay = stay
-  way-back (on p e) = way-join (on stay (both _ _ e)) (way-back p)
-
   -- before the first tie
   labels-none : Labels R t 0 ownLabels
   unfolding ownLabels
@@ -133,7 +128,7 @@ module _ (R : Rel) (both : (a b : ℕ) → R a b ≡ true → R b a ≡ true) (t
         go : {x y : Bool} → Same (getD l a 0) B x → Same (getD l b 0) B y → cond x A (getD l a 0) ≡ cond y A (getD l b 0) → Way R a b
         go (same u) (same v) e = m .reach a b p q (u ∙ sym v)
         go (same u) (other v) e = way-join (way-join (m .reach a (t j .follower) p (followers j) u) tie) (m .reach (t j .leader) b (leaders j) q e)
-        go (other u) (same v) e = way-back (way-join (way-join (m .reach b (t j .follower) q (followers j) v) tie) (m .reach (t j .leader) a (leaders j) p (sym e)))
+        go (other u) (same v) e = way-back both (way-join (way-join (m .reach b (t j .follower) q (followers j) v) tie) (m .reach (t j .leader) a (leaders j) p (sym e)))
         go (other u) (other v) e = m .reach a b p q e
 
     -- one tie more
@@ -173,7 +168,7 @@ small-instead a b x p q = go (eqb x b)
     go false = q
 
 -- in a whole list
-small-map : (a b : ℕ) (l : List ℕ) → a < 256 → ((k : ℕ) → getD l k 0 < 256) → (k : ℕ) → getD (map (instead b a) l) k 0 < 256
+small-map : (a b : ℕ) (l : List ℕ) → a < 256 → Bytes l → Bytes (map (instead b a) l)
 small-map a b [] p h k = omega arith
 small-map a b (x ∷ l) p h zero = small-instead a b x p (h 0)
 small-map a b (x ∷ l) p h (suc k) = small-map a b l p (λ i. h (suc i)) k

@@ -1,16 +1,15 @@
 -- What loops do: fill a list from the front, and search on. Assumes nothing.
 use mathlib.Core.Path.{_≡_, refl, sym, _∙_}
-use mathlib.Core.Bool.{Bool, false}
+use mathlib.Core.Bool.{Bool}
 use mathlib.Core.List.{List, [], _∷_, map}
 use Prim.Native.Nat.{ℕ, zero, suc, _+_, _≤_, _<_}
 use native.Mathlib.Nat.{not-suc-le-zero, le-of-suc-le-suc}
-use native.Mathlib.Numerals.{add-one}
 use native.Mathlib.Omega.{arith}
 use lib.ListN.{length, getD, set, length-set, length-map}
-use lib.Seq.{ext-getD, getD-set-same, getD-set-other}
-use Rattle.rules.specs.Base.{table, anyBelow}
+use lib.Seq.{getD-set-same, getD-set-other}
+use Rattle.rules.specs.Base.{table}
 use Rattle.rules.proofs.BaseLaws.{Same, same, other, same?}
-use Rattle.layout.proofs.SectionLaws.{length-table, getD-table0}
+use Rattle.layout.proofs.SectionLaws.{table-list}
 
 -- the first i places hold what f says, and the others what they held
 pub record Filled (f : ℕ → ℕ) (l₀ l : List ℕ) (i : ℕ) : Type 0 where
@@ -37,8 +36,7 @@ module _ (f : ℕ → ℕ) (l₀ : List ℕ) where
 
   -- all places
   pub filled-all : (l : List ℕ) (i n : ℕ) → Filled f l₀ l i → n ≤ i → length l₀ ≡ n → l ≡ table n 0 f
-  filled-all l i n m p e = ext-getD 0 l (table n 0 f) (m .long ∙ e ∙ sym (length-table n 0 f))
-      (λ k h. let q : k < n = omega (arith, m .long) in m .done k (omega arith) ∙ sym (getD-table0 n f k 0 q))
+  filled-all l i n m p e = sym (table-list 0 l f (m .long ∙ e) (λ k h. sym (m .done k (omega arith))))
 
 -- an element of a list of which each is changed
 pub getD-map : (g : ℕ → ℕ) (l : List ℕ) (k : ℕ) → k < length l → getD (map g l) k 0 ≡ g (getD l k 0)
@@ -48,10 +46,4 @@ getD-map g (x ∷ l) (suc k) h = getD-map g l k (le-of-suc-le-suc h)
 
 -- such a list by place
 pub map-table : (g : ℕ → ℕ) (l : List ℕ) (n : ℕ) → length l ≡ n → table n 0 (λ k. g (getD l k 0)) ≡ map g l
-map-table g l n e = ext-getD 0 _ (map g l) (length-table n 0 (λ k. g (getD l k 0)) ∙ sym (length-map l g ∙ e))
-    (λ k h. let q : k < n = rw length-table at h in getD-table0 n (λ k. g (getD l k 0)) k 0 q ∙ sym (getD-map g l k (omega arith)))
-
--- a search that goes on
-pub any-next : (p : ℕ → Bool) (j : ℕ) → anyBelow j p ≡ false → (b : Bool) → b ≡ p j → b ≡ false → anyBelow (j + 1) p ≡ false
-unfolding anyBelow
-any-next p j e b q h = rw (add-one j, e, sym q ∙ h)
+map-table g l n e = table-list 0 (map g l) (λ k. g (getD l k 0)) (length-map l g ∙ e) (λ k h. sym (getD-map g l k (omega arith)))

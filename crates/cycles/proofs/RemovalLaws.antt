@@ -42,14 +42,14 @@ pub record Removing (G : Graph) (k h : ℕ) (before incoming : List ℕ) (blocke
   pub fewer : (i : ℕ) → i < 256 → getD incoming i 0 + comes G (only k) h i ≡ getD before i 0 + comes G (only k) e i
   pub shown : Shows incoming blocked
 
+-- all are gone at the end
+pub removing-all : {G : Graph} {k h e : ℕ} {before incoming : List ℕ} {blocked : Set} → Removing G k h before incoming blocked e → e ≡ 0 → Removed G k h before incoming blocked
+removing-all {G} {k} r z = record { fewer = λ i q. r .fewer i q ∙ rw (z, comes-zero G (only k) i) (add-zero _); shown = r .shown }
+
 module _ (G : Graph) (k h : ℕ) (next before : List ℕ) (first : Set) (p : Removable G k h next before first) where
   -- none is gone at first
   pub removing-none : length before ≡ 256 → Removing G k h before before first h
   removing-none l = record { long = l; within = omega arith; last = p .starts; fewer = λ i q. refl; shown = p .shown }
-
-  -- all are gone at the end
-  pub removing-all : (incoming : List ℕ) (blocked : Set) (e : ℕ) → Removing G k h before incoming blocked e → e ≡ 0 → Removed G k h before incoming blocked
-  removing-all incoming blocked e r z = record { fewer = λ i q. r .fewer i q ∙ rw (z, comes-zero G (only k) i) (add-zero _); shown = r .shown }
 
   module _ (incoming : List ℕ) (blocked : Set) (d j : ℕ) (at-j : d ≡ suc j) (q₀ : Removing G k h before incoming blocked d) where
     -- what holds where j is the arrow to remove

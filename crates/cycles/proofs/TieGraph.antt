@@ -10,17 +10,18 @@ use Rattle.rules.specs.Base.{anyBelow}
 use Rattle.rules.specs.Window.{TieRecord}
 use Rattle.rules.specs.Ties.{isGroup, isArrow, tied, grouped, acyclic}
 use Rattle.rules.proofs.BaseLaws.{or-left, or-cases, both-ways, anyBelow-none}
+use Rattle.rules.proofs.TieLaws.{grouped-both}
 use Rattle.rules.proofs.PathLaws.{Way, stay, on, Arrow, Arrows, one, more, extend, acyclic-paths}
-use Rattle.rules.proofs.SourceLaws.{grouped-both}
 use Rattle.layout.specs.Codec.{noTie, tieSection}
 use Rattle.layout.specs.Records.{endsBelow, tieAt}
 use Rattle.layout.proofs.ReadLaws.{section-read, tied-place, tied-at}
+use Rattle.layout.proofs.SectionLaws.{Bytes}
 use Rattle.cycles.specs.Graph.{Graph, ownLabels, labelled, arrowAt, graphOf, edge, noCycle}
 use Rattle.cycles.proofs.LabelLaws.{Labels, labels-all, small-labels}
 use Rattle.cycles.proofs.CycleLaws.{Small, small-graph, edge-at, edge-place, no-cycle-ways}
 
 -- ties in bytes, and the labels of their groups
-module _ (bs : List ℕ) (ts : List TieRecord) (m : ℕ) (bytes : (i : ℕ) → getD bs i 0 < 256) (len : length ts ≡ m) (is : bs ≡ tieSection ts) (room : 4 * m ≤ length bs) where
+module _ (bs : List ℕ) (ts : List TieRecord) (m : ℕ) (bytes : Bytes bs) (len : length ts ≡ m) (is : bs ≡ tieSection ts) (room : 4 * m ≤ length bs) where
   -- the ties, their labels, and the arrows between labels
   abbrev t : ℕ → TieRecord
   t = tieAt bs

@@ -10,25 +10,17 @@ use Rattle.rules.specs.Base.{put, put2}
 use Rattle.rules.specs.Window.{Window, withStatus, withHeld}
 use Rattle.rules.specs.Calls.{Initiate, Lock, done}
 use Rattle.rules.specs.Effects.{effect, addChange, covers, grantable, putHeld, lockEntry}
-use Rattle.layout.specs.Codec.{changesAt, changesSize, locksAt, locksSize, figures, changeSection, lockSection, lay, decode, encode}
+use Rattle.layout.specs.Codec.{changesAt, changesSize, locksAt, locksSize, figures, changeSection, lockSection, lay, decode}
 use Rattle.layout.specs.Memory.{soundBytes}
 use Rattle.layout.proofs.PutLaws.{laidAt, withChanges}
-use Rattle.layout.proofs.LentLaws.{headLaid, FigureStored, changes-lent, locks-lent, figure-stored}
+use Rattle.layout.proofs.LentLaws.{headLaid, FigureStored, changes-lent, statuses-back, locks-back, figure-stored}
+use Rattle.layout.proofs.MemoryLaws.{bytes-again, laid-known}
 use Rattle.replies.specs.declared.Reply.{Reply}
 use Rattle.replies.specs.Gives.{Gives, written}
 use Rattle.replies.proofs.GiveLaws.{left, looked, given-done}
-use Rattle.reads.proofs.ReadLaws.{laid-known}
 
--- WINDOWS whose parts were put in place one by one
+-- A CHANGE MORE, whose parts were put in place one by one
 module _ (W : Window) where
-  with-status : (st : ℕ → ℕ) → lay (figures W) (withChanges W st (W .parent)) ≡ encode (withStatus W st)
-  unfolding lay encode figures withChanges withStatus
-  with-status st = refl
-
-  with-held : (x : ℕ → ℕ → ℕ) → lay (figures W) (withHeld W x) ≡ encode (withHeld W x)
-  unfolding encode figures withHeld
-  with-held x = refl
-
   with-change : (n p : ℕ) → n ≡ suc (W .given) → lay (figures W) (withChanges (withChanges W (put W.status n 1) W.parent) (put W.status n 1) (put W.parent n p)) ≡ lay (figures W) (addChange W p)
   unfolding lay withChanges addChange
   with-change n p e = rw e refl
@@ -40,7 +32,7 @@ module _ (W : Window) where
 module _ (bs : List ℕ) (s : soundBytes bs ≡ true) (r : Reply) where
   pub status-given : (c x : ℕ) (out : List ℕ) → ((st pa : ℕ → ℕ) → take changesSize (drop changesAt bs) ≡ changeSection st pa → out ≡ changeSection (put st c x) pa)
       → (r .answer ≡ 0) × (r .number ≡ 0) → Gives (written (done 0 (withStatus (decode bs) (put (decode bs .status) c x)))) r (laidAt bs changesAt changesSize out)
-  status-given c x out f q = given-done 0 _ r _ q (changes-lent (figures (decode bs)) (decode bs) (laid-known bs s) _ _ (f (decode bs .status) (decode bs .parent)) ∙ with-status (decode bs) (put (decode bs .status) c x))
+  status-given c x out f q = given-done 0 _ r _ q (statuses-back (decode bs) (sym (bytes-again bs s)) _ (f (decode bs .status) (decode bs .parent)))
 
   pub initiate-given : (g p : ℕ) → g ≡ decode bs .given → (o1 o2 o3 : List ℕ)
       → ((st pa : ℕ → ℕ) → take changesSize (drop changesAt bs) ≡ changeSection st pa → o1 ≡ changeSection (put st (g + 1) 1) pa)
@@ -71,4 +63,4 @@ module _ (bs : List ℕ) (s : soundBytes bs ≡ true) (r : Reply) where
   unfolding effect lockEntry covers putHeld
   lock-taken c e m h b out q l g t u f a =
       let W = decode bs in
-      rw (lt-leb m (W .held e c) (omega arith), sym g ∙ t) (given-done 0 (withHeld W (put2 W.held e c m)) r _ a (locks-lent (figures W) W (laid-known bs s) _ (f W.held u) ∙ with-held W (put2 W.held e c m)))
+      rw (lt-leb m (W .held e c) (omega arith), sym g ∙ t) (given-done 0 (withHeld W (put2 W.held e c m)) r _ a (locks-back W (sym (bytes-again bs s)) _ (f W.held u)))

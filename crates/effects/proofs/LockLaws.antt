@@ -17,9 +17,9 @@ use Rattle.rules.proofs.SoundParts.{Sound, held-no-change, clash-left}
 use Rattle.layout.specs.Codec.{locksAt, locksSize, permitsAt, permitsSize, lockSection, permitSection, decode}
 use Rattle.layout.specs.Memory.{soundBytes}
 use Rattle.layout.proofs.SoundCodec.{given-most}
-use Rattle.layout.proofs.MemoryLaws.{bytes-sound}
+use Rattle.layout.proofs.MemoryLaws.{bytes-sound, locks-known, permits-known}
 use Rattle.locks.specs.Held.{Modes, clashesWith}
-use Rattle.reads.proofs.ReadLaws.{locks-known, permits-known, modes-known}
+use Rattle.reads.proofs.ReadLaws.{modes-known}
 
 -- a set of numbers whose members clash, and have given no permit, has a member where a change given keeps the lock from being granted
 blocked : (W : Window) → Sound limits W → (c e m : ℕ) (s : Set) → ((k : ℕ) → s k ≡ not (eqb k c) && (ltb k 256 && clash (W .held e k) m) && not (permitted W.permits k c e m))
@@ -27,7 +27,7 @@ blocked : (W : Window) → Sound limits W → (c e m : ℕ) (s : Set) → ((k : 
 unfolding lockBlockers
 blocked W sound c e m s f =
     any-ext s (lockBlockers W c e m) 256 (λ k h. f k ∙ rw (lt-ltb k 256 h))
-    ∙ any-bound (lockBlockers W c e m) (suc W.given) 256 (omega (arith, given-most W sound)) (λ k h. rw (held-no-change W (sound .helds) e k h, clash-left m, and-false (not (eqb k c))))
+    ∙ any-bound (lockBlockers W c e m) (suc W.given) 256 (omega (arith, given-most W sound)) (λ k h l. rw (held-no-change W (sound .helds) e k h, clash-left m, and-false (not (eqb k c))))
 
 -- the test in code: the clashing, without the change itself, without the givers, are none
 pub grantable-read : (bs : List ℕ) → soundBytes bs ≡ true → (c e m n : ℕ) → 1 ≤ m → n ≡ length (decode bs .permits) → (p g q s : Set) (b : Bool)

@@ -2,26 +2,27 @@
 use mathlib.Core.Path.{_≡_, refl, sym, _∙_, ap}
 use mathlib.Core.Bool.{true}
 use mathlib.Core.List.{List}
-use Prim.Native.Nat.{ℕ, _<_, _^_}
+use Prim.Native.Nat.{ℕ, _≤_, _<_, _^_}
 use native.Mathlib.Omega.{arith}
 use lib.ListN.{length, getD, take, drop, replicate}
 use Rattle.rules.specs.Sets.{Set, putAll}
 use Rattle.rules.specs.Window.{limits, LogRecord, Window, live, withValue, withStatus, withHeld, withLog, withPermits, withTies}
-use Rattle.rules.specs.Effects.{released, unowned, permitsLeft, tiesLeft, endAll, undo}
+use Rattle.rules.specs.Effects.{released, isUnowned, unowned, permitsLeft, tiesLeft, endAll, undo}
+use Rattle.rules.proofs.ListLaws.{length-keep}
 use Rattle.rules.proofs.SoundParts.{Sound}
 use Rattle.rules.proofs.SoundPlain.{undo-values, value-sound}
 use Rattle.layout.specs.Codec.{valuesAt, valuesSize, changesAt, changesSize, locksAt, locksSize, logAt, logSize, windowSize, noRecord, valueByte, valueSection, changeSection, lockSection, logSection, decode, encode}
 use Rattle.layout.specs.Memory.{soundBytes}
-use Rattle.layout.proofs.MemoryLaws.{bytes-sound, bytes-again, encode-sound}
+use Rattle.layout.specs.Records.{Tabled}
+use Rattle.layout.proofs.MemoryLaws.{bytes-sound, bytes-again, encode-sound, values-known, log-known}
 use Rattle.layout.proofs.SoundCodec.{sound-canonical}
 use Rattle.layout.proofs.SectionLaws.{length-table}
 use Rattle.layout.proofs.PutLaws.{laidAt}
+use Rattle.layout.proofs.LentLaws.{values-back, statuses-back, locks-back}
 use Rattle.cells.specs.Part.{part, patch}
-use Rattle.cells.proofs.PartLaws.{length-part}
+use Rattle.cells.proofs.PartLaws.{length-part, copied}
 use Rattle.locks.specs.Held.{NoneFrom}
-use Rattle.permits.proofs.HandLaws.{copied}
-use Rattle.reads.proofs.ReadLaws.{values-known, log-known, none-from}
-use Rattle.ended.proofs.BackLaws.{statuses-back, locks-back, values-back}
+use Rattle.reads.proofs.ReadLaws.{none-from}
 
 -- the last two steps: statuses and locks
 abbrev withEnded : ℕ → Set → Window → Window
@@ -41,6 +42,11 @@ unfolding endAll withHeld withStatus withTies withPermits withLog putAll release
 all-ended how m W = refl
 
 module _ (bs : List ℕ) (s : soundBytes bs ≡ true) where
+  -- what is left of the log is counted in two bytes
+  pub log-fits : (m : Set) (count r : ℕ) {out : List ℕ} → count ≡ length (decode bs .log) → count ≤ 2048 → ((l : List LogRecord) → length l ≡ count → take logSize (drop logAt bs) ≡ logSection l → Tabled logSection (unowned m l) r out) → r < 65536
+  unfolding unowned
+  log-fits m count r c h d = omega (arith, d (decode bs .log) (sym c) (log-known bs s) .count, length-keep (isUnowned m) (decode bs .log))
+
   pub ended : (m : Set) (how entries permits ties : ℕ) {b1 b2 b3 b4 : List ℕ} → entries ≡ decode bs .entries → permits ≡ length (decode bs .permits) → ties ≡ length (decode bs .ties)
       → b1 ≡ encode (withLog (decode bs) (unowned m (decode bs .log)))
       → ((W : Window) → permits ≡ length (W .permits) → b1 ≡ encode W → b2 ≡ encode (withPermits W (permitsLeft m (W .permits))))
@@ -51,10 +57,6 @@ module _ (bs : List ℕ) (s : soundBytes bs ≡ true) where
   ended m how entries permits ties x y z e f g h = h _ (none-from bs s entries x) (g _ z (f _ y e)) ∙ ap encode (all-ended how m (decode bs))
 
   -- UNDONE
-  -- the values before fit
-  before-fits : (k : ℕ) → getD (decode bs .log) k noRecord .before < 2 ^ 32
-  before-fits = sound-canonical (decode bs) (bytes-sound bs s) .before-most
-
   -- the values are those of a window as sound as before
   pub undo-sound : (m : Set) → Sound limits (withValue (decode bs) (undo m (decode bs .log) (decode bs .value)))
   undo-sound m = let k = bytes-sound bs s in
@@ -80,7 +82,7 @@ module _ (bs : List ℕ) (s : soundBytes bs ≡ true) where
         x = undo m (decode bs .log) (decode bs .value)
 
         is : values ≡ valueSection x
-        is = f (decode bs .value) (decode bs .log) (sym n) before-fits (value-copy ∙ values-known bs s) (log-known bs s)
+        is = f (decode bs .value) (decode bs .log) (sym n) (sound-canonical (decode bs) (bytes-sound bs s) .before-most) (value-copy ∙ values-known bs s) (log-known bs s)
 
         q : out ≡ encode (withValue (decode bs) x)
-        q = h ∙ ap (λ k. laidAt bs valuesAt k values) (ap length is ∙ length-table valuesSize 0 (valueByte x)) ∙ values-back (decode bs) (sym (bytes-again bs s)) x is
+        q = h ∙ ap (λ k. laidAt bs valuesAt k values) (ap length is ∙ length-table valuesSize 0 (valueByte x)) ∙ values-back (decode bs) (sym (bytes-again bs s)) x (λ _. is)

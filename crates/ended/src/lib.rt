@@ -1,4 +1,4 @@
-// What becomes of a window when a set of changes ends: its log records undone, and all that the changes have in the tables gone.
+// What becomes of a window when a set of changes ends: all that they have in the tables is gone; and, for an abort, their log records undone.
 use cells::copy_in;
 use layout::Changes;
 use layout::Entries;

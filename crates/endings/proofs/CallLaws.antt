@@ -7,7 +7,7 @@ use Prim.Native.Nat.{ℕ, suc, _≤_}
 use native.Mathlib.Omega.{arith}
 use lib.Dec.{ltb, eqb}
 use lib.ListN.{length, take, drop}
-use borrow.Author.Tests.{not-true, not-false, eqb-true, ne-eqb, ltb-true}
+use borrow.Author.Tests.{not-true, not-false, eqb-true, ltb-true}
 use Rattle.rules.specs.Base.{anyBelow, countBelow, lowestBelow}
 use Rattle.rules.specs.Sets.{Set, Rel, reach}
 use Rattle.rules.specs.Window.{limits, TieRecord, Window, live, noChange, withValue}
@@ -15,7 +15,7 @@ use Rattle.rules.specs.Ties.{isArrow, grouped, falling, groupOf, endSet}
 use Rattle.rules.specs.Calls.{Commit, Abort, Outcome, done, unchanged}
 use Rattle.rules.specs.Effects.{endAll, undo, size, commitBlockers, commitGroup, commitChange, abortAll, abortChange, effect, leadsTo, leadersOf}
 use Rattle.rules.specs.Refusals.{_if_, checks, firstFailed}
-use Rattle.rules.proofs.BaseLaws.{and-left, and-right, or-cases, both-ways, and-both, no-true, eqb-same, Below, under, over, below}
+use Rattle.rules.proofs.BaseLaws.{and-left, and-right, or-cases, both-ways, and-both, no-true, Below, under, over, below}
 use Rattle.rules.proofs.ListLaws.{find}
 use Rattle.rules.proofs.SoundParts.{status-none, live-below, live-of, ends-below}
 use Rattle.rules.proofs.SoundStep.{group-live, fall-live}
@@ -23,12 +23,12 @@ use Rattle.layout.specs.Codec.{changesAt, changesSize, tiesAt, tiesSize, change
 use Rattle.layout.specs.Memory.{soundBytes}
 use Rattle.layout.specs.Records.{endsBelow}
 use Rattle.layout.proofs.SoundCodec.{given-most, sound-again}
-use Rattle.layout.proofs.MemoryLaws.{bytes-sound}
+use Rattle.layout.proofs.MemoryLaws.{bytes-sound, changes-known, ties-known}
 use Rattle.rules.proofs.BoundLaws.{any-bound, lowest-bound, count-bound}
 use Rattle.replies.specs.declared.Reply.{Reply}
 use Rattle.replies.specs.Gives.{Gives, written}
 use Rattle.replies.proofs.GiveLaws.{left, looked, unrefused, given-done}
-use Rattle.reads.proofs.ReadLaws.{changes-known, ties-known}
+use Rattle.reads.proofs.ReadLaws.{reads-same, reads-other}
 use Rattle.ended.proofs.EndLaws.{undo-sound}
 
 module _ (bs : List ℕ) (s : soundBytes bs ≡ true) where
@@ -46,14 +46,8 @@ module _ (bs : List ℕ) (s : soundBytes bs ≡ true) where
 
   -- BY STATUS
   module _ (c st : ℕ) (e : st ≡ decode bs .status c) where
-    status-is : (z : ℕ) → st ≡ z → eqb (decode bs .status c) z ≡ true
-    status-is z q = rw (sym e ∙ q) (eqb-same z)
-
-    status-not : (z : ℕ) → st ≢ z → eqb (decode bs .status c) z ≡ false
-    status-not z n = ne-eqb (decode bs .status c) z (λ q. n (e ∙ q))
-
     still-live : noChange (decode bs) c ≡ false → st ≢ 4 → st ≢ 5 → live (decode bs) c ≡ true
-    still-live known n m = live-of limits (decode bs) (bytes-sound bs s) c known (status-not 4 n) (status-not 5 m)
+    still-live known n m = live-of limits (decode bs) (bytes-sound bs s) c known (reads-other e 4 n) (reads-other e 5 m)
 
     -- x is how the call would end the change, y the other way to end
     module _ (x y : ℕ) (o : Outcome) where
@@ -61,20 +55,20 @@ module _ (bs : List ℕ) (s : soundBytes bs ≡ true) where
       Ending = cond (eqb (decode bs .status c) x) (done 0 (decode bs)) (cond (eqb (decode bs .status c) y) (unchanged 21 0 (decode bs)) o)
 
       pub ended-so : st ≡ x → (r : Reply) → (r .answer ≡ 0) × (r .number ≡ 0) → Gives (written Ending) r bs
-      ended-so q r a = rw (status-is x q) (looked bs s 0 r a)
+      ended-so q r a = rw (reads-same e x q) (looked bs s 0 r a)
 
       pub ended-else : st ≢ x → st ≡ y → (r : Reply) → (r .answer ≡ 21) × (r .number ≡ 0) → Gives (written Ending) r bs
-      ended-else n q r a = rw (status-not x n, status-is y q) (left bs s 21 0 r (a .0) (a .1))
+      ended-else n q r a = rw (reads-other e x n, reads-same e y q) (left bs s 21 0 r (a .0) (a .1))
 
       pub not-ended : st ≢ x → st ≢ y → {r : Reply} {after : List ℕ} → Gives (written o) r after → Gives (written Ending) r after
-      not-ended n m g = rw (status-not x n, status-not y m) g
+      not-ended n m g = rw (reads-other e x n, reads-other e y m) g
 
   -- A SET OF LIVE CHANGES has no member past the highest given
   module _ (m : Set) (lives : (k : ℕ) → m k ≡ true → live (decode bs) k ≡ true) where
     past : (k : ℕ) → suc (decode bs .given) ≤ k → m k ≡ false
     past k h = no-true (m k) (λ q. omega (arith, live-below (decode bs) k (lives k q)))
 
-    pub all-counted : countBelow 256 m ≡ size (decode bs) m
+    all-counted : countBelow 256 m ≡ size (decode bs) m
     unfolding size
     all-counted = count-bound m (suc (decode bs .given)) 256 given-below past
 
@@ -131,13 +125,13 @@ module _ (bs : List ℕ) (s : soundBytes bs ≡ true) where
       same = fun-ext blocks
 
       any-blocks : anyBelow 256 b ≡ anyBelow (suc (decode bs .given)) (commitBlockers (decode bs) g)
-      any-blocks = ap (anyBelow 256) same ∙ any-bound (commitBlockers (decode bs) g) (suc (decode bs .given)) 256 given-below (blockers-past g group-lives)
+      any-blocks = ap (anyBelow 256) same ∙ any-bound (commitBlockers (decode bs) g) (suc (decode bs .given)) 256 given-below (λ k h l. blockers-past g group-lives k h)
 
       pub commit-waits : (empty : Bool) → empty ≡ not (anyBelow 256 b) → empty ≡ false → (r : Reply) → r .answer ≡ 20 → r .number ≡ lowestBelow 256 b → Gives (written (effect (decode bs) (Commit c))) r bs
       unfolding effect commitChange commitGroup
       commit-waits empty x y r a l =
           let t = sym any-blocks ∙ not-false (anyBelow 256 b) (sym x ∙ y) in
-          not-ended c st e 4 5 _ n m (rw (← is) (rw t (left bs s 20 _ r a (l ∙ ap (lowestBelow 256) same ∙ lowest-bound (commitBlockers (decode bs) g) (suc (decode bs .given)) 256 given-below (blockers-past g group-lives) t))))
+          not-ended c st e 4 5 _ n m (rw (← is) (rw t (left bs s 20 _ r a (l ∙ ap (lowestBelow 256) same ∙ lowest-bound (commitBlockers (decode bs) g) (suc (decode bs .given)) 256 given-below t))))
 
       pub commit-ends : (empty : Bool) → empty ≡ not (anyBelow 256 b) → empty ≡ true → (count : ℕ) → count ≡ countBelow 256 g → (r : Reply) → (r .answer ≡ 0) × (r .number ≡ count) → (after : List ℕ) → after ≡ encode (endAll 4 g (decode bs))
           → Gives (written (effect (decode bs) (Commit c))) r after

@@ -30,18 +30,18 @@ pub nothing-struck : (s m test : Bool) → test ≡ false → s ≡ s && not (m 
 nothing-struck s m test t = rw (t, and-false m, and-true s)
 
 -- one permit g, t, e, o, beside the writer a: another change k is left just where the permit does not let it stand there
-module _ (r x : Set) (a k g t e o : ℕ) (others : k ≢ a) (s s′ : Bool) where
+module _ (r x : Set) (a k g t e o : ℕ) (s s′ : Bool) where
   -- the writer gives it to anybody
-  pub anybody-struck : g ≡ a → t ≡ 0 → (read write m : Bool) → read ≡ contains o 1 → write ≡ contains o 2
+  pub anybody-struck : k ≢ a → g ≡ a → t ≡ 0 → (read write m : Bool) → read ≡ contains o 1 → write ≡ contains o 2
       → m ≡ s && not (r k && read) → s′ ≡ m && not (x k && write) → s′ ≡ s && not (beside r x a k (makePermit g t e o))
   unfolding beside containsHeld makePermit
-  anybody-struck eg et read write m er ew em es = es ∙ rw (em, er, ew, eg, et, eqb-same a, or-true (eqb 0 k), ne-eqb a k (λ q. others (sym q)), or-false (r k && contains o 1 || x k && contains o 2))
+  anybody-struck others eg et read write m er ew em es = es ∙ rw (em, er, ew, eg, et, eqb-same a, or-true (eqb 0 k), ne-eqb a k (λ q. others (sym q)), or-false (r k && contains o 1 || x k && contains o 2))
       (not-either s (r k && contains o 1) (x k && contains o 2))
 
   -- it gives it to one
-  pub taker-struck : g ≡ a → t ≢ 0 → (sv : Bool) → sv ≡ containsHeld o (r t) (x t) → s′ ≡ s && not (eqb t k && sv) → s′ ≡ s && not (beside r x a k (makePermit g t e o))
+  pub taker-struck : k ≢ a → g ≡ a → t ≢ 0 → (sv : Bool) → sv ≡ containsHeld o (r t) (x t) → s′ ≡ s && not (eqb t k && sv) → s′ ≡ s && not (beside r x a k (makePermit g t e o))
   unfolding beside makePermit
-  taker-struck eg et sv ev es = es ∙ rw (ev, eg, eqb-same a, ne-eqb t 0 et, ne-eqb a k (λ q. others (sym q))) (go (same? t k))
+  taker-struck others eg et sv ev es = es ∙ rw (ev, eg, eqb-same a, ne-eqb t 0 et, ne-eqb a k (λ q. others (sym q))) (go (same? t k))
     where
       go : {b : Bool} → Same t k b → s && not (b && containsHeld o (r t) (x t)) ≡ s && not ((b || false) && containsHeld o (r k) (x k) || false)
       go (same q) = rw (q, or-false (containsHeld o (r k) (x k)))

@@ -1,9 +1,8 @@
 -- What is reached along the ties of a section, for any bound on their ends; and the leaders of ties to a set. Assumes nothing.
 use mathlib.Core.Path.{_≡_, refl, sym, ap, fun-ext, _∙_}
-use mathlib.Core.Bool.{Bool, true, false, _&&_, _||_, or-false, and-true, or-comm}
+use mathlib.Core.Bool.{Bool, true, false, _&&_, _||_, or-false}
 use mathlib.Core.List.{List}
-use Prim.Native.Nat.{ℕ, _+_, _*_, _≤_, _<_}
-use native.Mathlib.Numerals.{add-one}
+use Prim.Native.Nat.{ℕ, _*_, _≤_, _<_}
 use native.Mathlib.Omega.{arith}
 use lib.Dec.{ltb, eqb}
 use lib.ListN.{length, getD}
@@ -13,18 +12,20 @@ use Rattle.rules.specs.Sets.{Set, only, closure, reach}
 use Rattle.rules.specs.Window.{TieRecord}
 use Rattle.rules.specs.Ties.{isWait, isFall, isArrow}
 use Rattle.rules.specs.Effects.{leadsTo, leadersOf}
-use Rattle.rules.proofs.BaseLaws.{and-both, both-ways, any-intro, any-elim, eqb-sym, Same, same, other, same?}
+use Rattle.rules.proofs.BaseLaws.{and-both, both-ways, any-intro, any-elim, Same, same, other, same?}
 use Rattle.rules.proofs.ListLaws.{all-places, any-at, any-place}
 use Rattle.rules.proofs.PathLaws.{Bounded, closure-bound, grouped-bounded, falling-bounded, leading-bounded}
 use Rattle.layout.specs.Codec.{noTie, tieSection}
 use Rattle.layout.specs.Records.{endsBelow, tieAt}
 use Rattle.layout.proofs.ReadLaws.{section-read, section-ends}
+use Rattle.layout.proofs.SectionLaws.{Bytes}
 use Rattle.sets.specs.declared.Along.{Along}
 use Rattle.sets.specs.declared.Along.the-variants.{Groups, Falls, Arrows}
 use Rattle.sets.specs.Closure.{relation}
+use Rattle.sets.proofs.MemberLaws.{add-passed}
 
 -- the ends of ties in bytes are below 256
-section-below : (bs : List ℕ) (ts : List TieRecord) (m : ℕ) → ((i : ℕ) → getD bs i 0 < 256) → 4 * m ≤ length bs → length ts ≡ m → bs ≡ tieSection ts → endsBelow 256 ts ≡ true
+section-below : (bs : List ℕ) (ts : List TieRecord) (m : ℕ) → Bytes bs → 4 * m ≤ length bs → length ts ≡ m → bs ≡ tieSection ts → endsBelow 256 ts ≡ true
 unfolding endsBelow
 section-below bs ts m bytes room len e = all-places (λ t. ltb t.leader 256 && ltb t.follower 256) noTie ts
     (λ j h. let q = section-ends bs ts m room e bytes j (omega arith) in and-both (ltb (getD ts j noTie .leader) 256) _ (lt-ltb _ 256 (q .0)) (lt-ltb _ 256 (q .1)))
@@ -42,7 +43,7 @@ unfolding only
 one-added c o s z h = fun-ext (λ k. h k ∙ ap (λ (b : Bool). eqb k c || b) (z k) ∙ or-false (eqb k c))
 
 -- the closure of one along the ties of a section is what is reached from it, for any bound
-pub reached-from : (along : Along) (bs : List ℕ) (ts : List TieRecord) (m n c : ℕ) (s r : Set) → s ≡ only c → ((i : ℕ) → getD bs i 0 < 256) → 4 * m ≤ length bs → length ts ≡ m → bs ≡ tieSection ts → endsBelow n ts ≡ true
+pub reached-from : (along : Along) (bs : List ℕ) (ts : List TieRecord) (m n c : ℕ) (s r : Set) → s ≡ only c → Bytes bs → 4 * m ≤ length bs → length ts ≡ m → bs ≡ tieSection ts → endsBelow n ts ≡ true
     → ((k : ℕ) → r k ≡ closure 256 (relation along ts) s k) → (k : ℕ) → r k ≡ reach n (relation along ts) c k
 unfolding reach
 reached-from along bs ts m n c s r o bytes room len e ends h k = h k ∙ rw o (ap (λ (u : Set). u k) (closure-bound 256 n (relation along ts)
@@ -59,12 +60,6 @@ leaders-of bs ts m s k room len e = both-ways _ _
     (λ q. let a = any-place (leadsTo s k) noTie ts q in
     any-intro m (λ j. leadsTo s k (tieAt bs j)) (a .0) (omega (arith, a .1)) (rw (section-read bs ts m room e (a .0) (omega (arith, a .1))) (a .2)))
 
--- one tie more
-pub leaders-next : (t : ℕ → TieRecord) (f s r : Set) (j : ℕ) → ((k : ℕ) → s k ≡ anyBelow j (λ i. leadsTo f k (t i))) → ((k : ℕ) → r k ≡ s k || leadsTo f k (t j))
-    → (k : ℕ) → r k ≡ anyBelow (j + 1) (λ i. leadsTo f k (t i))
-unfolding anyBelow
-leaders-next t f s r j h e k = e k ∙ rw (h k, add-one j)
-
 -- a tie of another kind, or to no member, adds nothing
 pub leader-none : (t : TieRecord) (f s : Set) → isArrow t.kind && f t.follower ≡ false → (k : ℕ) → s k ≡ s k || leadsTo f k t
 unfolding leadsTo
@@ -78,7 +73,7 @@ leader-none t f s h k = sym (ap (λ (b : Bool). s k || b) (go (isArrow t.kind) (
 -- an arrow to a member adds its leader
 pub leader-more : (t : TieRecord) (f s : Set) → isArrow t.kind ≡ true → f t.follower ≡ true → (k : ℕ) → eqb k t.leader || s k ≡ s k || leadsTo f k t
 unfolding leadsTo
-leader-more t f s a h k = or-comm (eqb k t.leader) (s k) ∙ rw (a, h, eqb-sym k t.leader, and-true (eqb t.leader k))
+leader-more t f s a h k = rw a (add-passed t.leader k (s k) _ (f t.follower) h refl)
 
 -- the kinds of arrows
 pub arrow-of : (k : ℕ) → 0 < k → k ≤ 2 → isArrow k ≡ true

@@ -2,18 +2,19 @@
 -- a group tie, where one of its ends leads to the other and not back. Assumes nothing.
 use mathlib.Core.Path.{_≡_, refl, sym, ap, _∙_}
 use mathlib.Core.Bool.{Bool, Bool·beq, true, false, not, _&&_, _||_, true≢false}
-use mathlib.Core.List.{List, [], _∷_}
+use mathlib.Core.List.{List}
 use mathlib.Core.Logic.{_⊎_, inl, inr, ⊎-elim}
-use Prim.Native.Nat.{ℕ, _<_, min, max, Ordering, Ordering·lt, Ordering·eq, Ordering·gt}
+use Prim.Native.Nat.{ℕ, _<_, min, max}
 use native.Mathlib.Omega.{arith}
 use lib.Dec.{ltb, eqb}
-use borrow.Author.Tests.{eqb-true, ne-eqb, lt-ltb, ltb-false}
-use Rattle.rules.specs.Base.{Key, any, insert, byOrder, order, outside}
+use borrow.Author.Tests.{eqb-true, ne-eqb, lt-ltb}
+use Rattle.rules.specs.Base.{outside}
 use Rattle.rules.specs.Sets.{reach}
 use Rattle.rules.specs.Window.{TieRecord, tieKey}
 use Rattle.rules.specs.Ties.{isGroup, isArrow, makeTie, addTie, tied, grouped, leading, acyclic}
-use Rattle.rules.proofs.BaseLaws.{or-left, or-right, or-cases, or-map, or-none, and-both, and-left, and-right, no-true, Below, under, over, below}
-use Rattle.rules.proofs.SortLaws.{all-insert}
+use Rattle.rules.proofs.BaseLaws.{or-left, or-right, or-cases, or-map, and-both, and-left, and-right, no-true, Below, under, over, below}
+use Rattle.rules.proofs.SoundParts.{inside-of}
+use Rattle.rules.proofs.SortLaws.{all-insert, any-inserted}
 use Rattle.rules.proofs.TieLaws.{arrow-not-group}
 use Rattle.rules.proofs.PathLaws.{Way, stay, on, way-join, way-map, by-arrow, NoReturn, acyclic-clear, clear-acyclic}
 use Rattle.rules.proofs.DemandEnds.{tie-old, tie-new}
@@ -22,16 +23,6 @@ use Rattle.graph.proofs.ReachLaws.{arrow-of}
 use Rattle.graph.proofs.WayLaws.{reached, unreached, Round, around, back-or-arrow}
 
 -- ONE TIE MORE
-any-inserted {ℓ} : {A : Type ℓ} (key : A → Key) (p : A → Bool) (x : A) (l : List A) → any p (insert key (λ t u. u) x l) ≡ true → (p x ≡ true) ⊎ (any p l ≡ true)
-unfolding any insert byOrder
-any-inserted key p x [] e = or-cases (p x) false e
-any-inserted key p x (y ∷ l) e = go (order (key x) (key y)) e (any-inserted key p x l)
-  where
-    go : (o : Ordering) → any p (byOrder o (x ∷ y ∷ l) (y ∷ l) (y ∷ insert key (λ t u. u) x l)) ≡ true → (any p (insert key (λ t u. u) x l) ≡ true → (p x ≡ true) ⊎ (any p l ≡ true)) → (p x ≡ true) ⊎ (p y || any p l ≡ true)
-    go Ordering·lt q ih = or-cases (p x) (p y || any p l) q
-    go Ordering·eq q ih = inr q
-    go Ordering·gt q ih = ⊎-elim (λ h. inr (or-left (p y) (any p l) h)) (λ h. ⊎-elim inl (λ z. inr (or-right (p y) (any p l) z)) (ih h)) (or-cases (p y) (any p (insert key (λ t u. u) x l)) q)
-
 module _ (t : TieRecord) (ts : List TieRecord) where
   -- a tie of the longer list is an old one or the new one
   tied-added : (k : ℕ → Bool) (a b : ℕ) → tied (addTie t ts) k a b ≡ true → (tied ts k a b ≡ true) ⊎ ((k t.kind ≡ true) × (t .leader ≡ a) × (t .follower ≡ b))
@@ -140,7 +131,7 @@ beq-comm false false = refl
 module _ (n : ℕ) (t : TieRecord) (ts : List TieRecord) (ends : endsBelow n ts ≡ true) (hl : t .leader < n) (hf : t .follower < n) (h : acyclic n ts ≡ true) where
   ends-added : endsBelow n (addTie t ts) ≡ true
   unfolding endsBelow addTie
-  ends-added = all-insert tieKey (λ x y. y) (λ x y. refl) (λ u. ltb u.leader n && ltb u.follower n) t (and-both (ltb t.leader n) _ (lt-ltb t.leader n hl) (lt-ltb t.follower n hf)) (λ y e. e) ts ends
+  ends-added = all-insert tieKey (λ x y. y) (λ u. ltb u.leader n && ltb u.follower n) t (and-both (ltb t.leader n) _ (lt-ltb t.leader n hl) (lt-ltb t.follower n hf)) (λ y e. e) ts ends
 
   clear : NoReturn ts
   unfolding endsBelow
@@ -157,7 +148,7 @@ module _ (n : ℕ) (t : TieRecord) (ts : List TieRecord) (ends : endsBelow n ts 
   no-acyclic u = no-true (acyclic n (addTie t ts)) (λ e. u (acyclic-clear (addTie t ts) n ends-added e))
 
   -- an arrow returns just where its follower leads to its leader
-  pub arrow-test : isArrow t.kind ≡ true → reach n (leading ts) t.follower t.leader ≡ not (acyclic n (addTie t ts))
+  arrow-test : isArrow t.kind ≡ true → reach n (leading ts) t.follower t.leader ≡ not (acyclic n (addTie t ts))
   arrow-test k = go (reach n (leading ts) t.follower t.leader) refl
     where
       go : (b : Bool) → reach n (leading ts) t.follower t.leader ≡ b → b ≡ not (acyclic n (addTie t ts))
@@ -165,7 +156,7 @@ module _ (n : ℕ) (t : TieRecord) (ts : List TieRecord) (ends : endsBelow n ts 
       go false e = rw (is-acyclic (arrow-clear t ts clear k (unreached n ts ends t.follower t.leader e)))
 
   -- a group tie returns just where one end leads to the other and not back
-  pub group-test : isGroup t.kind ≡ true → Bool·beq (reach n (leading ts) t.follower t.leader) (reach n (leading ts) t.leader t.follower) ≡ acyclic n (addTie t ts)
+  group-test : isGroup t.kind ≡ true → Bool·beq (reach n (leading ts) t.follower t.leader) (reach n (leading ts) t.leader t.follower) ≡ acyclic n (addTie t ts)
   group-test k = go (reach n (leading ts) t.follower t.leader) (reach n (leading ts) t.leader t.follower) refl refl
     where
       go : (a b : Bool) → reach n (leading ts) t.follower t.leader ≡ a → reach n (leading ts) t.leader t.follower ≡ b → Bool·beq a b ≡ acyclic n (addTie t ts)
@@ -177,9 +168,8 @@ module _ (n : ℕ) (t : TieRecord) (ts : List TieRecord) (ends : endsBelow n ts 
 -- THE SAME OF A TIE AS IT IS MADE
 module _ (n : ℕ) (ts : List TieRecord) (ends : endsBelow n ts ≡ true) (k l f : ℕ) (hl : l < n) (hf : f < n) (h : acyclic n ts ≡ true) where
   pub arrow-made : outside 1 3 k ≡ false → (k ≡ 3 → ⊥) → reach n (leading ts) f l ≡ not (acyclic n (addTie (makeTie k l f) ts))
-  unfolding makeTie isGroup outside
-  arrow-made r u = let m = or-none (ltb k 1) (ltb 3 k) r in
-      rw (ne-eqb k 3 u) (arrow-test n (record { kind = k; leader = l; follower = f }) ts ends hl hf h (arrow-of k (omega (arith, ltb-false k 1 (m .0))) (omega (arith, ltb-false 3 k (m .1)))))
+  unfolding makeTie isGroup
+  arrow-made r u = let m = inside-of 1 3 k r in rw (ne-eqb k 3 u) (arrow-test n (record { kind = k; leader = l; follower = f }) ts ends hl hf h (arrow-of k (omega (arith, m .0)) (omega (arith, m .1))))
 
   -- a group tie, stored with the lower number as leader
   pub group-made : k ≡ 3 → not (Bool·beq (reach n (leading ts) f l) (reach n (leading ts) l f)) ≡ not (acyclic n (addTie (makeTie k l f) ts))

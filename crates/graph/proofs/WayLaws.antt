@@ -7,9 +7,8 @@ use Prim.Native.Nat.{ℕ}
 use Rattle.rules.specs.Sets.{Rel, reach}
 use Rattle.rules.specs.Window.{TieRecord}
 use Rattle.rules.specs.Ties.{isArrow, tied, grouped, leading}
-use Rattle.rules.proofs.BaseLaws.{or-left, or-cases}
-use Rattle.rules.proofs.PathLaws.{Way, stay, on, way-join, Bounded, reach-ways, leading-bounded}
-use Rattle.rules.proofs.SourceLaws.{grouped-both}
+use Rattle.rules.proofs.TieLaws.{grouped-both}
+use Rattle.rules.proofs.PathLaws.{Crossing, Way, stay, on, way-join, Bounded, reach-ways, by-group, either-way, leading-bounded}
 use Rattle.layout.specs.Records.{endsBelow}
 
 -- WHAT TIES REACH, where their ends are below n
@@ -48,21 +47,12 @@ module _ (r s : Rel) (In Out : ℕ → Type 0) (ways : (a b : ℕ) → s a b ≡
       go (inr m) (inr q) = inr (record { enter = m .enter; leave = w; goes = m .goes; comes = q .1; to = m .to; fro = stay })
 
 -- ARROWS ON THE WAY
--- a path from x to y that goes along an arrow
-pub record Crossing (ts : List TieRecord) (x y : ℕ) : Type 0 where
-  pub leader : ℕ
-  pub follower : ℕ
-  pub to : Way (leading ts) x leader
-  pub arrow : tied ts isArrow leader follower ≡ true
-  pub fro : Way (leading ts) follower y
-
 -- where a path leads, one leads back, or it goes along an arrow
 pub back-or-arrow : (ts : List TieRecord) {x y : ℕ} → Way (leading ts) x y → Way (leading ts) y x ⊎ Crossing ts x y
-unfolding leading
 back-or-arrow ts stay = inl stay
-back-or-arrow ts (on {b = a} {c = b} w e) = go w (back-or-arrow ts w) (or-cases (grouped ts a b) (tied ts isArrow a b) e)
+back-or-arrow ts (on {b = a} {c = b} w e) = go w (back-or-arrow ts w) (either-way ts a b e)
   where
     go : {x : ℕ} → Way (leading ts) x a → Way (leading ts) a x ⊎ Crossing ts x a → (grouped ts a b ≡ true) ⊎ (tied ts isArrow a b ≡ true) → Way (leading ts) b x ⊎ Crossing ts x b
-    go p (inl q) (inl g) = inl (way-join (on stay (or-left (grouped ts b a) _ (grouped-both ts a b g))) q)
+    go p (inl q) (inl g) = inl (way-join (on stay (by-group ts b a (grouped-both ts a b g))) q)
     go p (inr m) (inl g) = inr (record { leader = m .leader; follower = m .follower; to = m .to; arrow = m .arrow; fro = on (m .fro) e })
     go p q (inr h) = inr (record { leader = a; follower = b; to = p; arrow = h; fro = stay })

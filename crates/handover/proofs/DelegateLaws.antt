@@ -11,7 +11,7 @@ use lib.ListN.{take}
 use borrow.Author.Tests.{not-false}
 use Rattle.rules.specs.Window.{limits, Window, live}
 use Rattle.rules.specs.Locks.{clashesPermitted}
-use Rattle.rules.specs.Calls.{Delegate, done}
+use Rattle.rules.specs.Calls.{Delegate}
 use Rattle.rules.specs.Effects.{every, entriesNamed, handOver, effect}
 use Rattle.rules.specs.Refusals.{_if_, checks, firstFailed, step}
 use Rattle.rules.proofs.BaseLaws.{and-right}

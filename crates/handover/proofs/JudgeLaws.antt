@@ -16,11 +16,10 @@ use Rattle.rules.proofs.SoundDelegate.{hand-held, hand-order}
 use Rattle.layout.specs.Codec.{locksAt, locksSize, permitsSize, windowSize, decode}
 use Rattle.layout.specs.Memory.{soundBytes}
 use Rattle.layout.proofs.SoundCodec.{given-most}
+use Rattle.layout.proofs.MemoryLaws.{locks-known, permits-known}
 use Rattle.cells.specs.Part.{part, patch}
-use Rattle.cells.proofs.PartLaws.{length-part}
+use Rattle.cells.proofs.PartLaws.{length-part, copied}
 use Rattle.locks.specs.Held.{Modes}
-use Rattle.permits.proofs.HandLaws.{copied}
-use Rattle.reads.proofs.ReadLaws.{locks-known, permits-known}
 use Rattle.clashes.specs.LocksAndPermits.{LocksAndPermits}
 use Rattle.handed.specs.Tables.{tablesSize, tablesOf, AreTables}
 use Rattle.handed.proofs.TableLaws.{locks-cut, permits-cut}
@@ -56,5 +55,5 @@ module _ (W : Window) (from to : ℕ) (on : Set) (k : Sound limits W) (lives : l
     modes = held-most (handOver W from to on) handed-helds;
     given = omega (arith, given-most W k);
     none-above = held-no-change (handOver W from to on) handed-helds;
-    in-order = hand-order limits W from to on k lives;
+    in-order = hand-order from to on W.permits (k .permit-order);
   }

@@ -23,7 +23,7 @@ use Rattle.layout.specs.Codec.{lineByte, headSize, valuesSize, changesSi
 use Rattle.layout.specs.Memory.{windowOf, handBack, layInto, perform}
 use Rattle.layout.proofs.CodecLaws.{pack-most}
 use Rattle.layout.proofs.SoundCodec.{entries-most, given-most}
-use Rattle.layout.proofs.MemoryLaws.{Performed, refused, ruled, opened, performed, Anewed, begun, kept, anewed, memory-sound}
+use Rattle.layout.proofs.MemoryLaws.{Performed, refused, ruled, begun, kept, performed, memory-sound}
 use Rattle.layout.proofs.SectionLaws.{Section, section, sections, layOut, encode-sections}
 
 abbrev pub small : ℕ → Bool
@@ -110,7 +110,7 @@ module _ (W : Window) (k : Sound limits W) where
   unfolding tieByte
   tie-small i = place-small tieBytes W.ties noTie (tieSound (live W)) sound-tie (k .ties) (unfold tieBytes all in refl) (i / 4) (i % 4)
 
-  pub encode-small : all small (encode W) ≡ true
+  encode-small : all small (encode W) ≡ true
   unfolding sections valueByte lineByte
   encode-small = rw (encode-sections W) (all-section small headSize (headByte (figures W)) _ head-small
       (all-section small valuesSize (valueByte (W .value)) _ (λ i. byte-small (i % 4) (W .value (i / 4)))
@@ -134,11 +134,8 @@ perform-small mem c f h = go (performed mem c)
     lay : (o : Outcome) → Sound limits (o .after) → all small (layInto mem o .after) ≡ true
     lay o k = unfold layInto in all-join small (encode (o .after)) (drop windowSize mem) (encode-small (o .after) k) (all-drop small windowSize mem h)
 
-    again : {o : Outcome} {r : Reply (List ℕ)} → (o .answer ≡ 0 → Sound limits (o .after)) → Anewed mem o r → all small (r .after) ≡ true
-    again {o} s (begun e) = lay o (s e)
-    again s (kept n) = unfold handBack in h
-
     go : {r : Reply (List ℕ)} → Performed mem c r → all small (r .after) ≡ true
     go refused = unfold handBack in h
     go (ruled q) = lay (step limits (windowOf mem) c) (step-sound limits (windowOf mem) c f (memory-sound mem q))
-    go (opened l o) = let m = is-open c o in again (λ e. rw (m .1) (opened-sound limits (fresh 0) (m .0) (rw (m .1) at e))) (anewed mem (step limits (fresh 0) c))
+    go (begun l o e) = let m = is-open c o in lay (step limits (fresh 0) c) (rw (m .1) (opened-sound limits (fresh 0) (m .0) (rw (m .1) at e)))
+    go (kept n) = unfold handBack in h

@@ -2,8 +2,9 @@
 use mathlib.Core.Path.{_≡_, refl, sym, _∙_, ap, fun-ext}
 use mathlib.Core.Bool.{Bool, true, false, cond, _&&_}
 use Prim.Native.Nat.{ℕ, zero, suc, _+_, _*_, _/_, _%_, _^_, _≤_, _<_}
-use native.Mathlib.Nat.{pow-suc, mul-comm, zero-div, div-div-eq-div-mul, not-suc-le-zero, le-of-suc-le-suc}
+use native.Mathlib.Nat.{pow-succ', mul-div-cancel, mul-mod-left, zero-lt-suc, zero-div, div-div-eq-div-mul, not-suc-le-zero, le-of-suc-le-suc}
 use native.Mathlib.Omega.{arith}
+use lib.Arith.{digits-div, digits-mod}
 use lib.Dec.{eqb}
 use lib.ListN.{getD, length}
 use Rattle.rules.specs.Base.{table}
@@ -19,23 +20,23 @@ module _ (W : Window) where
   unfolding sections section
   length-encode = rw (encode-sections W) (length-layOut (sections (figures W) W))
 
-  pub head-at : (i : ℕ) → i < headSize → inside headAt (encode W) i ≡ headByte (figures W) i
+  head-at : (i : ℕ) → i < headSize → inside headAt (encode W) i ≡ headByte (figures W) i
   unfolding inside sections section
   head-at i h = rw (encode-sections W) (layOut-at (sections (figures W) W) 0 i h)
 
-  pub values-at : (i : ℕ) → i < valuesSize → inside valuesAt (encode W) i ≡ valueByte (W .value) i
+  values-at : (i : ℕ) → i < valuesSize → inside valuesAt (encode W) i ≡ valueByte (W .value) i
   unfolding inside sections section
   values-at i h = rw (encode-sections W) (layOut-at (sections (figures W) W) 1 i h)
 
-  pub changes-at : (i : ℕ) → i < changesSize → inside changesAt (encode W) i ≡ changeByte (W .status) (W .parent) i
+  changes-at : (i : ℕ) → i < changesSize → inside changesAt (encode W) i ≡ changeByte (W .status) (W .parent) i
   unfolding inside sections section
   changes-at i h = rw (encode-sections W) (layOut-at (sections (figures W) W) 2 i h)
 
-  pub locks-at : (i : ℕ) → i < locksSize → inside locksAt (encode W) i ≡ lockByte (W .held) i
+  locks-at : (i : ℕ) → i < locksSize → inside locksAt (encode W) i ≡ lockByte (W .held) i
   unfolding inside sections section
   locks-at i h = rw (encode-sections W) (layOut-at (sections (figures W) W) 4 i h)
 
-  pub permits-at : (i : ℕ) → i < permitsSize → inside permitsAt (encode W) i ≡ permitByte (W .permits) i
+  permits-at : (i : ℕ) → i < permitsSize → inside permitsAt (encode W) i ≡ permitByte (W .permits) i
   unfolding inside sections section
   permits-at i h = rw (encode-sections W) (layOut-at (sections (figures W) W) 5 i h)
 
@@ -43,12 +44,12 @@ module _ (W : Window) where
   unfolding inside sections section
   ties-at i h = rw (encode-sections W) (layOut-at (sections (figures W) W) 6 i h)
 
-  pub log-at : (i : ℕ) → i < logSize → inside logAt (encode W) i ≡ logByte (W .log) i
+  log-at : (i : ℕ) → i < logSize → inside logAt (encode W) i ≡ logByte (W .log) i
   unfolding inside sections section
   log-at i h = rw (encode-sections W) (layOut-at (sections (figures W) W) 7 i h)
 
 -- numbers of two and of four bytes
-pub join2-byte : (v : ℕ) → v < 65536 → join2 (byte 0 v) (byte 1 v) ≡ v
+join2-byte : (v : ℕ) → v < 65536 → join2 (byte 0 v) (byte 1 v) ≡ v
 unfolding join2 byte
 join2-byte v h = omega arith
 
@@ -74,23 +75,11 @@ join4-same : (f g : ℕ → ℕ) → ((k : ℕ) → k < 4 → f k ≡ g k) → j
 unfolding join4
 join4-same f g h = rw (h 0 (omega arith), h 1 (omega arith), h 2 (omega arith), h 3 (omega arith))
 
-slot4 : (e k : ℕ) → k < 4 → (e * 4 + k) / 4 ≡ e
-slot4 e k h = omega arith
-
-rest4 : (e k : ℕ) → k < 4 → (e * 4 + k) % 4 ≡ k
-rest4 e k h = omega arith
-
-mul4-div : (c : ℕ) → c * 4 / 4 ≡ c
-mul4-div c = omega arith
-
-mul4-mod : (c : ℕ) → c * 4 % 4 ≡ 0
-mul4-mod c = omega arith
-
--- n tests packed in a number of n bits
 bit-most : (b : Bool) → bit b < 2
 bit-most true = omega arith
 bit-most false = omega arith
 
+-- n tests packed in a number of n bits
 pub pack-most : (n : ℕ) (p : ℕ → Bool) → pack n p < 2 ^ n
 unfolding pack
 pack-most zero p = omega arith
@@ -112,14 +101,12 @@ eqb-bit : (x : ℕ) (b : Bool) → x ≡ bit b → eqb x 1 ≡ b
 eqb-bit x true e = rw e
 eqb-bit x false e = rw e
 
-modes : (x : ℕ) → x ≤ 2 → cond (eqb x 2) 2 (bit (eqb x 1)) ≡ x
-modes zero h = refl
-modes (suc zero) h = refl
-modes (suc (suc zero)) h = refl
-modes (suc (suc (suc x))) h = absurd (omega arith)
-
-two-pow : (i : ℕ) → 2 ^ suc i ≡ 2 * 2 ^ i
-two-pow i = pow-suc 2 i ∙ mul-comm (2 ^ i) 2
+-- what is said of none, read and write is said of each mode
+pub each-mode : (P : ℕ → Type 0) → P 0 → P 1 → P 2 → (x : ℕ) → x ≤ 2 → P x
+each-mode P a b c zero h = a
+each-mode P a b c (suc zero) h = b
+each-mode P a b c (suc (suc zero)) h = c
+each-mode P a b c (suc (suc (suc x))) h = absurd (omega arith)
 
 pub unpack-pack : (n : ℕ) (p : ℕ → Bool) (i : ℕ) → i < n → unpack (pack n p) i ≡ p i
 unfolding unpack pack
@@ -127,7 +114,7 @@ unpack-pack zero p i h = absurd (not-suc-le-zero h)
 unpack-pack (suc n) p zero h = eqb-bit ((bit (p 0) + 2 * pack n (λ j. p (suc j))) / 1 % 2) (p 0) (omega (arith, bit-most (p 0)))
 unpack-pack (suc n) p (suc i) h =
     let q : (bit (p 0) + 2 * pack n (λ j. p (suc j))) / 2 ≡ pack n (λ j. p (suc j)) = omega (arith, bit-most (p 0)) in
-    rw (two-pow i, ← (div-div-eq-div-mul (bit (p 0) + 2 * pack n (λ j. p (suc j))) 2 (2 ^ i)), q) (unpack-pack n (λ j. p (suc j)) i (le-of-suc-le-suc h))
+    rw (pow-succ' 2 i, ← (div-div-eq-div-mul (bit (p 0) + 2 * pack n (λ j. p (suc j))) 2 (2 ^ i)), q) (unpack-pack n (λ j. p (suc j)) i (le-of-suc-le-suc h))
 
 -- what bytes can say
 pub record Canonical (W : Window) : Type 0 where
@@ -149,15 +136,15 @@ module _ (W : Window) where
   figure-again : (k n : ℕ) → k < 5 → getD (figures W) k 0 ≡ n → n < 65536 → readFigure (encode W) k ≡ n
   unfolding readFigure headByte
   figure-again k n h e m =
-      let a : k * 2 / 2 ≡ k = omega arith in let b : k * 2 % 2 ≡ 0 = omega arith in let c : (k * 2 + 1) / 2 ≡ k = omega arith in let d : (k * 2 + 1) % 2 ≡ 1 = omega arith in
-      rw (head-at W (k * 2) (omega arith), head-at W (k * 2 + 1) (omega arith), a, b, c, d, e) (join2-byte n m)
+      let one : 1 < 2 = omega arith in
+      rw (head-at W (k * 2) (omega arith), head-at W (k * 2 + 1) (omega arith), mul-div-cancel k (zero-lt-suc 1), mul-mod-left k 2, digits-div k one, digits-mod k one, e) (join2-byte n m)
 
   value-again : ((e : ℕ) → W .value e < 4294967296) → ((e : ℕ) → 256 ≤ e → W .value e ≡ 0) → (e : ℕ) → readValue (encode W) e ≡ W .value e
   unfolding readValue valueByte
   value-again most none e = go (below e 256)
     where
       go : {b : Bool} → Below e 256 b → cond b (join4 (λ j. inside valuesAt (encode W) (e * 4 + j))) 0 ≡ W .value e
-      go (under h) = join4-same (λ j. inside valuesAt (encode W) (e * 4 + j)) (λ j. byte j (W .value e)) (λ j l. values-at W (e * 4 + j) (omega arith) ∙ rw (slot4 e j l, rest4 e j l)) ∙ join4-byte (W .value e) (most e)
+      go (under h) = join4-same (λ j. inside valuesAt (encode W) (e * 4 + j)) (λ j. byte j (W .value e)) (λ j l. values-at W (e * 4 + j) (omega arith) ∙ rw (digits-div e l, digits-mod e l)) ∙ join4-byte (W .value e) (most e)
       go (over h) = sym (none e h)
 
   status-again : ((c : ℕ) → 256 ≤ c → W .status c ≡ 0) → (c : ℕ) → readStatus (encode W) c ≡ W .status c
@@ -165,7 +152,7 @@ module _ (W : Window) where
   status-again none c = go (below c 256)
     where
       go : {b : Bool} → Below c 256 b → cond b (inside changesAt (encode W) (c * 4)) 0 ≡ W .status c
-      go (under h) = changes-at W (c * 4) (omega arith) ∙ rw (mul4-mod c, mul4-div c)
+      go (under h) = changes-at W (c * 4) (omega arith) ∙ rw (mul-mod-left c 4, mul-div-cancel c (zero-lt-suc 3))
       go (over h) = sym (none c h)
 
   parent-again : ((c : ℕ) → 256 ≤ c → W .parent c ≡ 0) → (c : ℕ) → readParent (encode W) c ≡ W .parent c
@@ -173,7 +160,7 @@ module _ (W : Window) where
   parent-again none c = go (below c 256)
     where
       go : {b : Bool} → Below c 256 b → cond b (inside changesAt (encode W) (c * 4 + 1)) 0 ≡ W .parent c
-      go (under h) = changes-at W (c * 4 + 1) (omega arith) ∙ rw (slot4 c 1 (omega arith), rest4 c 1 (omega arith))
+      go (under h) = let one : 1 < 4 = omega arith in changes-at W (c * 4 + 1) (omega arith) ∙ rw (digits-div c one, digits-mod c one)
       go (over h) = sym (none c h)
 
   -- a change's bit among an entry's readers (m is 0) or writers (m is 1)
@@ -192,7 +179,7 @@ module _ (W : Window) where
   held-again most e c he hc =
       let w : unpack (inside locksAt (encode W) (e * 64 + 32 + c / 8)) (c % 8) ≡ eqb (W .held e c) 2 = ap (λ x. unpack (inside locksAt (encode W) x) (c % 8)) (omega arith) ∙ bit-at e c 1 he hc (omega arith) in
       let r : unpack (inside locksAt (encode W) (e * 64 + c / 8)) (c % 8) ≡ eqb (W .held e c) 1 = ap (λ x. unpack (inside locksAt (encode W) x) (c % 8)) (omega arith) ∙ bit-at e c 0 he hc (omega arith) in
-      rw (w, r) (modes (W .held e c) (most e c))
+      rw (w, r) (each-mode (λ x. cond (eqb x 2) 2 (bit (eqb x 1)) ≡ x) refl refl refl (W .held e c) (most e c))
 
   held-all : ((e c : ℕ) → W .held e c ≤ 2) → ((e c : ℕ) → 256 ≤ e → W .held e c ≡ 0) → ((e c : ℕ) → 256 ≤ c → W .held e c ≡ 0) → (e c : ℕ) → readHeld (encode W) e c ≡ W .held e c
   unfolding readHeld
@@ -207,8 +194,7 @@ module _ (W : Window) where
 
   record-at : (j i : ℕ) → j < 2048 → i < 6 → inside logAt (encode W) (j * 6 + i) ≡ getD (recordBytes (getD W.log j noRecord)) i 0
   unfolding logByte
-  record-at j i h l = let q : (j * 6 + i) / 6 ≡ j = omega arith in let r : (j * 6 + i) % 6 ≡ i = omega arith in
-      log-at W (j * 6 + i) (omega arith) ∙ rw (q, r)
+  record-at j i h l = log-at W (j * 6 + i) (omega arith) ∙ rw (digits-div j l, digits-mod j l)
 
   record-there : (j : ℕ) → j < 2048 → getD W.log j noRecord .before < 4294967296 → readRecord (encode W) j ≡ getD W.log j noRecord
   unfolding readRecord recordBytes
@@ -227,7 +213,7 @@ module _ (W : Window) where
 
   permit-at : (j i : ℕ) → j < 1024 → i < 4 → inside permitsAt (encode W) (j * 4 + i) ≡ getD (permitBytes (getD W.permits j noPermit)) i 0
   unfolding permitByte
-  permit-at j i h l = permits-at W (j * 4 + i) (omega arith) ∙ rw (slot4 j i l, rest4 j i l)
+  permit-at j i h l = permits-at W (j * 4 + i) (omega arith) ∙ rw (digits-div j l, digits-mod j l)
 
   permit-there : (j : ℕ) → j < 1024 → readPermit (encode W) j ≡ getD W.permits j noPermit
   unfolding readPermit
@@ -235,7 +221,7 @@ module _ (W : Window) where
 
   tie-at : (j i : ℕ) → j < 512 → i < 4 → inside tiesAt (encode W) (j * 4 + i) ≡ getD (tieBytes (getD W.ties j noTie)) i 0
   unfolding tieByte
-  tie-at j i h l = ties-at W (j * 4 + i) (omega arith) ∙ rw (slot4 j i l, rest4 j i l)
+  tie-at j i h l = ties-at W (j * 4 + i) (omega arith) ∙ rw (digits-div j l, digits-mod j l)
 
   tie-there : (j : ℕ) → j < 512 → readTie (encode W) j ≡ getD W.ties j noTie
   unfolding readTie
@@ -245,17 +231,17 @@ module _ (W : Window) (k : Canonical W) where
   log-again : table (readFigure (encode W) 2) 0 (readRecord (encode W)) ≡ W .log
   unfolding figures
   log-again = rw (figure-again W 2 (length W.log) (omega arith) refl (omega (arith, k .log-most)))
-      (table-list noRecord W.log (readRecord (encode W)) (λ j l. record-there W j (omega (arith, k .log-most)) (k .before-most j)))
+      (table-list noRecord W.log (readRecord (encode W)) refl (λ j l. record-there W j (omega (arith, k .log-most)) (k .before-most j)))
 
   permits-again : table (readFigure (encode W) 3) 0 (readPermit (encode W)) ≡ W .permits
   unfolding figures
   permits-again = rw (figure-again W 3 (length W.permits) (omega arith) refl (omega (arith, k .permits-most)))
-      (table-list noPermit W.permits (readPermit (encode W)) (λ j l. permit-there W j (omega (arith, k .permits-most))))
+      (table-list noPermit W.permits (readPermit (encode W)) refl (λ j l. permit-there W j (omega (arith, k .permits-most))))
 
   ties-again : table (readFigure (encode W) 4) 0 (readTie (encode W)) ≡ W .ties
   unfolding figures
   ties-again = rw (figure-again W 4 (length W.ties) (omega arith) refl (omega (arith, k .ties-most)))
-      (table-list noTie W.ties (readTie (encode W)) (λ j l. tie-there W j (omega (arith, k .ties-most))))
+      (table-list noTie W.ties (readTie (encode W)) refl (λ j l. tie-there W j (omega (arith, k .ties-most))))
 
   pub decode-encode : decode (encode W) ≡ W
   unfolding decode figures

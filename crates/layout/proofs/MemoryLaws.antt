@@ -18,19 +18,20 @@ use Rattle.rules.proofs.BaseLaws.{and-left, and-right, and-both, eqb-same, Same
 use Rattle.rules.proofs.RuleLaws.{quiet, open-answer, open-number}
 use Rattle.rules.proofs.SoundParts.{Sound, sound-parts, parts-sound}
 use Rattle.rules.proofs.SoundStep.{step-sound, opened-sound, opened-fresh}
-use Rattle.layout.specs.Codec.{windowSize, figures, lay, decode, encode}
+use Rattle.layout.specs.Codec.{headAt, headSize, valuesAt, valuesSize, changesAt, changesSize, lineAt, lineSize, locksAt, locksSize, permitsAt, permitsSize, tiesAt, tiesSize, logAt, logSize, windowSize, figures, headSection, valueSection, changeSection, lineSection, lockSection, permitSection, tieSection, logSection, lay, decode, encode}
 use Rattle.layout.specs.Memory.{sameBytes, soundBytes, long, soundMemory, windowOf, layInto, handBack, anew, memoryRefused, perform}
 use Rattle.layout.proofs.CodecLaws.{length-encode}
+use Rattle.layout.proofs.PartLaws.{head-part, values-part, changes-part, line-part, locks-part, permits-part, ties-part, log-part}
 use Rattle.layout.proofs.SoundCodec.{sound-again, decode-blank}
 
-sameBytes-eq : (k l : List ℕ) → sameBytes k l ≡ true → k ≡ l
+pub sameBytes-eq : (k l : List ℕ) → sameBytes k l ≡ true → k ≡ l
 unfolding sameBytes
 sameBytes-eq [] [] e = refl
 sameBytes-eq [] (y ∷ l) e = absurd (false≢true e)
 sameBytes-eq (x ∷ k) [] e = absurd (false≢true e)
 sameBytes-eq (x ∷ k) (y ∷ l) e = λ i. eqb-true x y (and-left (eqb x y) (sameBytes k l) e) i ∷ sameBytes-eq k l (and-right (eqb x y) (sameBytes k l) e) i
 
-sameBytes-refl : (l : List ℕ) → sameBytes l l ≡ true
+pub sameBytes-refl : (l : List ℕ) → sameBytes l l ≡ true
 unfolding sameBytes
 sameBytes-refl [] = refl
 sameBytes-refl (x ∷ l) = and-both (eqb x x) (sameBytes l l) (eqb-same x) (sameBytes-refl l)
@@ -48,35 +49,65 @@ pub bytes-sound : (bs : List ℕ) → soundBytes bs ≡ true → Sound limits (d
 unfolding soundBytes
 bytes-sound bs h = sound-parts limits (decode bs) (and-right (sameBytes (encode (decode bs)) bs) (sound limits (decode bs)) h) (decode-blank bs)
 
--- a part of sound bytes is that part of their window's
-pub part-of : (bs : List ℕ) → soundBytes bs ≡ true → (at n : ℕ) {x : List ℕ} → take n (drop at (lay (figures (decode bs)) (decode bs))) ≡ x → take n (drop at bs) ≡ x
-unfolding encode
-part-of bs h at n e = ap (λ l. take n (drop at l)) (sym (bytes-again bs h)) ∙ e
-
 pub sound-encodings : (bs : List ℕ) → soundBytes bs ≡ true ↔ ((W : Window) × Sound limits W × (encode W ≡ bs))
 sound-encodings bs = (λ h. (decode bs, bytes-sound bs h, bytes-again bs h), λ m. rw (m .2) at (encode-sound (m .0) (m .1)))
 
+-- the sections that sound bytes have are their window's
+module _ (bs : List ℕ) (s : soundBytes bs ≡ true) where
+  pub laid-known : bs ≡ lay (figures (decode bs)) (decode bs)
+  unfolding encode
+  laid-known = sym (bytes-again bs s)
+
+  part-known : (at n : ℕ) {x : List ℕ} → take n (drop at (lay (figures (decode bs)) (decode bs))) ≡ x → take n (drop at bs) ≡ x
+  part-known at n e = ap (λ l. take n (drop at l)) laid-known ∙ e
+
+  pub head-known : take headSize (drop headAt bs) ≡ headSection (figures (decode bs))
+  head-known = part-known headAt headSize (head-part _ _)
+
+  pub values-known : take valuesSize (drop valuesAt bs) ≡ valueSection (decode bs .value)
+  values-known = part-known valuesAt valuesSize (values-part _ _)
+
+  pub changes-known : take changesSize (drop changesAt bs) ≡ changeSection (decode bs .status) (decode bs .parent)
+  changes-known = part-known changesAt changesSize (changes-part _ _)
+
+  pub line-known : take lineSize (drop lineAt bs) ≡ lineSection
+  line-known = part-known lineAt lineSize (line-part (figures (decode bs)) (decode bs))
+
+  pub locks-known : take locksSize (drop locksAt bs) ≡ lockSection (decode bs .held)
+  locks-known = part-known locksAt locksSize (locks-part _ _)
+
+  pub permits-known : take permitsSize (drop permitsAt bs) ≡ permitSection (decode bs .permits)
+  permits-known = part-known permitsAt permitsSize (permits-part _ _)
+
+  pub ties-known : take tiesSize (drop tiesAt bs) ≡ tieSection (decode bs .ties)
+  ties-known = part-known tiesAt tiesSize (ties-part _ _)
+
+  pub log-known : take logSize (drop logAt bs) ≡ logSection (decode bs .log)
+  log-known = part-known logAt logSize (log-part _ _)
+
 -- MEMORY
 module _ (mem : List ℕ) where
-  -- sound memory is its window's bytes and the rest
-  pub memory-again : soundMemory mem ≡ true → encode (windowOf mem) ++ drop windowSize mem ≡ mem
-  unfolding soundMemory
-  memory-again h = rw (bytes-again (take windowSize mem) (and-right (long mem) (soundBytes (take windowSize mem)) h)) (take-append-drop windowSize mem)
-
   pub sound-long : soundMemory mem ≡ true → long mem ≡ true
   unfolding soundMemory
   sound-long h = and-left (long mem) _ h
 
-  pub memory-sound : soundMemory mem ≡ true → Sound limits (windowOf mem)
+  pub sound-front : soundMemory mem ≡ true → soundBytes (take windowSize mem) ≡ true
   unfolding soundMemory
-  memory-sound h = bytes-sound (take windowSize mem) (and-right (long mem) (soundBytes (take windowSize mem)) h)
+  sound-front h = and-right (long mem) _ h
+
+  -- sound memory is its window's bytes and the rest
+  memory-again : soundMemory mem ≡ true → encode (windowOf mem) ++ drop windowSize mem ≡ mem
+  memory-again h = rw (bytes-again (take windowSize mem) (sound-front h)) (take-append-drop windowSize mem)
+
+  pub memory-sound : soundMemory mem ≡ true → Sound limits (windowOf mem)
+  memory-sound h = bytes-sound (take windowSize mem) (sound-front h)
 
 -- memory that begins with the bytes of W, which is sound
 pub record Holds (mem : List ℕ) (W : Window) : Type 0 where
   pub sound : soundMemory mem ≡ true
   pub window : windowOf mem ≡ W
 
-pub laid : (W : Window) → Sound limits W → (tail : List ℕ) → Holds (encode W ++ tail) W
+laid : (W : Window) → Sound limits W → (tail : List ℕ) → Holds (encode W ++ tail) W
 unfolding soundMemory long
 laid W k tail = let t : take windowSize (encode W ++ tail) ≡ encode W = take-at (encode W) tail windowSize (length-encode W) in record {
   sound = and-both (leb windowSize (length (encode W ++ tail))) _ (le-leb windowSize (length (encode W ++ tail)) (omega (arith, length-append (encode W) tail, length-encode W))) (rw t (encode-sound W k));
@@ -107,33 +138,26 @@ module _ (mem : List ℕ) where
   unfolding perform memoryRefused
   perform-sound c h = rw (sound-long mem h, h, and-false (not (isOpen c)))
 
-  -- so of any call and any memory
+  -- so of any call and any memory; an open on memory with no sound window is laid in where it is done, else the memory is kept
   pub data Performed (c : Call) : Reply (List ℕ) → Type 0 where
     refused : Performed c (handBack mem 1)
     ruled : soundMemory mem ≡ true → Performed c (layInto mem (step limits (windowOf mem) c))
-    opened : long mem ≡ true → isOpen c ≡ true → Performed c (anew mem (step limits (fresh 0) c))
+    begun : long mem ≡ true → isOpen c ≡ true → step limits (fresh 0) c .answer ≡ 0 → Performed c (layInto mem (step limits (fresh 0) c))
+    kept : step limits (fresh 0) c .answer ≢ 0 → Performed c (handBack mem (step limits (fresh 0) c .answer))
 
   pub performed : (c : Call) → Performed c (perform mem c)
   performed c = go (long mem) refl (soundMemory mem) refl (isOpen c) refl
     where
+      opened : {b : Bool} → long mem ≡ true → isOpen c ≡ true → Same (step limits (fresh 0) c .answer) 0 b
+          → Performed c (cond b (layInto mem (step limits (fresh 0) c)) (handBack mem (step limits (fresh 0) c .answer)))
+      opened l e (same z) = begun l e z
+      opened l e (other n) = kept n
+
       go : (l : Bool) → long mem ≡ l → (s : Bool) → soundMemory mem ≡ s → (o : Bool) → isOpen c ≡ o → Performed c (perform mem c)
       go false l s h o e = rw (perform-short c l) refused
       go true l true h o e = rw (perform-sound c h) (ruled h)
-      go true l false h true e = rw (perform-anew c l h e) (opened l e)
+      go true l false h true e = rw (perform-anew c l h e) (unfold anew in opened l e (same? (step limits (fresh 0) c .answer) 0))
       go true l false h false e = rw (perform-unsound c h e) refused
-
-  -- an open on memory with no sound window: laid in where it is done, else the memory as it was
-  pub data Anewed (o : Outcome) : Reply (List ℕ) → Type 0 where
-    begun : o .answer ≡ 0 → Anewed o (layInto mem o)
-    kept : o .answer ≢ 0 → Anewed o (handBack mem (o .answer))
-
-  pub anewed : (o : Outcome) → Anewed o (anew mem o)
-  unfolding anew
-  anewed o = go (same? (o .answer) 0)
-    where
-      go : {b : Bool} → Same (o .answer) 0 b → Anewed o (cond b (layInto mem o) (handBack mem (o .answer)))
-      go (same e) = begun e
-      go (other n) = kept n
 
   pub perform-answer : (c : Call) → soundMemory mem ≡ true → perform mem c .answer ≡ step limits (windowOf mem) c .answer
   unfolding layInto
@@ -154,29 +178,26 @@ module _ (mem : List ℕ) where
   -- OPEN
   -- what it answers on memory that is long enough is what the rules answer, of whatever window
   pub open-answered : (W : Window) (n : ℕ) → long mem ≡ true → perform mem (Open n) .answer ≡ step limits W (Open n) .answer
-  unfolding perform memoryRefused isOpen actionOf isOpening
+  unfolding perform memoryRefused anew isOpen actionOf isOpening
   open-answered W n l = rw l (go (soundMemory mem))
     where
-      begun-answer : {o : Outcome} {r : Reply (List ℕ)} → Anewed o r → r .answer ≡ o .answer
-      begun-answer (begun e) = unfold layInto in refl
-      begun-answer (kept n) = unfold handBack in refl
+      either : (o : Outcome) (b : Bool) → cond b (layInto mem o) (handBack mem (o .answer)) .answer ≡ o .answer
+      either o true = unfold layInto in refl
+      either o false = unfold handBack in refl
 
       go : (b : Bool) → cond b (layInto mem (step limits (windowOf mem) (Open n))) (anew mem (step limits (fresh 0) (Open n))) .answer ≡ step limits W (Open n) .answer
       go true = unfold layInto in open-answer limits (windowOf mem) W n
-      go false = begun-answer (anewed (step limits (fresh 0) (Open n))) ∙ open-answer limits (fresh 0) W n
+      go false = either (step limits (fresh 0) (Open n)) (eqb (step limits (fresh 0) (Open n) .answer) 0) ∙ open-answer limits (fresh 0) W n
 
   -- its second number is 0
   pub open-numbered : (n : ℕ) → perform mem (Open n) .number ≡ 0
   open-numbered n = go (performed (Open n))
     where
-      anew-number : {o : Outcome} {r : Reply (List ℕ)} → Anewed o r → o .number ≡ 0 → r .number ≡ 0
-      anew-number (begun e) h = unfold layInto in h
-      anew-number (kept n) h = unfold handBack in refl
-
       go : {r : Reply (List ℕ)} → Performed (Open n) r → r .number ≡ 0
       go refused = unfold handBack in refl
       go (ruled h) = unfold layInto in open-number limits (windowOf mem) n
-      go (opened l o) = anew-number (anewed (step limits (fresh 0) (Open n))) (open-number limits (fresh 0) n)
+      go (begun l o e) = unfold layInto in open-number limits (fresh 0) n
+      go (kept m) = unfold handBack in refl
 
   -- answered 0, it had room, and it leaves a fresh window's bytes and the untouched tail: nothing of what the memory held
   pub record Opened (n : ℕ) (r : Reply (List ℕ)) : Type 0 where
@@ -192,14 +213,11 @@ module _ (mem : List ℕ) where
       lay : (o : Outcome) → long mem ≡ true → o .after ≡ fresh n → Opened n (layInto mem o)
       lay o l e = record { room = l; bytes = unfold layInto in ap (λ X. encode X ++ drop windowSize mem) e }
 
-      anew-done : {r : Reply (List ℕ)} → long mem ≡ true → Anewed (step limits (fresh 0) (Open n)) r → r .answer ≡ 0 → Opened n r
-      anew-done l (begun e) h = lay (step limits (fresh 0) (Open n)) l (opened-fresh limits (fresh 0) n e)
-      anew-done l (kept m) h = absurd (m (unfold handBack in h))
-
       go : {r : Reply (List ℕ)} → Performed (Open n) r → r .answer ≡ 0 → Opened n r
       go refused h = absurd (one (unfold handBack in h))
       go (ruled q) h = lay (step limits (windowOf mem) (Open n)) (sound-long mem q) (opened-fresh limits (windowOf mem) n (unfold layInto in h))
-      go (opened l o) h = anew-done l (anewed (step limits (fresh 0) (Open n))) h
+      go (begun l o e) h = lay (step limits (fresh 0) (Open n)) l (opened-fresh limits (fresh 0) n e)
+      go (kept m) h = absurd (m (unfold handBack in h))
 
   pub opened-holds : (n : ℕ) → perform mem (Open n) .answer ≡ 0 → Holds (perform mem (Open n) .after) (fresh n)
   opened-holds n h = let o = opened-bytes n h in
@@ -217,17 +235,14 @@ module _ (mem : List ℕ) where
       back : (a : ℕ) → Still (handBack mem a)
       back a = unfold handBack in record { same = λ h. refl; number = λ h k. refl }
 
-      anew-still : {o : Outcome} {r : Reply (List ℕ)} → (o .answer ≢ 0 → o .answer ≢ 20 → o .number ≡ 0) → Anewed o r → Still r
-      anew-still f (begun e) = unfold layInto in record { same = λ h. absurd (h e); number = f }
-      anew-still f (kept n) = back _
-
       go : {r : Reply (List ℕ)} → Performed c r → Still r
       go refused = back 1
       go (ruled q) = unfold layInto in record {
         same = λ h. ap (λ X. encode X ++ drop windowSize mem) (quiet limits (windowOf mem) c .same h) ∙ memory-again mem q;
         number = quiet limits (windowOf mem) c .number;
       }
-      go (opened l o) = anew-still (quiet limits (fresh 0) c .number) (anewed (step limits (fresh 0) c))
+      go (begun l o e) = unfold layInto in record { same = λ h. absurd (h e); number = quiet limits (fresh 0) c .number }
+      go (kept n) = back _
 
   -- PAST THE WINDOW: what lies there is as it was, and the memory is as long
   pub record Tail (bytes : List ℕ) : Type 0 where
@@ -246,11 +261,8 @@ module _ (mem : List ℕ) where
       back : (a : ℕ) → Tail (handBack mem a .after)
       back a = unfold handBack in record { same = refl; size = refl }
 
-      anew-tail : {o : Outcome} {r : Reply (List ℕ)} → long mem ≡ true → Anewed o r → Tail (r .after)
-      anew-tail {o} l (begun e) = lay o l
-      anew-tail {o} l (kept n) = back (o .answer)
-
       go : {r : Reply (List ℕ)} → Performed c r → Tail (r .after)
       go refused = back 1
       go (ruled q) = lay (step limits (windowOf mem) c) (sound-long mem q)
-      go (opened l o) = anew-tail l (anewed (step limits (fresh 0) c))
+      go (begun l o e) = lay (step limits (fresh 0) c) l
+      go (kept n) = back (step limits (fresh 0) c .answer)

@@ -12,35 +12,35 @@ use Rattle.layout.proofs.SectionLaws.{section, sections, lay-sections, 
 module _ (fs : List ℕ) (W : Window) where
   pub head-part : take headSize (drop headAt (lay fs W)) ≡ headSection fs
   unfolding headSection sections section
-  head-part = rw (lay-sections fs W) (layOut-part (sections fs W) 0 (omega arith))
+  head-part = rw (lay-sections fs W) (layOut-part (sections fs W) 0)
 
   pub values-part : take valuesSize (drop valuesAt (lay fs W)) ≡ valueSection W.value
   unfolding valueSection sections section
-  values-part = rw (lay-sections fs W) (layOut-part (sections fs W) 1 (omega arith))
+  values-part = rw (lay-sections fs W) (layOut-part (sections fs W) 1)
 
   pub changes-part : take changesSize (drop changesAt (lay fs W)) ≡ changeSection W.status W.parent
   unfolding changeSection sections section
-  changes-part = rw (lay-sections fs W) (layOut-part (sections fs W) 2 (omega arith))
+  changes-part = rw (lay-sections fs W) (layOut-part (sections fs W) 2)
 
   pub line-part : take lineSize (drop lineAt (lay fs W)) ≡ lineSection
   unfolding lineSection sections section
-  line-part = rw (lay-sections fs W) (layOut-part (sections fs W) 3 (omega arith))
+  line-part = rw (lay-sections fs W) (layOut-part (sections fs W) 3)
 
   pub locks-part : take locksSize (drop locksAt (lay fs W)) ≡ lockSection W.held
   unfolding lockSection sections section
-  locks-part = rw (lay-sections fs W) (layOut-part (sections fs W) 4 (omega arith))
+  locks-part = rw (lay-sections fs W) (layOut-part (sections fs W) 4)
 
   pub permits-part : take permitsSize (drop permitsAt (lay fs W)) ≡ permitSection W.permits
   unfolding permitSection sections section
-  permits-part = rw (lay-sections fs W) (layOut-part (sections fs W) 5 (omega arith))
+  permits-part = rw (lay-sections fs W) (layOut-part (sections fs W) 5)
 
   pub ties-part : take tiesSize (drop tiesAt (lay fs W)) ≡ tieSection W.ties
   unfolding tieSection sections section
-  ties-part = rw (lay-sections fs W) (layOut-part (sections fs W) 6 (omega arith))
+  ties-part = rw (lay-sections fs W) (layOut-part (sections fs W) 6)
 
   pub log-part : take logSize (drop logAt (lay fs W)) ≡ logSection W.log
   unfolding logSection sections section
-  log-part = rw (lay-sections fs W) (layOut-part (sections fs W) 7 (omega arith))
+  log-part = rw (lay-sections fs W) (layOut-part (sections fs W) 7)
 
 -- bytes of a window's size are their eight parts, one after the other
 module _ (bs : List ℕ) (size : length bs ≡ windowSize) where

@@ -15,25 +15,26 @@ use Rattle.layout.specs.Codec.{noPermit, permitBytes, permitByte, permit
 use Rattle.layout.specs.Records.{permitAt, tieAt}
 use Rattle.layout.proofs.LengthLaws.{length-ties}
 use Rattle.layout.proofs.RecordLaws.{placed, place-at, permit-again, tie-again}
+use Rattle.layout.proofs.SectionLaws.{Bytes}
 
 -- PERMITS
 -- each place of a section holds its permit
 pub permit-read : (ps : List PermitRecord) (j : ℕ) → j < 1024 → permitAt (permitSection ps) j ≡ getD ps j noPermit
 unfolding permitAt permitSection permitByte placed
-permit-read ps j h = permit-again (λ i. getD (permitSection ps) i 0) (getD ps j noPermit) j (λ k l. place-at 4 (omega arith) permitBytes noPermit 1024 ps j k h l)
+permit-read ps j h = permit-again (λ i. getD (permitSection ps) i 0) (getD ps j noPermit) j (λ k l. place-at 4 permitBytes noPermit 1024 ps j k h l)
 
 -- TIES
 -- the ties read from a section are those that it holds
 tie-read : (ts : List TieRecord) (j : ℕ) → j < 512 → tieAt (tieSection ts) j ≡ getD ts j noTie
 unfolding tieAt tieSection tieByte placed
-tie-read ts j h = tie-again (λ i. getD (tieSection ts) i 0) (getD ts j noTie) j (λ k l. place-at 4 (omega arith) tieBytes noTie 512 ts j k h l)
+tie-read ts j h = tie-again (λ i. getD (tieSection ts) i 0) (getD ts j noTie) j (λ k l. place-at 4 tieBytes noTie 512 ts j k h l)
 
 -- of the first n ties of a section
 pub section-read : (bs : List ℕ) (ts : List TieRecord) (n : ℕ) → 4 * n ≤ length bs → bs ≡ tieSection ts → (j : ℕ) → j < n → tieAt bs j ≡ getD ts j noTie
 section-read bs ts n room e j h = ap (λ l. tieAt l j) e ∙ tie-read ts j (omega (arith, length-ties ts, ap length e))
 
 -- their ends are bytes
-pub section-ends : (bs : List ℕ) (ts : List TieRecord) (n : ℕ) → 4 * n ≤ length bs → bs ≡ tieSection ts → ((i : ℕ) → getD bs i 0 < 256)
+pub section-ends : (bs : List ℕ) (ts : List TieRecord) (n : ℕ) → 4 * n ≤ length bs → bs ≡ tieSection ts → Bytes bs
     → (j : ℕ) → j < n → (getD ts j noTie .leader < 256) × (getD ts j noTie .follower < 256)
 unfolding tieAt
 section-ends bs ts n room e bytes j h = let q = section-read bs ts n room e j h in (rw (← q) (bytes (j * 4 + 1)), rw (← q) (bytes (j * 4 + 2)))

@@ -8,7 +8,6 @@ use native.Mathlib.Numerals.{add-one}
 use native.Mathlib.Omega.{arith}
 use lib.Arith.{digits-lt, digits-div, digits-mod}
 use lib.ListN.{getD, length, replicate, getD-replicate, List·getD-eq-default}
-use lib.Seq.{ext-getD}
 use Rattle.rules.specs.Base.{table}
 use Rattle.rules.specs.Window.{LogRecord, PermitRecord, TieRecord}
 use Rattle.rules.proofs.BaseLaws.{Below, under, over, below}
@@ -46,17 +45,14 @@ module _ {ℓ} {A : Type ℓ} (w : ℕ) (pos : 0 < w) (bytes : A → List ℕ) (
 
   first-place : (x : A) (l : List A) → table w 0 (placeByte w bytes none (x ∷ l)) ≡ bytes x
   unfolding placed
-  first-place x l = ap (λ k. table k 0 (placeByte w bytes none (x ∷ l))) (sym (size x)) ∙ table-list 0 (bytes x) (placeByte w bytes none (x ∷ l)) (λ j h. go j (rw size at h))
-    where
-      go : (j : ℕ) → j < w → getD (bytes (getD (x ∷ l) (j / w) none)) (j % w) 0 ≡ getD (bytes x) j 0
-      go j h = rw (div-eq-of-lt h, mod-eq-of-lt h)
+  first-place x l = table-list 0 (bytes x) (placeByte w bytes none (x ∷ l)) (size x) (λ j h. rw (div-eq-of-lt h, mod-eq-of-lt h))
 
   next-place : (x : A) (l : List A) (j : ℕ) → placeByte w bytes none (x ∷ l) (j + w) ≡ placeByte w bytes none l j
   unfolding placed
   next-place x l j = rw (add-div-right j pos, add-mod-right j w, add-one)
 
   -- the section is the records' bytes and zeros
-  pub records-flat : (most : ℕ) (l : List A) → length l ≤ most → table (most * w) 0 (placeByte w bytes none l) ≡ flatMap bytes l ++ replicate ((most - length l) * w) 0
+  records-flat : (most : ℕ) (l : List A) → length l ≤ most → table (most * w) 0 (placeByte w bytes none l) ≡ flatMap bytes l ++ replicate ((most - length l) * w) 0
   unfolding flatMap
   records-flat most [] h = rw (sub-zero most) (table-zeros (most * w) 0 (placeByte w bytes none []) no-place)
   records-flat zero (x ∷ l) h = absurd (not-suc-le-zero h)
@@ -95,45 +91,40 @@ unfolding tieBytes
 tie-again f x j h = λ i. record { kind = (first-byte f (j * 4) ∙ h 0 (omega arith)) i; leader = h 1 (omega arith) i; follower = h 2 (omega arith) i }
 
 -- A SECTION THAT HAS w BYTES FOR EACH PLACE
-module _ (w : ℕ) (pos : 0 < w) (n : ℕ) where
+module _ (w n : ℕ) where
   -- byte j of place k
   pub cell-read : (f : ℕ → List ℕ) (k j : ℕ) → k < n → j < w → getD (table (n * w) 0 (placed w f)) (k * w + j) 0 ≡ getD (f k) j 0
   unfolding placed
   cell-read f k j h t = getD-table0 (n * w) (placed w f) (k * w + j) 0 (digits-lt h t) ∙ rw (digits-div k t, digits-mod k t)
 
   -- a list of bytes is the section that it is byte by byte
-  pub by-cells : (s : List ℕ) (g : ℕ → List ℕ) → length s ≡ n * w → ((k j : ℕ) → k < n → j < w → getD s (k * w + j) 0 ≡ getD (g k) j 0) → s ≡ table (n * w) 0 (placed w g)
-  by-cells s g e f = ext-getD 0 s (table (n * w) 0 (placed w g)) (e ∙ sym (length-table (n * w) 0 (placed w g))) (λ i h. go i (rw e at h))
-    where
-      go : (i : ℕ) → i < n * w → getD s i 0 ≡ getD (table (n * w) 0 (placed w g)) i 0
-      go i h =
-          let q : i / w < n = div-lt-iff-lt-mul pos .1 h in
-          let r : i % w < w = mod-lt i pos in
-          ap (λ (x : ℕ). getD s x 0) (sym (div-add-mod' i w)) ∙ f (i / w) (i % w) q r ∙ sym (cell-read g (i / w) (i % w) q r)
-          ∙ ap (λ (x : ℕ). getD (table (n * w) 0 (placed w g)) x 0) (div-add-mod' i w)
+  pub by-cells : 0 < w → (s : List ℕ) (g : ℕ → List ℕ) → length s ≡ n * w → ((k j : ℕ) → k < n → j < w → getD s (k * w + j) 0 ≡ getD (g k) j 0) → s ≡ table (n * w) 0 (placed w g)
+  unfolding placed
+  by-cells pos s g e f = sym (table-list 0 s (placed w g) e
+      (λ i h. sym (f (i / w) (i % w) (div-lt-iff-lt-mul pos .1 h) (mod-lt i pos)) ∙ ap (λ (x : ℕ). getD s x 0) (div-add-mod' i w)))
 
 -- the places of a list of records
-module _ {ℓ} {A : Type ℓ} (w : ℕ) (pos : 0 < w) (bytes : A → List ℕ) (none : A) (most : ℕ) where
-  pub place-at : (l : List A) (j k : ℕ) → j < most → k < w → getD (table (most * w) 0 (placeByte w bytes none l)) (j * w + k) 0 ≡ getD (bytes (getD l j none)) k 0
-  place-at l j k = cell-read w pos most (λ i. bytes (getD l i none)) j k
+pub place-at {ℓ} : {A : Type ℓ} (w : ℕ) (bytes : A → List ℕ) (none : A) (most : ℕ) (l : List A) (j k : ℕ) → j < most → k < w
+    → getD (table (most * w) 0 (placeByte w bytes none l)) (j * w + k) 0 ≡ getD (bytes (getD l j none)) k 0
+place-at w bytes none most l = cell-read w most (λ i. bytes (getD l i none))
 
-  module _ (blank : bytes none ≡ replicate w 0) (n : ℕ) (bs : List ℕ) where
-    -- a place past the last record
-    no-record : (l : List A) → length l ≡ n → (j k : ℕ) → n ≤ j → k < w → getD (bytes (getD l j none)) k 0 ≡ 0
-    no-record l e j k h t = rw (List·getD-eq-default l none {n = j} (omega arith), blank) (getD-replicate w k 0 0 t)
+module _ {ℓ} {A : Type ℓ} (w : ℕ) (pos : 0 < w) (bytes : A → List ℕ) (none : A) (most : ℕ) (blank : bytes none ≡ replicate w 0) (n : ℕ) (bs : List ℕ) where
+  -- a place past the last record
+  no-record : (l : List A) → length l ≡ n → (j k : ℕ) → n ≤ j → k < w → getD (bytes (getD l j none)) k 0 ≡ 0
+  no-record l e j k h t = rw (List·getD-eq-default l none {n = j} (omega arith), blank) (getD-replicate w k 0 0 t)
 
-    -- n places that hold what the bytes say there, and zeros after them
-    pub places-again : (read : ℕ → A) → length bs ≡ most * w → ((j k : ℕ) → j < n → k < w → getD (bytes (read j)) k 0 ≡ getD bs (j * w + k) 0)
-        → ((i : ℕ) → n * w ≤ i → i < most * w → getD bs i 0 ≡ 0) → bs ≡ table (most * w) 0 (placeByte w bytes none (table n 0 read))
-    places-again read size used rest = by-cells w pos most bs (λ j. bytes (getD (table n 0 read) j none)) size (λ j k h t. go j k h t (below j n))
-      where
-        go : (j k : ℕ) → j < most → k < w → {b : Bool} → Below j n b → getD bs (j * w + k) 0 ≡ getD (bytes (getD (table n 0 read) j none)) k 0
-        go j k h t (under l) = rw (getD-table0 n read j none l) (sym (used j k l t))
-        go j k h t (over l) = let m : n * w ≤ j * w = mul-le-mul-right w l in
-            rest (j * w + k) (omega arith) (digits-lt h t) ∙ sym (no-record (table n 0 read) (length-table n 0 read) j k l t)
+  -- n places that hold what the bytes say there, and zeros after them
+  pub places-again : (read : ℕ → A) → length bs ≡ most * w → ((j k : ℕ) → j < n → k < w → getD (bytes (read j)) k 0 ≡ getD bs (j * w + k) 0)
+      → ((i : ℕ) → n * w ≤ i → i < most * w → getD bs i 0 ≡ 0) → bs ≡ table (most * w) 0 (placeByte w bytes none (table n 0 read))
+  places-again read size used rest = by-cells w most pos bs (λ j. bytes (getD (table n 0 read) j none)) size (λ j k h t. go j k h t (below j n))
+    where
+      go : (j k : ℕ) → j < most → k < w → {b : Bool} → Below j n b → getD bs (j * w + k) 0 ≡ getD (bytes (getD (table n 0 read) j none)) k 0
+      go j k h t (under l) = rw (getD-table0 n read j none l) (sym (used j k l t))
+      go j k h t (over l) = let m : n * w ≤ j * w = mul-le-mul-right w l in
+          rest (j * w + k) (omega arith) (digits-lt h t) ∙ sym (no-record (table n 0 read) (length-table n 0 read) j k l t)
 
-    -- the bytes past n records are zeros
-    pub places-rest : (l : List A) → length l ≡ n → bs ≡ table (most * w) 0 (placeByte w bytes none l) → (i : ℕ) → n * w ≤ i → i < most * w → getD bs i 0 ≡ 0
-    places-rest l e is i h t = let k : i % w < w = mod-lt i pos in
-        ap (λ x. getD bs x 0) (sym (div-add-mod' i w)) ∙ ap (λ x. getD x (i / w * w + i % w) 0) is
-        ∙ place-at l (i / w) (i % w) (div-lt-iff-lt-mul pos .1 t) k ∙ no-record l e (i / w) (i % w) (le-div-iff-mul-le pos .1 h) k
+  -- the bytes past n records are zeros
+  pub places-rest : (l : List A) → length l ≡ n → bs ≡ table (most * w) 0 (placeByte w bytes none l) → (i : ℕ) → n * w ≤ i → i < most * w → getD bs i 0 ≡ 0
+  places-rest l e is i h t = let k : i % w < w = mod-lt i pos in
+      ap (λ x. getD bs x 0) (sym (div-add-mod' i w)) ∙ ap (λ x. getD x (i / w * w + i % w) 0) is
+      ∙ place-at w bytes none most l (i / w) (i % w) (div-lt-iff-lt-mul pos .1 t) k ∙ no-record l e (i / w) (i % w) (le-div-iff-mul-le pos .1 h) k

@@ -4,8 +4,8 @@ use mathlib.Core.List.{List, [], _∷_, _++_, append-assoc, append-nil}
 use Prim.Native.Nat.{ℕ, zero, suc, _+_, _<_}
 use native.Mathlib.Nat.{add-zero, zero-add, add-assoc, not-suc-le-zero, le-of-suc-le-suc}
 use native.Mathlib.Omega.{arith}
-use lib.ListN.{getD, length, take, drop, length-append, List·getD-append}
-use lib.Seq.{ext-getD, getD-append-add, take-at, drop-at, take-append-add, drop-append-add}
+use lib.ListN.{getD, length, take, drop, length-append}
+use lib.Seq.{ext-getD, getD-take, getD-drop, take-at, drop-at, take-append-add, drop-append-add}
 use Rattle.rules.specs.Base.{table}
 use Rattle.rules.specs.Window.{Window}
 use Rattle.layout.specs.Codec.{headSize, valuesSize, changesSize, lineSize, locksSize, permitsSize, tiesSize, logSize, figures, headByte, valueByte, changeByte, lineByte, lockByte, permitByte, tieByte, logByte, headSection, valueSection, changeSection, lineSection, lockSection, permitSection, tieSection, logSection, lay, encode}
@@ -26,9 +26,9 @@ pub getD-table0 {ℓ} : {A : Type ℓ} (k : ℕ) (f : ℕ → A) (j : ℕ) (d : 
 getD-table0 k f j d h = getD-table k 0 f j d h ∙ ap f (zero-add j)
 
 -- a list read by place
-pub table-list {ℓ} : {A : Type ℓ} (d : A) (l : List A) (f : ℕ → A) → ((j : ℕ) → j < length l → f j ≡ getD l j d) → table (length l) 0 f ≡ l
-table-list d l f h = ext-getD d (table (length l) 0 f) l (length-table (length l) 0 f)
-    (λ j s. let t : j < length l = rw length-table at s in getD-table0 (length l) f j d t ∙ h j t)
+pub table-list {ℓ} : {A : Type ℓ} {n : ℕ} (d : A) (l : List A) (f : ℕ → A) → length l ≡ n → ((j : ℕ) → j < n → f j ≡ getD l j d) → table n 0 f ≡ l
+table-list {n = n} d l f e h = ext-getD d (table n 0 f) l (length-table n 0 f ∙ sym e)
+    (λ j s. let t : j < n = rw length-table at s in getD-table0 n f j d t ∙ h j t)
 
 -- each element is a byte: what is known of a slice of bytes
 abbrev pub Bytes : List ℕ → Type 0
@@ -86,21 +86,6 @@ unfolding layOut
 length-layOut [] = refl
 length-layOut (s ∷ l) = length-append (table s.size 0 s.content) (layOut l) ∙ rw (length-table s.size 0 s.content, length-layOut l)
 
--- past a table, and in it
-skip : (k : ℕ) (f : ℕ → ℕ) (ys : List ℕ) (n : ℕ) → getD (table k 0 f ++ ys) (k + n) 0 ≡ getD ys n 0
-skip k f ys n = ap (λ x. getD (table k 0 f ++ ys) (x + n) 0) (sym (length-table k 0 f)) ∙ getD-append-add (table k 0 f) ys n 0
-
-within : (k : ℕ) (f : ℕ → ℕ) (ys : List ℕ) (n : ℕ) → n < k → getD (table k 0 f ++ ys) n 0 ≡ f n
-within k f ys n h = List·getD-append (table k 0 f) ys 0 n (rw length-table h) ∙ getD-table0 k f n 0 h
-
--- a byte read
-pub layOut-at : (l : List Section) (k i : ℕ) → i < nth l k .size → getD (layOut l) (offset l k + i) 0 ≡ nth l k .content i
-unfolding layOut section
-layOut-at [] k i h = absurd (not-suc-le-zero h)
-layOut-at (s ∷ l) zero i h = ap (λ x. getD (table s.size 0 s.content ++ layOut l) x 0) (zero-add i) ∙ within s.size s.content (layOut l) i h
-layOut-at (s ∷ l) (suc k) i h = ap (λ x. getD (table s.size 0 s.content ++ layOut l) x 0) (add-assoc s.size (offset l k) i)
-    ∙ skip s.size s.content (layOut l) (offset l k + i) ∙ layOut-at l k i h
-
 -- a section cut out
 drop-skip : (k : ℕ) (f : ℕ → ℕ) (ys : List ℕ) (n : ℕ) → drop (k + n) (table k 0 f ++ ys) ≡ drop n ys
 drop-skip k f ys n = ap (λ x. drop (x + n) (table k 0 f ++ ys)) (sym (length-table k 0 f)) ∙ drop-append-add (table k 0 f) ys n
@@ -108,11 +93,16 @@ drop-skip k f ys n = ap (λ x. drop (x + n) (table k 0 f ++ ys)) (sym (length-ta
 take-skip : (k : ℕ) (f : ℕ → ℕ) (ys : List ℕ) (n : ℕ) → take (k + n) (table k 0 f ++ ys) ≡ table k 0 f ++ take n ys
 take-skip k f ys n = ap (λ x. take (x + n) (table k 0 f ++ ys)) (sym (length-table k 0 f)) ∙ take-append-add (table k 0 f) ys n
 
-pub layOut-part : (l : List Section) (k : ℕ) → k < length l → take (nth l k .size) (drop (offset l k) (layOut l)) ≡ table (nth l k .size) 0 (nth l k .content)
-unfolding layOut
-layOut-part [] k h = absurd (not-suc-le-zero h)
-layOut-part (s ∷ l) zero h = take-at (table s.size 0 s.content) (layOut l) s.size (length-table s.size 0 s.content)
-layOut-part (s ∷ l) (suc k) h = ap (take (nth l k .size)) (drop-skip s.size s.content (layOut l) (offset l k)) ∙ layOut-part l k (le-of-suc-le-suc h)
+pub layOut-part : (l : List Section) (k : ℕ) → take (nth l k .size) (drop (offset l k) (layOut l)) ≡ table (nth l k .size) 0 (nth l k .content)
+unfolding layOut section table
+layOut-part [] k = refl
+layOut-part (s ∷ l) zero = take-at (table s.size 0 s.content) (layOut l) s.size (length-table s.size 0 s.content)
+layOut-part (s ∷ l) (suc k) = ap (take (nth l k .size)) (drop-skip s.size s.content (layOut l) (offset l k)) ∙ layOut-part l k
+
+-- a byte read
+pub layOut-at : (l : List Section) (k i : ℕ) → i < nth l k .size → getD (layOut l) (offset l k + i) 0 ≡ nth l k .content i
+layOut-at l k i h = sym (getD-drop (offset l k) (layOut l) i 0) ∙ sym (getD-take (nth l k .size) (drop (offset l k) (layOut l)) i 0 h)
+    ∙ ap (λ r. getD r i 0) (layOut-part l k) ∙ getD-table0 (nth l k .size) (nth l k .content) i 0 h
 
 -- a section put in another's place: the frame law of all sections at once
 pub layOut-put : (l : List Section) (k : ℕ) (g : ℕ → ℕ) → k < length l

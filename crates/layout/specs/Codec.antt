@@ -200,7 +200,7 @@ readStatus bs c = cond (ltb c 256) (inside changesAt bs (c * 4)) 0
 unfoldable pub readParent : List ℕ → ℕ → ℕ
 readParent bs c = cond (ltb c 256) (inside changesAt bs (c * 4 + 1)) 0
 
--- a writer's bit is 2, a reader's 1; both together are no lock, and `soundBytes` refuses them
+-- a writer's bit is 2, a reader's 1; both are read as 2, and `soundBytes` refuses them
 unfoldable pub readHeld : List ℕ → ℕ → ℕ → ℕ
 readHeld bs e c = cond (ltb e 256 && ltb c 256) (cond (unpack (inside locksAt bs (e * 64 + 32 + c / 8)) (c % 8)) 2 (bit (unpack (inside locksAt bs (e * 64 + c / 8)) (c % 8)))) 0
 

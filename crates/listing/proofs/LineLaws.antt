@@ -27,9 +27,9 @@ line-printed p a n t u v w i j k ht hu hv hi hi′ hj hj′ eu ev ew =
     ew ∙ ap (shownBefore p) first
 
 -- the line put after what waits, from where it begins in the 64 bytes
-pub line-put : (out t after : List ℕ) (used at p a n : ℕ) → used ≤ length out → length t ≡ 64 → at ≤ 64 → drop at t ≡ printed p a n → after ≡ patch out used (take (64 - at) (drop at t))
+pub line-put : (out t after : List ℕ) (used at p a n : ℕ) → used ≤ length out → length t ≡ 64 → drop at t ≡ printed p a n → after ≡ patch out used (take (64 - at) (drop at t))
     → take (used + (64 - at)) after ≡ take used out ++ printed p a n
-line-put out t after used at p a n hu ht ha e w =
+line-put out t after used at p a n hu ht e w =
     let all : length (drop at t) ≡ 64 - at = rw (length-drop at t, ht) in
     let whole : after ≡ patch out used (printed p a n) = w ∙ ap (patch out used) (take-all (64 - at) (drop at t) (omega arith) ∙ e) in
     let long : used + length (printed p a n) ≡ used + (64 - at) = omega (arith, ap length e) in

@@ -22,9 +22,9 @@ use Rattle.listing.specs.Stands.{standing}
 use Rattle.listing.proofs.FeedLaws.{fed-append}
 
 -- THE START: the header waits
-pub started : (line out after : List ℕ) → 19 ≤ length out → after ≡ patch out 0 header → standing (record { held = 0; place = 0; over = false; used = 19 }) line zeroMemory after ≡ start
+pub started : (line out after : List ℕ) → after ≡ patch out 0 header → standing (record { held = 0; place = 0; over = false; used = 19 }) line zeroMemory after ≡ start
 unfolding standing start header ascii
-started line out after h e = rw (e, take-patch-end out 0 header 19 refl (omega arith))
+started line out after e = rw (e, take-patch-end out 0 header 19 refl (omega arith))
 
 module _ (s : Stand) (line mem out : List ℕ) where
   -- THE FIRST LINE: right, or broken

@@ -46,7 +46,7 @@ bits-same t u h = table-same locksSize 0 0 (bitsByte t) (bitsByte u)
 -- the 32 bytes of an entry and a mode
 module _ (t : Bits) (e m at : ℕ) (he : e < 256) (hm : m < 2) (place : at ≡ e * 64 + m * 32) where
   -- their bytes are those of the set
-  pub bits-byte : (j : ℕ) → j < 32 → bitsByte t (at + j) ≡ setByte (t e m) j
+  bits-byte : (j : ℕ) → j < 32 → bitsByte t (at + j) ≡ setByte (t e m) j
   unfolding bitsByte setByte
   bits-byte j h =
       let a : (at + j) / 64 ≡ e = omega arith in

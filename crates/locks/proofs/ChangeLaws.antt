@@ -6,7 +6,7 @@ use native.Mathlib.Omega.{arith}
 use lib.Dec.{eqb}
 use Rattle.rules.specs.Base.{put, put2}
 use Rattle.rules.specs.Sets.{Set, only, putAll}
-use Rattle.rules.proofs.BaseLaws.{Same, same, other, same?}
+use Rattle.rules.proofs.BaseLaws.{cond-same, Same, same, other, same?}
 use Rattle.locks.specs.Held.{Modes, changedOn}
 
 -- one change's lock on one entry
@@ -44,11 +44,7 @@ moved-none from to row e = fun-ext λ c. go c (same? c to) (same? c from)
 -- rows where nobody holds anything stay so
 pub without-empty : (s : Set) (row : ℕ → ℕ) → ((c : ℕ) → row c ≡ 0) → (c : ℕ) → putAll s 0 row c ≡ 0
 unfolding putAll
-without-empty s row h c = go (s c)
-  where
-    go : (b : Bool) → cond b 0 (row c) ≡ 0
-    go true = refl
-    go false = h c
+without-empty s row h c = rw (h c) (cond-same (s c) 0)
 
 pub moved-empty : (from to : ℕ) (row : ℕ → ℕ) → ((c : ℕ) → row c ≡ 0) → (c : ℕ) → moved from to row c ≡ 0
 moved-empty from to row h c = ap (λ r. r c) (moved-none from to row (h from)) ∙ h c

@@ -1,7 +1,7 @@
 -- One row's locks as two sets: its holders, those that clash, a change's lock set, a set of changes' locks taken away. Assumes nothing.
 use mathlib.Core.Path.{_≡_, refl, sym, _∙_}
 use mathlib.Core.Logic.{_≢_}
-use mathlib.Core.Bool.{Bool, true, false, not, cond, and-true, _&&_, _||_, and-false}
+use mathlib.Core.Bool.{Bool, true, false, not, cond, _&&_, _||_, and-true, and-false, and-assoc, and-or-distrib-left}
 use Prim.Native.Nat.{ℕ, zero, suc, _≤_, _<_}
 use native.Mathlib.Omega.{arith}
 use lib.Dec.{ltb, eqb}
@@ -9,42 +9,30 @@ use borrow.Author.Tests.{lt-ltb, ne-eqb}
 use Rattle.rules.specs.Base.{put, anyBelow}
 use Rattle.rules.specs.Sets.{Set, putAll}
 use Rattle.rules.specs.Locks.{clash}
-use Rattle.rules.proofs.BaseLaws.{Same, same, other, same?, anyBelow-none, eqb-same, or-false-left, or-false-right}
+use Rattle.rules.proofs.BaseLaws.{Same, same, other, same?, anyBelow-none, eqb-same, or-none}
+use Rattle.layout.proofs.CodecLaws.{each-mode}
 use Rattle.locks.specs.Held.{inMode, holding, clashesWith}
 
 -- TESTS OF A MODE
 -- a lock that is not none is read or write
 held-cases : (x : ℕ) → x ≤ 2 → eqb x 1 || eqb x 2 ≡ ltb 0 x
-held-cases zero h = refl
-held-cases (suc zero) h = refl
-held-cases (suc (suc zero)) h = refl
-held-cases (suc (suc (suc x))) h = absurd (omega arith)
+held-cases = each-mode (λ x. eqb x 1 || eqb x 2 ≡ ltb 0 x) refl refl refl
 
 -- a lock clashes with write where it is held, and with any other mode where it is write
 clash-write : (x : ℕ) → x ≤ 2 → clash x 2 ≡ ltb 0 x
 unfolding clash
-clash-write zero h = refl
-clash-write (suc zero) h = refl
-clash-write (suc (suc zero)) h = refl
-clash-write (suc (suc (suc x))) h = absurd (omega arith)
+clash-write = each-mode (λ x. clash x 2 ≡ ltb 0 x) refl refl refl
 
 clash-other : (x m : ℕ) → x ≤ 2 → 0 < m → m ≢ 2 → clash x m ≡ eqb x 2
 unfolding clash
-clash-other zero m h p n = refl
-clash-other (suc zero) m h p n = rw (lt-ltb 0 m p, ne-eqb m 2 n)
-clash-other (suc (suc zero)) m h p n = rw (lt-ltb 0 m p)
-clash-other (suc (suc (suc x))) m h p n = absurd (omega arith)
+clash-other x m h p n = each-mode (λ y. clash y m ≡ eqb y 2) refl (rw (lt-ltb 0 m p, ne-eqb m 2 n)) (rw (lt-ltb 0 m p)) x h
 
 -- SETS OF A ROW
 module _ (row : ℕ → ℕ) (modes : (c : ℕ) → row c ≤ 2) where
   -- its readers and its writers are its holders
   pub row-holders : (k : ℕ) → inMode 1 row k || inMode 2 row k ≡ holding row k
   unfolding inMode holding
-  row-holders k = go (ltb k 256)
-    where
-      go : (b : Bool) → b && eqb (row k) 1 || b && eqb (row k) 2 ≡ b && ltb 0 (row k)
-      go true = held-cases (row k) (modes k)
-      go false = refl
+  row-holders k = sym (and-or-distrib-left (ltb k 256) (eqb (row k) 1) (eqb (row k) 2)) ∙ rw (held-cases (row k) (modes k))
 
   -- which of them clash with a mode
   pub row-clashing-write : (k : ℕ) → holding row k ≡ clashesWith 2 row k
@@ -91,11 +79,7 @@ without-mode false x m = sym (and-true (eqb x (suc m)))
 -- a row's readers or writers without a set
 pub row-without : (row : ℕ → ℕ) (s t u : Set) (m : ℕ) → ((k : ℕ) → t k ≡ inMode (suc m) row k) → ((k : ℕ) → u k ≡ t k && not (s k)) → (k : ℕ) → u k ≡ inMode (suc m) (putAll s 0 row) k
 unfolding inMode putAll
-row-without row s t u m old minus k = minus k ∙ rw (old k, without-mode (s k) (row k) m) (go (ltb k 256))
-  where
-    go : (b : Bool) → b && eqb (row k) (suc m) && not (s k) ≡ b && (eqb (row k) (suc m) && not (s k))
-    go true = refl
-    go false = refl
+row-without row s t u m old minus k = minus k ∙ rw (old k, without-mode (s k) (row k) m) (and-assoc (ltb k 256) (eqb (row k) (suc m)) (not (s k)))
 
 -- where no reader or writer is in the set, the row says the same without it
 pub row-without-none : (row : ℕ → ℕ) (s readers writers taken : Set) → ((k : ℕ) → readers k ≡ inMode 1 row k) → ((k : ℕ) → writers k ≡ inMode 2 row k)
@@ -108,6 +92,6 @@ row-without-none row s readers writers taken r w common none m c hm h =
   where
     go : (m : ℕ) → m < 2 → (d : Bool) → (eqb (row c) 1 || eqb (row c) 2) && d ≡ false → eqb (row c) (suc m) ≡ eqb (cond d 0 (row c)) (suc m)
     go m l false t = refl
-    go zero l true t = or-false-left (eqb (row c) 1) (eqb (row c) 2) (sym (and-true (eqb (row c) 1 || eqb (row c) 2)) ∙ t)
-    go (suc zero) l true t = or-false-right (eqb (row c) 1) (eqb (row c) 2) (sym (and-true (eqb (row c) 1 || eqb (row c) 2)) ∙ t)
+    go zero l true t = or-none (eqb (row c) 1) (eqb (row c) 2) (sym (and-true (eqb (row c) 1 || eqb (row c) 2)) ∙ t) .0
+    go (suc zero) l true t = or-none (eqb (row c) 1) (eqb (row c) 2) (sym (and-true (eqb (row c) 1 || eqb (row c) 2)) ∙ t) .1
     go (suc (suc m)) l true t = absurd (omega arith)

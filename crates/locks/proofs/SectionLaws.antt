@@ -2,7 +2,7 @@
 use mathlib.Core.Path.{_≡_, refl, sym, _∙_, ap}
 use mathlib.Core.Bool.{Bool, cond, _&&_}
 use mathlib.Core.List.{List}
-use Prim.Native.Nat.{ℕ, zero, suc, _+_, _*_, _/_, _%_, _^_, _≤_, _<_}
+use Prim.Native.Nat.{ℕ, zero, suc, _+_, _*_, _/_, _%_, _^_, _<_}
 use native.Mathlib.Omega.{arith}
 use lib.Dec.{eqb}
 use lib.ListN.{getD}
@@ -11,6 +11,8 @@ use Rattle.rules.specs.Base.{put, put2}
 use Rattle.rules.specs.Sets.{Set}
 use Rattle.rules.proofs.BaseLaws.{Same, same, other, same?}
 use Rattle.layout.specs.Codec.{bit, unpack, lockSection}
+use Rattle.layout.proofs.CodecLaws.{each-mode}
+use Rattle.cells.proofs.Digits.{digit, digit-bit}
 use Rattle.sets.specs.Members.{loaded, stored}
 use Rattle.locks.specs.Held.{Modes, inMode}
 use Rattle.locks.proofs.BitLaws.{bitsSection, lockBits, lock-bits, bits-same, bits-read, bits-loaded, bits-stored}
@@ -55,18 +57,7 @@ row-stored held e row r w he hr hw =
 -- a bit as a number
 bit-of : (x b : ℕ) (t : Bool) → unpack x b ≡ t → x / 2 ^ b % 2 ≡ bit t
 unfolding unpack
-bit-of x b t h = go (same? (x / 2 ^ b % 2) 1) h
-  where
-    go : {u : Bool} → Same (x / 2 ^ b % 2) 1 u → u ≡ t → x / 2 ^ b % 2 ≡ bit t
-    go (same p) q = p ∙ ap bit q
-    go (other p) q = rw (← q) (omega arith)
-
--- the two bits of a lock
-mode-bits : (x : ℕ) → x ≤ 2 → bit (eqb x 1) + bit (eqb x 2) * 2 ≡ x
-mode-bits zero h = refl
-mode-bits (suc zero) h = refl
-mode-bits (suc (suc zero)) h = refl
-mode-bits (suc (suc (suc x))) h = absurd (omega arith)
+bit-of x b t h = digit-bit (digit (x / 2 ^ b)) ∙ ap bit h
 
 -- a change's lock, read from its two bits
 pub mode-read : (held : ℕ → ℕ → ℕ) (e c : ℕ) → Modes held → e < 256 → c < 256
@@ -75,7 +66,7 @@ unfolding Modes lockBits
 mode-read held e c modes he hc = rw (lock-bits held)
     (ap (λ n. n + getD bits (e * 64 + c / 8 + 32) 0 / 2 ^ (c % 8) % 2 * 2) (bit-of _ (c % 8) (eqb (held e c) 1) (bits-read (lockBits held) e 0 (e * 64) he (omega arith) (omega arith) c hc))
     ∙ ap (λ n. bit (eqb (held e c) 1) + n * 2) (bit-of _ (c % 8) (eqb (held e c) 2) (rw place (bits-read (lockBits held) e 1 (e * 64 + 32) he (omega arith) (omega arith) c hc)))
-    ∙ mode-bits (held e c) (modes e c))
+    ∙ each-mode (λ x. bit (eqb x 1) + bit (eqb x 2) * 2 ≡ x) refl refl refl (held e c) (modes e c))
   where
     bits : List ℕ
     bits = bitsSection (lockBits held)

@@ -45,7 +45,7 @@ record-le r = ap (λ (t : List ℕ). r .owner ∷ r .entry ∷ t) (le-bytes 4 (r
 module _ (s : List ℕ) (l : List LogRecord) (i : ℕ) (e : s ≡ logSection l) (h : i < 2048) where
   -- byte j
   record-cell : (j : ℕ) → j < 6 → getD s (i * 6 + j) 0 ≡ getD (placeBytes l i) j 0
-  record-cell j t = ap (λ (r : List ℕ). getD r (i * 6 + j) 0) (e ∙ log-places l) ∙ cell-read 6 (omega arith) 2048 (placeBytes l) i j h t
+  record-cell j t = ap (λ (r : List ℕ). getD r (i * 6 + j) 0) (e ∙ log-places l) ∙ cell-read 6 2048 (placeBytes l) i j h t
 
   -- its owner
   pub owner-read : getD s (i * 6) 0 ≡ getD l i noRecord .owner

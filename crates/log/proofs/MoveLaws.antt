@@ -16,17 +16,17 @@ use Rattle.sets.specs.Entries.{onEntries}
 use Rattle.log.proofs.LogLaws.{owner-read, entry-read, owner-store}
 
 -- ONE RECORD, by the test of its two bytes
-module _ (s : List ℕ) (l : List LogRecord) (i from to : ℕ) (all : Bool) (entry : ℕ) (e : s ≡ logSection l) (h : i < 2048) (t : i < length l) where
+module _ (s : List ℕ) (l : List LogRecord) (i from to : ℕ) (all : Bool) (entry : ℕ) (e : s ≡ logSection l) (h : i < 2048) where
   -- the test of the bytes is the test of the record
   test : (b : Bool) → eqb (getD s (i * 6) 0) from && (all || eqb (getD s (i * 6 + 1) 0) entry) ≡ b → eqb (getD l i noRecord .owner) from && onEntries all entry (getD l i noRecord .entry) ≡ b
   unfolding onEntries
   test b q = rw (← owner-read s l i e h, ← entry-read s l i e h) q
 
   -- it goes over
-  pub hand-yes : eqb (getD s (i * 6) 0) from && (all || eqb (getD s (i * 6 + 1) 0) entry) ≡ true
+  pub hand-yes : i < length l → eqb (getD s (i * 6) 0) from && (all || eqb (getD s (i * 6 + 1) 0) entry) ≡ true
       → set s (i * 6) to ≡ logSection (set l i (movedRecord from to (onEntries all entry) (getD l i noRecord)))
   unfolding movedRecord
-  hand-yes q = owner-store s l i e h to t (movedRecord from to (onEntries all entry) (getD l i noRecord)) (rw (test true q))
+  hand-yes t q = owner-store s l i e h to t (movedRecord from to (onEntries all entry) (getD l i noRecord)) (rw (test true q))
 
   -- it stays
   pub hand-no : eqb (getD s (i * 6) 0) from && (all || eqb (getD s (i * 6 + 1) 0) entry) ≡ false

@@ -1,16 +1,16 @@
 -- Permits one after the other, and past blocks at once. Assumes nothing.
 use mathlib.Core.Path.{_≡_, refl, sym, _∙_}
-use mathlib.Core.Bool.{Bool, true, false, _||_, false≢true}
+use mathlib.Core.Bool.{Bool, false}
 use mathlib.Core.List.{List}
 use Prim.Native.Nat.{ℕ, _+_, _-_, _*_, _≤_, _<_}
-use native.Mathlib.Numerals.{add-one}
 use native.Mathlib.Decide.{decLt}
 use native.Mathlib.Omega.{arith}
 use lib.Dec.{eqb}
 use lib.ListN.{getD}
 use Rattle.rules.specs.Base.{anyBelow}
 use Rattle.rules.specs.Window.{PermitRecord}
-use Rattle.rules.proofs.BaseLaws.{both-ways, any-intro, any-elim, anyBelow-none}
+use Rattle.rules.proofs.BoundLaws.{any-bound}
+use Rattle.rules.proofs.BaseLaws.{anyBelow-none}
 use Rattle.layout.specs.Records.{permitAt}
 use Rattle.cells.specs.Part.{byteIs}
 use Rattle.beside.specs.Permits.{anyOf}
@@ -24,19 +24,10 @@ module _ (t : ℕ → PermitRecord) (p : PermitRecord → Bool) where
   unfolding anyOf anyBelow
   any-none = refl
 
-  -- one more
-  pub any-next : (j : ℕ) (s s′ : Bool) → s ≡ anyOf j t p → s′ ≡ s || p (t j) → s′ ≡ anyOf (j + 1) t p
-  unfolding anyOf anyBelow
-  any-next j s s′ h e = rw (add-one, ← h) e
-
   -- more that do not pass
   pub any-skipped : (i j : ℕ) → i ≤ j → ((k : ℕ) → i ≤ k → k < j → p (t k) ≡ false) → anyOf i t p ≡ anyOf j t p
   unfolding anyOf
-  any-skipped i j h none = both-ways _ _ (λ e. let a = any-elim i _ e in any-intro j _ (a .0) (omega (arith, a .1)) (a .2)) (λ e. let a = any-elim j _ e in go (a .0) (a .1) (a .2) (decLt (a .0) i))
-    where
-      go : (k : ℕ) → k < j → p (t k) ≡ true → Dec (k < i) → anyBelow i (λ k. p (t k)) ≡ true
-      go k l q (yes m) = any-intro i _ k m q
-      go k l q (no m) = absurd (false≢true (sym (none k (omega arith) l) ∙ q))
+  any-skipped i j h none = sym (any-bound (λ k. p (t k)) i j h none)
 
 -- PASSED OVER
 module _ (p : PermitRecord → Bool) (bs : List ℕ) (start : ℕ) where
@@ -48,11 +39,6 @@ module _ (p : PermitRecord → Bool) (bs : List ℕ) (start : ℕ) where
       go (no m) = none k (omega arith) l
 
 -- A BLOCK OF PERMITS
--- one byte more
-pub byte-next : (bs : List ℕ) (at b i : ℕ) (found : Bool) → found ≡ anyBelow i (byteIs bs at b) → found || eqb (getD bs (at + i) 0) b ≡ anyBelow (i + 1) (byteIs bs at b)
-unfolding anyBelow byteIs
-byte-next bs at b i found e = rw (add-one, ← e)
-
 -- a change whose number is none of its bytes gives and takes none of its permits
 pub block-none : (bs : List ℕ) (c j : ℕ) (found : Bool) → found ≡ anyBelow 64 (byteIs bs (j * 4) c) → found ≡ false → (k : ℕ) → j ≤ k → k < j + 16 → involves c (permitAt bs k) ≡ false
 unfolding byteIs involves permitAt

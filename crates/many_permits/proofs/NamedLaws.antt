@@ -1,6 +1,6 @@
 -- Whom the permits of an entry let stand beside a writer: those to anybody and those that name the two. Assumes nothing.
 use mathlib.Core.Path.{_≡_, refl, sym, _∙_, ap, ap₂}
-use mathlib.Core.Bool.{Bool, true, false, not, _&&_, _||_, and-true, and-false, or-false, or-assoc, or-comm, or-true, and-or-distrib-right, false≢true}
+use mathlib.Core.Bool.{Bool, true, false, not, _&&_, _||_, and-false, or-false, or-assoc, or-comm, or-true, and-or-distrib-right, false≢true}
 use Prim.Native.Nat.{ℕ}
 use lib.Dec.{eqb}
 use borrow.Author.Tests.{not-true}
@@ -15,11 +15,6 @@ use Rattle.beside.specs.Beside.{containsHeld, beside, otherHolder, othersFit, e
 use Rattle.beside.proofs.PlaceLaws.{any-same}
 use Rattle.beside.proofs.WriterLaws.{left-over}
 use Rattle.many_permits.specs.Named.{involves, permitsAnybody, names, unserved, writerFits, writersFit}
-
--- ADDED TO A SET
--- a set where a test passed
-pub unite-passed : (s m s′ test : Bool) → test ≡ true → s′ ≡ s || m → s′ ≡ s || m && test
-unite-passed s m s′ test t e = e ∙ rw (t, and-true m)
 
 -- whom a permit g, t, o names beside the writer a
 pub named-added : (r x : Set) (a k g t e o : ℕ) (s sv write : Bool) → sv ≡ containsHeld o (r t) (x t) → write ≡ contains o 2
@@ -77,7 +72,7 @@ module _ (r x : Set) (a b : ℕ) where
       m = r b && contains p.ops 1 || x b && contains p.ops 2
 
   -- so of all
-  pub split-any : (n : ℕ) (t : ℕ → PermitRecord)
+  split-any : (n : ℕ) (t : ℕ → PermitRecord)
       → anyOf n t (beside r x a b) ≡ anyOf n t (permitsAnybody 2 b) || r b && anyOf n t (permitsAnybody 1 a) || x b && anyOf n t (permitsAnybody 2 a) || anyOf n t (names r x a b)
   unfolding anyOf
   split-any n t =

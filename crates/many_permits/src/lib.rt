@@ -6,7 +6,6 @@ use sets::ChangeSet;
 ghost use mathlib.Core.Path.{_≡_};
 ghost use mathlib.Core.Bool.{_&&_, _||_};
 ghost use Prim.Native.Nat.{ℕ, _+_, _*_, _≤_};
-ghost use lib.Dec.{eqb};
 ghost use lib.ListN.{length};
 ghost use Rattle.rules.specs.Base.{anyBelow};
 ghost use Rattle.layout.specs.Records.{permitAt};
@@ -18,16 +17,6 @@ ghost use Rattle.many_permits.specs.Named.{involves, permitsAnybody, nam
 
 // The permits that are passed over at once. An entry with fewer has each looked at.
 pub const BLOCK: usize = 16;
-
-// The set, with c where a test passed.
-fn add_if(s: ChangeSet, c: u8, test: bool) -> ChangeSet
-    ensures { λ r. ⌜ ((k : ℕ) → members r k ≡ members s k || eqb c k && test) ⌝ }
-{
-    if test {
-        return s.add(c);
-    }
-    s
-}
 
 // The set, with the members of another where a test passed.
 fn unite_if(s: ChangeSet, other: ChangeSet, test: bool) -> ChangeSet
@@ -93,7 +82,7 @@ fn add_giver(s: ChangeSet, permits: &[u8], place: usize, mode: u8) -> ChangeSet
 {
     let at = place * Permits::RECORD;
     let contained = contains(permits[at + 3], mode);
-    add_if(s, permits[at + 1], (permits[at + 2] == 0) & contained)
+    s.add_if(permits[at + 1], (permits[at + 2] == 0) & contained)
 }
 
 // The givers of the permits to anybody that contain a mode.
@@ -128,7 +117,7 @@ fn add_named(
     let operations = permits[at + 3];
     let out = (giver == writer) & contains_held(operations, readers.has(taker), writers.has(taker));
     let into = (taker == writer) & contains(operations, 2);
-    add_if(add_if(s, taker, out), giver, into)
+    s.add_if(taker, out).add_if(giver, into)
 }
 
 // Whom the permits let stand beside a writer by naming the two.

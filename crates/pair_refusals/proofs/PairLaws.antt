@@ -9,13 +9,12 @@ use lib.ListN.{take, drop}
 use borrow.Author.Tests.{ltb-false, leb-false, not-true, not-false}
 use Rattle.rules.specs.Base.{outside, all}
 use Rattle.rules.specs.Window.{limits, Window, noEntry}
-use Rattle.rules.specs.Ties.{makeTie, addTie, acyclic}
 use Rattle.rules.specs.Calls.{Permit, Delegate, Depend}
 use Rattle.rules.specs.Effects.{every}
 use Rattle.rules.specs.Refusals.{Check, _if_, checks, firstFailed}
 use Rattle.rules.proofs.SoundStep.{Passed, passed}
 use Rattle.rules.proofs.SoundParts.{numbered}
-use Rattle.refusals.proofs.RefusalLaws.{Checked, fails, passes, first}
+use Rattle.refusals.proofs.RefusalLaws.{Checked, first}
 
 -- a test of an entry x that may be every entry
 pub unless-every : (x : ℕ) {t b : Bool} → t ≡ b → not (eqb x 65535) && t ≡ not (eqb x every) && b
@@ -84,13 +83,3 @@ module _ (W : Window) (k l f r : ℕ) (q : r ≡ firstFailed (take 4 (checks lim
 
   pub depend-rest : {s : ℕ} → Checked (drop 4 (checks limits W (Depend k l f))) s → s ≡ firstFailed (checks limits W (Depend k l f))
   depend-rest m = went-on 4 (checks limits W (Depend k l f)) _ depend-passed (first m)
-
--- whether the tie returns
-module _ (W : Window) (k l f : ℕ) (t : Bool) (e : t ≡ not (acyclic (suc W.given) (addTie (makeTie k l f) W.ties))) where
-  pub returning : t ≡ true → Checked (drop 5 (checks limits W (Depend k l f))) 9
-  unfolding checks _if_
-  returning h = fails e h
-
-  pub not-returning : t ≡ false → {r : ℕ} → Checked (drop 6 (checks limits W (Depend k l f))) r → Checked (drop 5 (checks limits W (Depend k l f))) r
-  unfolding checks _if_
-  not-returning h q = passes e h q

@@ -1,52 +1,47 @@
 -- Ties noted in rows of words: a number more in a row, what a tie adds to the rows, what the first ties do. Assumes nothing.
-use mathlib.Core.Path.{_≡_, refl, sym, ap, ap₂, _∙_}
-use mathlib.Core.Bool.{Bool, true, false, _&&_, _||_, and-true, and-false, or-false, or-assoc}
+use mathlib.Core.Path.{_≡_, sym, ap, ap₂, _∙_}
+use mathlib.Core.Bool.{Bool, true, false, _&&_, _||_, and-true, and-false, or-false, or-comm, or-assoc}
 use mathlib.Core.List.{List}
 use Prim.Native.Nat.{ℕ, _+_, _*_, _/_, _%_, _^_, _<_}
-use native.Mathlib.Decide.{ℕ-discrete, decLt}
+use native.Mathlib.Decide.{decLt}
 use native.Mathlib.Numerals.{add-one}
 use native.Mathlib.Omega.{arith}
 use borrow.Author.Tests.{eq-eqb, ne-eqb, eqb-true, lt-ltb, le-ltb}
 use lib.Bits.{bitOr}
-use lib.Dec.{eqb, ltb}
+use lib.Dec.{eqb}
 use lib.ListN.{length, getD, set}
-use lib.Seq.{getD-set-same, getD-set-other}
 use Rattle.rules.specs.Base.{anyBelow}
 use Rattle.rules.specs.Window.{TieRecord}
 use Rattle.rules.specs.Ties.{isGroup}
-use Rattle.rules.proofs.BaseLaws.{and-left, and-right, no-true}
-use Rattle.layout.specs.Codec.{unpack}
+use Rattle.rules.proofs.BaseLaws.{and-both, and-left, and-right, both-ways}
 use Rattle.layout.specs.Records.{tieAt}
-use Rattle.cells.proofs.Digits.{unpack-or}
-use Rattle.words.proofs.BitLaws.{bit-here}
+use Rattle.words.specs.Members.{wordsHave}
+use Rattle.words.proofs.BitLaws.{insert-word}
 use Rattle.passes.specs.Passes.{follows}
 use Rattle.passes.specs.TieRows.{goneAlong, goneAt, goneIn, rowHas}
+
+-- a row's numbers are members of the words of all rows
+row-words : (rows : List ℕ) (x y : ℕ) → y < 256 → rowHas rows x y ≡ wordsHave rows (x * 256 + y)
+unfolding rowHas wordsHave
+row-words rows x y h = let p : (x * 256 + y) / 64 ≡ x * 4 + y / 64 = omega arith in let q : (x * 256 + y) % 64 ≡ y % 64 = omega arith in rw (lt-ltb y 256 h, p, q)
 
 -- one number more in a row
 pub noted : (rows : List ℕ) (a b : ℕ) → length rows ≡ 1024 → a < 256 → b < 256 → (x y : ℕ)
     → rowHas (set rows (a * 4 + b / 64) (bitOr (getD rows (a * 4 + b / 64) 0) ((1 * 2 ^ (b % 64)) % 2 ^ 64))) x y ≡ rowHas rows x y || eqb x a && eqb y b
-unfolding rowHas
 noted rows a b len ha hb x y = go (decLt y 256)
   where
-    apart : (x * 4 + y / 64 ≡ a * 4 + b / 64 → ⊥) → eqb x a && eqb y b ≡ false
-    apart n = no-true _ (λ e. n (ap₂ (λ (p q : ℕ). p * 4 + q / 64) (eqb-true x a (and-left (eqb x a) (eqb y b) e)) (eqb-true y b (and-right (eqb x a) (eqb y b) e))))
+    pair : y < 256 → eqb (x * 256 + y) (a * 256 + b) ≡ eqb x a && eqb y b
+    pair h = both-ways _ _
+        (λ e. let q : x * 256 + y ≡ a * 256 + b = eqb-true (x * 256 + y) (a * 256 + b) e in and-both _ _ (eq-eqb x a (omega arith)) (eq-eqb y b (omega arith)))
+        (λ e. eq-eqb (x * 256 + y) (a * 256 + b) (ap₂ (λ (p q : ℕ). p * 256 + q) (eqb-true x a (and-left (eqb x a) (eqb y b) e)) (eqb-true y b (and-right (eqb x a) (eqb y b) e))))
 
-    at : y < 256 → Dec (x * 4 + y / 64 ≡ a * 4 + b / 64)
-        → unpack (getD (set rows (a * 4 + b / 64) (bitOr (getD rows (a * 4 + b / 64) 0) ((1 * 2 ^ (b % 64)) % 2 ^ 64))) (x * 4 + y / 64) 0) (y % 64)
-        ≡ unpack (getD rows (x * 4 + y / 64) 0) (y % 64) || eqb x a && eqb y b
-    at h (yes e) =
-        let p : x ≡ a = omega arith in
-        let q : 64 * (b / 64) + y % 64 ≡ y = omega arith in
-        rw (e, getD-set-same rows (a * 4 + b / 64) _ 0 (omega arith), eq-eqb x a p)
-        (unpack-or (getD rows (a * 4 + b / 64) 0) ((1 * 2 ^ (b % 64)) % 2 ^ 64) (y % 64)
-        ∙ ap (λ (t : Bool). unpack (getD rows (a * 4 + b / 64) 0) (y % 64) || t) (bit-here b (b / 64) (y % 64) refl (omega arith) ∙ ap (λ (z : ℕ). eqb z b) q))
-    at h (no n) = rw (getD-set-other rows (a * 4 + b / 64) (x * 4 + y / 64) _ 0 n, apart n) (sym (or-false _))
-
-    go : Dec (y < 256)
-        → ltb y 256 && unpack (getD (set rows (a * 4 + b / 64) (bitOr (getD rows (a * 4 + b / 64) 0) ((1 * 2 ^ (b % 64)) % 2 ^ 64))) (x * 4 + y / 64) 0) (y % 64)
-        ≡ ltb y 256 && unpack (getD rows (x * 4 + y / 64) 0) (y % 64) || eqb x a && eqb y b
-    go (yes h) = rw (lt-ltb y 256 h) (at h (ℕ-discrete (x * 4 + y / 64) (a * 4 + b / 64)))
-    go (no n) = rw (le-ltb y 256 (omega arith), ne-eqb y b (λ e. n (omega arith)), and-false (eqb x a))
+    go : Dec (y < 256) → rowHas (set rows (a * 4 + b / 64) (bitOr (getD rows (a * 4 + b / 64) 0) ((1 * 2 ^ (b % 64)) % 2 ^ 64))) x y ≡ rowHas rows x y || eqb x a && eqb y b
+    go (yes h) =
+        let p : (a * 256 + b) / 64 ≡ a * 4 + b / 64 = omega arith in
+        let q : (a * 256 + b) % 64 ≡ b % 64 = omega arith in
+        row-words _ x y h ∙ rw (p, q) at (insert-word rows (a * 256 + b) (omega arith) (x * 256 + y))
+        ∙ or-comm (eqb (x * 256 + y) (a * 256 + b)) (wordsHave rows (x * 256 + y)) ∙ ap₂ _||_ (sym (row-words rows x y h)) (pair h)
+    go (no n) = unfold rowHas in rw (le-ltb y 256 (omega arith), ne-eqb y b (λ e. n (omega arith)), and-false (eqb x a))
 
 -- A TIE, by whether it is gone along and whether it is a group's
 along-as : (low : ℕ) (t : TieRecord) (f g : Bool) → follows low t.kind ≡ f → isGroup t.kind ≡ g → (x y : ℕ) → goneAlong low t x y ≡ eqb x t.leader && (eqb y t.follower && f) || eqb x t.follower && (eqb y t.leader && g)

@@ -39,7 +39,7 @@ and-three a b c e = let r = and-right a (b && c) e in (and-left a (b && c) e, an
 
 module _ (low : ℕ) (t : TieRecord) (s : Set) where
   -- the members stay
-  pub pulled-keeps : Inside s (pulled low t s)
+  pulled-keeps : Inside s (pulled low t s)
   unfolding pulled
   pulled-keeps k e = or-left (s k || eqb k t.follower && (follows low t.kind && s t.leader)) _ (or-left (s k) _ e)
 
@@ -103,14 +103,14 @@ module _ (low : ℕ) (t : ℕ → TieRecord) where
   passed-next n seed s r e q = rw (e, q, add-one n)
 
   -- it stays within a stable set
-  pub passed-within : (n : ℕ) (s u : Set) → Stable low t n u → Inside s u → Inside (passed low t n s) u
+  passed-within : (n : ℕ) (s u : Set) → Stable low t n u → Inside s u → Inside (passed low t n s) u
   unfolding passed
   passed-within zero s u z w = w
   passed-within (suc n) s u z w = λ k e.
       z n (omega arith) k (pulled-mono low (t n) (passed low t n s) u (passed-within n s u (λ i l. z i (omega arith)) w) k e)
 
   -- a set to which a pass adds nothing is stable
-  pub passed-stable : (n : ℕ) (s : Set) → Inside (passed low t n s) s → Stable low t n s
+  passed-stable : (n : ℕ) (s : Set) → Inside (passed low t n s) s → Stable low t n s
   unfolding passed
   passed-stable zero s w i l = absurd (not-suc-le-zero l)
   passed-stable (suc n) s w i l = go (same? i n) (passed-stable n s (λ k e. w k (pulled-keeps low (t n) (passed low t n s) k e)))

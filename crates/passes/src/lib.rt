@@ -74,7 +74,7 @@ fn note(rows: &mut [u64], a: u8, b: u8)
     rows[i] = rows[i] | (1 << (b % 64));
 }
 
-// A tie is noted in the rows of its ends.
+// A tie that is gone along is noted in its leader's row, a group tie in its follower's too.
 fn note_tie(rows: &mut [u64], low: u8, kind: u8, leader: u8, follower: u8)
     requires { ⌜ length (now rows) ≡ 1024 ⌝ }
     requires { ⌜ low ≤ 3 ⌝ }

@@ -41,10 +41,10 @@ module _ (base : List Row) (moved : List ℕ) (m to : ℕ) where
   given-next i h = let e : m - i ≡ suc (m - (i + 1)) = omega arith in let f : i + 1 ≡ suc i = omega arith in rw (e, f)
 
   -- each adds one row at most
-  pub length-given : (i : ℕ) → length (given base moved m to i) ≤ m - i + length base
+  length-given : (i : ℕ) → length (given base moved m to i) ≤ m - i + length base
   unfolding given addRow
   length-given i =
-      omega (arith, length-inserts rowKey uniteRows keys (map (withGiver to) (table (m - i) i (rowAt moved))) base, length-map (table (m - i) i (rowAt moved)) (withGiver to), length-table (m - i) i (rowAt moved))
+      omega (arith, length-inserts rowKey uniteRows (map (withGiver to) (table (m - i) i (rowAt moved))) base, length-map (table (m - i) i (rowAt moved)) (withGiver to), length-table (m - i) i (rowAt moved))
 
   -- and the order is kept
   given-rising : rising rowKey base ≡ true → (i : ℕ) → rising rowKey (given base moved m to i) ≡ true
@@ -56,10 +56,10 @@ module _ (s₀ : List ℕ) (n : ℕ) (moved : List ℕ) (m to : ℕ) where
   pub give-none : 4 * n ≤ length s₀ → Stored (given (rows n s₀) moved m to m) s₀ n s₀
   give-none h = rw (given-none (rows n s₀) moved m to) (record { count = sym (length-rows n s₀); bytes = sym (rows-same s₀ n h) })
 
-  module _ (rise : rising rowKey (rows n s₀) ≡ true) (s : List ℕ) (count i : ℕ) (now : Stored (given (rows n s₀) moved m to (i + 1)) s₀ count s) where
+  module _ (s : List ℕ) (count i : ℕ) (now : Stored (given (rows n s₀) moved m to (i + 1)) s₀ count s) where
     -- the rows are in order before a turn
-    pub give-rising : rising rowKey (rows count s) ≡ true
-    give-rising = ap (rising rowKey) (stored-rows (given (rows n s₀) moved m to (i + 1)) s₀ count s now) ∙ given-rising (rows n s₀) moved m to rise (i + 1)
+    pub give-rising : rising rowKey (rows n s₀) ≡ true → rising rowKey (rows count s) ≡ true
+    give-rising rise = ap (rising rowKey) (stored-rows (given (rows n s₀) moved m to (i + 1)) s₀ count s now) ∙ given-rising (rows n s₀) moved m to rise (i + 1)
 
     -- and one more is given by it
     pub give-next : (most : ℕ) → n + m ≤ most → i < m → (r : ℕ) (after : List ℕ)

@@ -1,9 +1,9 @@
 -- The walk over an entry's rows that finds the givers. Assumes nothing.
 use mathlib.Core.Path.{_≡_, refl, sym, ap, ap₂, _∙_}
 use mathlib.Core.Logic.{⊎-elim}
-use mathlib.Core.Bool.{Bool, true, false, _&&_, _||_, or-assoc, false≢true, and-false}
+use mathlib.Core.Bool.{Bool, true, false, _&&_, _||_, and-true, and-false, and-assoc, or-false, or-assoc}
 use mathlib.Core.List.{List, [], _∷_, _++_}
-use Prim.Native.Nat.{ℕ, suc, _+_, _-_, _≤_, _<_}
+use Prim.Native.Nat.{ℕ, zero, suc, _+_, _-_, _≤_, _<_}
 use native.Mathlib.Nat.{eq-or-lt-of-le}
 use native.Mathlib.Omega.{arith}
 use lib.Dec.{eqb}
@@ -12,14 +12,11 @@ use borrow.Author.Tests.{eq-eqb, ne-eqb}
 use Rattle.rules.specs.Base.{table, any, rising}
 use Rattle.rules.specs.Window.{PermitRecord, permitKey}
 use Rattle.rules.specs.Locks.{contains, permitted}
-use Rattle.rules.proofs.BaseLaws.{no-true}
 use Rattle.layout.specs.Codec.{permitSection}
 use Rattle.layout.proofs.SectionLaws.{Bytes}
-use Rattle.sets.proofs.MemberLaws.{add-passed, nothing-added}
 use Rattle.rows.specs.Rows.{Row, rowKey, rankOf, rank, rowAt, rows, KeyPlace}
 use Rattle.rows.proofs.OrderLaws.{Small, small-at, ranks-rise}
 use Rattle.rows.proofs.RowLaws.{rows-split}
-use Rattle.rows.proofs.PlaceLaws.{any-where}
 use Rattle.rows.proofs.TableLaws.{table-any}
 use Rattle.permits.specs.PermitRows.{serves}
 use Rattle.permits.proofs.PermitLaws.{permitRow, permit-table}
@@ -31,12 +28,8 @@ grants giver taker entry mode r = eqb r.k2 giver && (eqb r.k3 taker || eqb r.k3 
 -- on its entry, and on another
 grants-here : (g taker entry mode : ℕ) (r : Row) → r .k1 ≡ entry → grants g taker entry mode r ≡ eqb r.k2 g && serves taker mode r
 unfolding grants serves
-grants-here g taker entry mode r e = rw (eq-eqb (r .k1) entry e) (go (eqb r.k2 g) (eqb r.k3 taker || eqb r.k3 0) (contains r.more mode))
-  where
-    go : (a b c : Bool) → a && b && true && c ≡ a && (b && c)
-    go true true c = refl
-    go true false c = refl
-    go false b c = refl
+grants-here g taker entry mode r e =
+    rw (eq-eqb (r .k1) entry e, and-true (eqb r.k2 g && (eqb r.k3 taker || eqb r.k3 0))) (and-assoc (eqb r.k2 g) (eqb r.k3 taker || eqb r.k3 0) (contains r.more mode))
 
 -- a row of another entry does not count
 grants-other : (g taker entry mode : ℕ) (r : Row) → (r .k1 ≡ entry → ⊥) → grants g taker entry mode r ≡ false
@@ -52,21 +45,9 @@ any-append p (x ∷ l) k = ap (λ (b : Bool). p x || b) (any-append p l k) ∙ s
 
 -- none of a table passes
 any-none {ℓ} : {A : Type ℓ} (p : A → Bool) (n i : ℕ) (f : ℕ → A) → ((j : ℕ) → i ≤ j → j < i + n → p (f j) ≡ false) → any p (table n i f) ≡ false
-any-none p n i f h = no-true (any p (table n i f)) (λ e. let w = any-where p n i f e in false≢true (sym (h (w .0) (w .1) (w .2)) ∙ w .3))
-
--- a test that fails adds nothing
-or-no : (a b : Bool) → b ≡ false → a ≡ a || b
-or-no true b e = refl
-or-no false b e = sym e
-
--- a giver noted, or not
-module _ (taker mode : ℕ) (r : Row) (d : Bool) (ed : d ≡ serves taker mode r) where
-  pub noted : d ≡ true → (k : ℕ) (m m′ : Bool) → m′ ≡ eqb k (r .k2) || m → m′ ≡ m || (eqb (r .k2) k && serves taker mode r)
-  noted t k m m′ e = add-passed (r .k2) k m m′ (serves taker mode r) (sym ed ∙ t) e
-
-  -- a row that does not serve adds no giver
-  pub not-noted : d ≡ false → (k : ℕ) (m : Bool) → m ≡ m || (eqb (r .k2) k && serves taker mode r)
-  not-noted t k m = nothing-added m (eqb (r .k2) k) (serves taker mode r) (sym ed ∙ t)
+unfolding any table
+any-none p zero i f h = refl
+any-none p (suc n) i f h = rw (h i (omega arith) (omega arith)) (any-none p n (suc i) f (λ j a b. h j (omega arith) (omega arith)))
 
 -- THE WALK over the first n rows of l
 -- the givers among the rows from place i on
@@ -77,7 +58,7 @@ ahead l n taker entry mode i k = any (grants k taker entry mode) (table (n - i) 
 abbrev pub FromEntry : List ℕ → ℕ → ℕ → ℕ → Type 0
 FromEntry l n entry i = (j : ℕ) → i ≤ j → j < n → entry ≤ rowAt l j .k1
 
-module _ (l : List ℕ) (n : ℕ) (b : Bytes l) (taker entry mode : ℕ) where
+module _ (l : List ℕ) (n taker entry mode : ℕ) where
   -- the rows before the entry's place do not count
   pub walk-from : (at : ℕ) → at ≤ n → KeyPlace l n (rankOf entry 0 0) at → (k : ℕ) → ahead l n taker entry mode at k ≡ any (grants k taker entry mode) (rows n l)
   unfolding ahead
@@ -89,8 +70,8 @@ module _ (l : List ℕ) (n : ℕ) (b : Bytes l) (taker entry mode : ℕ) where
       before j g e = let low : rank (rowAt l j) < rankOf entry 0 0 = f .lower j g in unfold rank in omega arith
 
   -- from its place on no row has a lower entry
-  pub walk-entry : (at : ℕ) → KeyPlace l n (rankOf entry 0 0) at → FromEntry l n entry at
-  walk-entry at f j h g = let s : Small (rowAt l j) = small-at l b j in let high : rankOf entry 0 0 ≤ rank (rowAt l j) = f .higher j h g in unfold rank in omega arith
+  pub walk-entry : Bytes l → (at : ℕ) → KeyPlace l n (rankOf entry 0 0) at → FromEntry l n entry at
+  walk-entry b at f j h g = let s : Small (rowAt l j) = small-at l b j in let high : rankOf entry 0 0 ≤ rank (rowAt l j) = f .higher j h g in unfold rank in omega arith
 
   -- the next row is of the entry: its giver may be noted
   pub walk-next : (i : ℕ) → i < n → rowAt l i .k1 ≡ entry → (k : ℕ) (m m′ all : Bool) → m || ahead l n taker entry mode i k ≡ all
@@ -105,8 +86,8 @@ module _ (l : List ℕ) (n : ℕ) (b : Bytes l) (taker entry mode : ℕ) where
           rw (d, f) (ap (λ (x : Bool). x || any (grants k taker entry mode) (table (n - suc i) (suc i) (rowAt l))) (grants-here k taker entry mode (rowAt l i) e))
 
   -- it is not: no later one is
-  pub walk-stop : rising rowKey (rows n l) ≡ true → (i : ℕ) → i < n → FromEntry l n entry i → (rowAt l i .k1 ≡ entry → ⊥) → (k : ℕ) (m all : Bool) → m || ahead l n taker entry mode i k ≡ all → m ≡ all
-  walk-stop r i h from e k m all inv = or-no m (ahead l n taker entry mode i k) none ∙ inv
+  pub walk-stop : Bytes l → rising rowKey (rows n l) ≡ true → (i : ℕ) → i < n → FromEntry l n entry i → (rowAt l i .k1 ≡ entry → ⊥) → (k : ℕ) (m all : Bool) → m || ahead l n taker entry mode i k ≡ all → m ≡ all
+  walk-stop b r i h from e k m all inv = rw (none, or-false m) at inv
     where
       above : entry < rowAt l i .k1
       above = ⊎-elim (λ q. absurd (e (sym q))) (λ q. q) (eq-or-lt-of-le (from i (omega arith) h))
@@ -127,7 +108,7 @@ module _ (l : List ℕ) (n : ℕ) (b : Bytes l) (taker entry mode : ℕ) where
   -- there is none
   pub walk-end : (i : ℕ) → i ≡ n → (k : ℕ) (m all : Bool) → m || ahead l n taker entry mode i k ≡ all → m ≡ all
   unfolding ahead any table
-  walk-end i h k m all inv = let z : n - i ≡ 0 = omega arith in or-no m (ahead l n taker entry mode i k) (rw z) ∙ inv
+  walk-end i h k m all inv = let z : n - i ≡ 0 = omega arith in rw (z, or-false m) at inv
 
 -- and the rows' givers are the permits'
 pub givers-permitted : (ps : List PermitRecord) (n : ℕ) (bytes : List ℕ) → length ps ≡ n → bytes ≡ permitSection ps → n ≤ 1024 → (k taker entry mode : ℕ) (x : Bool)

@@ -1,21 +1,19 @@
 -- What a hand-over of permits comes to: the rows that move, those that stay, and the first added to the second. Assumes nothing.
 use mathlib.Core.Path.{_≡_, refl, sym, ap, ap₂, _∙_}
 use mathlib.Core.Bool.{true, false}
-use mathlib.Core.List.{List, [], _∷_, _++_, append-nil, map, foldr}
+use mathlib.Core.List.{List, map, foldr, map-map}
 use Prim.Native.Nat.{ℕ, _+_, _≤_}
 use native.Mathlib.Omega.{arith}
-use lib.ListN.{length, replicate, length-map, length-replicate, drop-of-length-le}
+use lib.ListN.{length, length-map}
 use Rattle.rules.specs.Base.{insert, keep, rising}
 use Rattle.rules.specs.Sets.{Set}
 use Rattle.rules.specs.Window.{PermitRecord, permitKey}
 use Rattle.rules.specs.Locks.{unitePermits, addPermit}
 use Rattle.rules.specs.Effects.{permitGiven, permitMoves, permitKept, movedPermit, movePermits}
-use Rattle.rules.proofs.SortLaws.{rising-keep, length-inserts}
-use Rattle.rules.proofs.SoundDelegate.{hand-parts}
-use Rattle.rules.proofs.SoundPermit.{unite-key}
+use Rattle.rules.proofs.SortLaws.{rising-keep}
+use Rattle.rules.proofs.SoundDelegate.{hand-parts, hand-room}
 use Rattle.layout.specs.Codec.{permitSection}
 use Rattle.layout.specs.Records.{Tabled}
-use Rattle.cells.specs.Part.{patch}
 use Rattle.rows.specs.Rows.{Row, rowKey, rows, addRow, Stored, Closed}
 use Rattle.rows.proofs.RowLaws.{length-rows}
 use Rattle.rows.proofs.CloseLaws.{closed-rows}
@@ -26,13 +24,7 @@ use Rattle.permits.proofs.PermitLaws.{permitRow, permit-table, permit-u
 -- the rows of moved permits are their rows with another giver
 moved-rows : (to : ℕ) (ps : List PermitRecord) → map (withGiver to) (map permitRow ps) ≡ map permitRow (map (movedPermit to) ps)
 unfolding withGiver permitRow movedPermit
-moved-rows to [] = refl
-moved-rows to (p ∷ ps) = ap (λ (t : List Row). permitRow (movedPermit to p) ∷ t) (moved-rows to ps)
-
--- a copy in a fresh array of the same size
-pub copied : (size : ℕ) (s c : List ℕ) → length s ≡ size → c ≡ patch (replicate size 0) 0 s → c ≡ s
-unfolding patch
-copied size s c h e = e ∙ ap (λ (t : List ℕ). s ++ t) (drop-of-length-le (replicate size 0) {i = length s} (omega (arith, length-replicate {A = ℕ} size 0))) ∙ append-nil s
+moved-rows to ps = map-map (withGiver to) permitRow ps ∙ sym (map-map permitRow (movedPermit to) ps)
 
 -- the rows that a hand-over leaves and takes away
 pub record Parted (bytes : List ℕ) (n from to : ℕ) (on : Set) (moved : List ℕ) (m : ℕ) (rest : List ℕ) (left : ℕ) : Type 0 where
@@ -74,7 +66,7 @@ module _ (ps : List PermitRecord) (n : ℕ) (bytes : List ℕ) (len : length ps 
       table-stored permitRow permitKey permitSection 1024 permit-table (keep (permitKept from on) ps) left rest (sym (here .count)) (here .bytes) (omega (arith, hand-fits))
       (foldr (insert permitKey unitePermits) (keep (permitKept from on) ps) (map (movedPermit to) (keep (permitMoves from to on) ps))) r after
       (omega (arith, here .count, length-least-all permitKey unitePermits (map (movedPermit to) (keep (permitMoves from to on) ps)) (keep (permitKept from on) ps)))
-      (omega (arith, hand-fits, here .count, how-many, length-inserts permitKey unitePermits unite-key (map (movedPermit to) (keep (permitMoves from to on) ps)) (keep (permitKept from on) ps), length-map (keep (permitMoves from to on) ps) (movedPermit to)))
+      (omega (arith, hand-fits, here .count, how-many, hand-room from to on ps))
       (rw all at s)
     where
       all : foldr addRow (rows left rest) (map (withGiver to) (rows m moved)) ≡ map permitRow (foldr (insert permitKey unitePermits) (keep (permitKept from on) ps) (map (movedPermit to) (keep (permitMoves from to on) ps)))

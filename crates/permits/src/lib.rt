@@ -164,10 +164,7 @@ fn note(set: ChangeSet, s: &[u8], i: usize, taker: u8, mode: u8) -> ChangeSet
     requires { ⌜ 4 * i + 4 ≤ length (now s) ⌝ }
     ensures { λ r. ⌜ ((k : ℕ) → members r k ≡ members set k || (eqb (rowAt (now (s .entry)) i .k2) k && serves taker mode (rowAt (now (s .entry)) i))) ⌝ }
 {
-    if is_served(s, i, taker, mode) {
-        return set.add(s[4 * i + 1]);
-    }
-    set
+    set.add_if(s[4 * i + 1], is_served(s, i, taker, mode))
 }
 
 // The givers that permit the taker the mode on an entry: a walk over the entry's rows.

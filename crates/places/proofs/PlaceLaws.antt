@@ -31,16 +31,16 @@ module _ (w : ℕ) (pos : 0 < w) (n : ℕ) where
       let long : length (table (n * w) 0 (placed w f)) ≡ n * w = length-table (n * w) 0 (placed w f) in
       let size : length (part (table (n * w) 0 (placed w f)) (k * w) w) ≡ w = length-part (table (n * w) 0 (placed w f)) (k * w) w (rw long (in-section k h)) in
       ext-getD 0 (part (table (n * w) 0 (placed w f)) (k * w) w) (f k) (size ∙ sym e)
-      (λ j t. let u : j < w = rw size at t in getD-part (table (n * w) 0 (placed w f)) (k * w) w j u ∙ cell-read w pos n f k j h u)
+      (λ j t. let u : j < w = rw size at t in getD-part (table (n * w) 0 (placed w f)) (k * w) w j u ∙ cell-read w n f k j h u)
 
   -- a section is known by its n places
   pub by-places : (f g : ℕ → List ℕ) → ((k : ℕ) → k < n → f k ≡ g k) → table (n * w) 0 (placed w f) ≡ table (n * w) 0 (placed w g)
-  by-places f g e = by-cells w pos n (table (n * w) 0 (placed w f)) g (length-table (n * w) 0 (placed w f)) (λ k j h t. cell-read w pos n f k j h t ∙ ap (λ (x : List ℕ). getD x j 0) (e k h))
+  by-places f g e = by-cells w n pos (table (n * w) 0 (placed w f)) g (length-table (n * w) 0 (placed w f)) (λ k j h t. cell-read w n f k j h t ∙ ap (λ (x : List ℕ). getD x j 0) (e k h))
 
   -- a place stored
   pub place-store : (f g : ℕ → List ℕ) (k : ℕ) (bs : List ℕ) → k < n → length bs ≡ w → Stored f k bs g
       → patch (table (n * w) 0 (placed w f)) (k * w) bs ≡ table (n * w) 0 (placed w g)
-  place-store f g k bs h e s = by-cells w pos n (patch l (k * w) bs) g (length-patch l (k * w) bs (rw (e, long) (in-section k h)) ∙ long) (λ q r hq hr. go q r hq hr (same? q k))
+  place-store f g k bs h e s = by-cells w n pos (patch l (k * w) bs) g (length-patch l (k * w) bs (rw (e, long) (in-section k h)) ∙ long) (λ q r hq hr. go q r hq hr (same? q k))
     where
       l : List ℕ
       l = table (n * w) 0 (placed w f)
@@ -55,12 +55,12 @@ module _ (w : ℕ) (pos : 0 < w) (n : ℕ) where
 
       go : (q r : ℕ) → q < n → r < w → {b : Bool} → Same q k b → getD (patch l (k * w) bs) (q * w + r) 0 ≡ getD (g q) r 0
       go q r hq hr (same u) = rw u (getD-patch l (k * w) bs w r e (omega (arith, long, in-section k h)) hr ∙ ap (λ (x : List ℕ). getD x r 0) (sym (s .here)))
-      go q r hq hr (other u) = before q r u hr (below q k) ∙ cell-read w pos n f q r hq hr ∙ ap (λ (x : List ℕ). getD x r 0) (sym (s .there q u))
+      go q r hq hr (other u) = before q r u hr (below q k) ∙ cell-read w n f q r hq hr ∙ ap (λ (x : List ℕ). getD x r 0) (sym (s .there q u))
 
   -- a byte stored
   pub cell-store : (f g : ℕ → List ℕ) (k j v : ℕ) → k < n → j < w → length (f k) ≡ w → Stored f k (set (f k) j v) g
       → set (table (n * w) 0 (placed w f)) (k * w + j) v ≡ table (n * w) 0 (placed w g)
-  cell-store f g k j v h t e s = by-cells w pos n (set l (k * w + j) v) g (length-set l (k * w + j) v ∙ long) (λ q r hq hr. go q r hq hr (same? q k) (same? r j))
+  cell-store f g k j v h t e s = by-cells w n pos (set l (k * w + j) v) g (length-set l (k * w + j) v ∙ long) (λ q r hq hr. go q r hq hr (same? q k) (same? r j))
     where
       l : List ℕ
       l = table (n * w) 0 (placed w f)
@@ -70,7 +70,7 @@ module _ (w : ℕ) (pos : 0 < w) (n : ℕ) where
 
       -- another byte
       apart : (q r : ℕ) → q < n → r < w → q * w + r ≢ k * w + j → getD (set l (k * w + j) v) (q * w + r) 0 ≡ getD (f q) r 0
-      apart q r hq hr ne = getD-set-other l (k * w + j) (q * w + r) v 0 ne ∙ cell-read w pos n f q r hq hr
+      apart q r hq hr ne = getD-set-other l (k * w + j) (q * w + r) v 0 ne ∙ cell-read w n f q r hq hr
 
       go : (q r : ℕ) → q < n → r < w → {a b : Bool} → Same q k a → Same r j b → getD (set l (k * w + j) v) (q * w + r) 0 ≡ getD (g q) r 0
       go q r hq hr (same a) (same b) = rw (a, b) (getD-set-same l (k * w + j) v 0 (rw long (digits-lt h t)) ∙ sym (ap (λ (x : List ℕ). getD x j 0) (s .here) ∙ getD-set-same (f k) j v 0 (rw e t)))

@@ -1,6 +1,6 @@
 -- Statuses of a set of changes, and the changes of some statuses: one turn of the loops, and their ends. Assumes nothing.
 use mathlib.Core.Path.{_≡_, refl, sym, ap, ap₂, _∙_, fun-ext}
-use mathlib.Core.Bool.{Bool, true, false, not, cond, _&&_, _||_, and-true, and-false, or-comm}
+use mathlib.Core.Bool.{Bool, true, false, not, cond, _&&_, _||_, and-true, and-false, and-not-self, or-false, or-comm}
 use mathlib.Core.List.{List}
 use Prim.Native.Nat.{ℕ, suc, _+_, _-_, _*_, _%_, _^_, _≤_, _<_, min, max}
 use native.Mathlib.Nat.{zero-mul, one-mul}
@@ -8,14 +8,15 @@ use native.Mathlib.Omega.{arith}
 use native.Mathlib.Numerals.{add-one}
 use lib.Dec.{ltb, eqb}
 use lib.Bits.{bitOr}
-use borrow.Author.Tests.{eq-eqb, lt-ltb, le-ltb, eqb-true, ltb-true}
+use borrow.Author.Tests.{eq-eqb, lt-ltb, le-ltb, eqb-true, ltb-true, not-true}
 use lib.ListN.{getD}
 use Rattle.rules.specs.Base.{put, outside}
 use Rattle.rules.specs.Sets.{Set, putAll}
-use Rattle.rules.proofs.BaseLaws.{Same, same, other, same?, Below, under, over, below, and-right, both-ways}
+use Rattle.rules.proofs.BaseLaws.{Same, same, other, same?, Below, under, over, below, and-right, both-ways, eqb-iff}
+use Rattle.rules.proofs.SoundParts.{inside-of}
 use Rattle.layout.specs.Codec.{changeSection, bit, unpack}
 use Rattle.cells.proofs.Digits.{unpack-zero, unpack-power, unpack-or, unpack-mod}
-use Rattle.sets.proofs.WalkLaws.{Lowest, lowest-rises}
+use Rattle.sets.proofs.WalkLaws.{Lowest}
 use Rattle.places.specs.Statuses.{firsts, inRange}
 use Rattle.places.proofs.TableLaws.{status-read, change-ext}
 
@@ -31,20 +32,12 @@ pub record Walk (s left : Set) (c : ℕ) : Type 0 where
 -- none passed
 pub statuses-none : (s : Set) (how : ℕ) (st : ℕ → ℕ) → putAll (passed s s) how st ≡ st
 unfolding putAll passed
-statuses-none s how st = fun-ext (λ k. go (s k) (st k))
-  where
-    go : (b : Bool) (x : ℕ) → cond (b && not b) how x ≡ x
-    go true x = refl
-    go false x = refl
+statuses-none s how st = fun-ext (λ k. ap (λ (b : Bool). cond b how (st k)) (and-not-self (s k)))
 
 -- one turn of the loop: the walk goes on without c
 module _ (s left : Set) (c : ℕ) (w : Walk s left c) (h : c < 256) (left′ : Set) (without : (k : ℕ) → left′ k ≡ not (eqb k c) && left k) where
-  module _ (c′ : ℕ) (e : Lowest left′ c′) where
-    pub walk-rises : c < c′
-    walk-rises = lowest-rises left c (w .lowest) left′ without h c′ e
-
-    pub walk-next : Walk s left′ c′
-    walk-next = record { lowest = e; inside = λ k l. w .inside k (and-right (not (eqb k c)) (left k) (sym (without k) ∙ l)) }
+  pub walk-next : (c′ : ℕ) → Lowest left′ c′ → Walk s left′ c′
+  walk-next c′ e = record { lowest = e; inside = λ k l. w .inside k (and-right (not (eqb k c)) (left k) (sym (without k) ∙ l)) }
 
   -- one more
   statuses-more : (how : ℕ) (st : ℕ → ℕ) → put (putAll (passed s left) how st) c how ≡ putAll (passed s left′) how st
@@ -67,12 +60,8 @@ module _ (s left : Set) (c : ℕ) (w : Walk s left c) (h : c < 256) (left′ : S
 pub statuses-all : (s left : Set) (c : ℕ) → Walk s left c → 256 ≤ c → (how : ℕ) (st pa : ℕ → ℕ)
     → changeSection (putAll (passed s left) how st) pa ≡ changeSection (putAll s how st) pa
 unfolding putAll passed
-statuses-all s left c w h how st pa = change-ext (putAll (passed s left) how st) (putAll s how st) pa
-    (λ k l. ap (λ (b : Bool). cond b how (st k)) (go (s k) (left k) (w .lowest .before k (omega arith))))
-  where
-    go : (a b : Bool) → b ≡ false → a && not b ≡ a
-    go true b e = rw e
-    go false b e = refl
+statuses-all s left c w h how st pa =
+    change-ext (putAll (passed s left) how st) (putAll s how st) pa (λ k l. rw (w .lowest .before k (omega arith), and-true (s k)))
 
 -- CHANGES OF SOME STATUSES, word by word
 -- one number more
@@ -89,12 +78,8 @@ firsts-more : (s : Set) (c k : ℕ) → eqb k c && s c || firsts c s k ≡ first
 unfolding firsts
 firsts-more s c k = go (same? k c) ∙ ap (λ (b : Bool). b && s k) (sym (ltb-more k c))
   where
-    last : (b : Bool) → b || (false && b) ≡ b
-    last true = refl
-    last false = refl
-
     go : {a : Bool} → Same k c a → a && s c || (ltb k c && s k) ≡ (a || ltb k c) && s k
-    go (same e) = rw (e, le-ltb c c (omega arith)) (last (s c))
+    go (same e) = rw (e, le-ltb c c (omega arith)) (or-false (s c))
     go (other e) = refl
 
 -- bounds that agree on a number
@@ -129,7 +114,7 @@ word-more s first c w b t h e f inv j l =
     ∙ or-comm (firsts c s (first + j)) (eqb (first + j) c && s c) ∙ firsts-more s c (first + j)
   where
     here : eqb j (c - first) ≡ eqb (first + j) c
-    here = both-ways _ _ (λ q. eq-eqb (first + j) c (omega (arith, eqb-true j (c - first) q))) (λ q. eq-eqb j (c - first) (omega (arith, eqb-true (first + j) c q)))
+    here = eqb-iff j (c - first) (first + j) c (λ q. omega arith) (λ q. omega arith)
 
 -- all up to the end, which may lie before the first
 pub word-all : (s : Set) (first c end w : ℕ) → end ≤ c → c ≤ max first end
@@ -154,12 +139,6 @@ within-all changes low high given h st pa e k = rw (add-one given) (go (below k 
 -- from a status to itself
 pub only-status : (s x : ℕ) → not (outside s s x) ≡ eqb x s
 unfolding outside
-only-status s x = go (same? x s) (below x s) (below s x)
-  where
-    go : {a b c : Bool} → Same x s a → Below x s b → Below s x c → not (b || c) ≡ a
-    go (same e) (under h) c = absurd (omega arith)
-    go (same e) (over h) (under k) = absurd (omega arith)
-    go (same e) (over h) (over k) = refl
-    go (other e) (under h) c = refl
-    go (other e) (over h) (under k) = refl
-    go (other e) (over h) (over k) = absurd (e (omega arith))
+only-status s x = both-ways _ _
+    (λ e. eq-eqb x s (omega (arith, inside-of s s x (not-true _ e))))
+    (λ e. rw (eqb-true x s e, le-ltb s s (omega arith)))

@@ -28,12 +28,12 @@ abbrev changeBytes : (ℕ → ℕ) → (ℕ → ℕ) → ℕ → List ℕ
 changeBytes st pa c = st c ∷ pa c ∷ 0 ∷ 0 ∷ []
 
 -- the header by its places
-head-places : (fs : List ℕ) → headSection fs ≡ table 64 0 (placed 2 (figureBytes fs))
+pub head-places : (fs : List ℕ) → headSection fs ≡ table 64 0 (placed 2 (figureBytes fs))
 unfolding headSection headByte placed
 head-places fs = ap (table 64 0) (fun-ext (λ i. sym (le-byte 2 (i % 2) (getD fs (i / 2) 0) (mod-lt i (omega arith)))))
 
 -- the entries
-value-places : (v : ℕ → ℕ) → valueSection v ≡ table 1024 0 (placed 4 (valueBytes v))
+pub value-places : (v : ℕ → ℕ) → valueSection v ≡ table 1024 0 (placed 4 (valueBytes v))
 unfolding valueSection valueByte placed
 value-places v = ap (table 1024 0) (fun-ext (λ i. sym (le-byte 4 (i % 4) (v (i / 4)) (mod-lt i (omega arith)))))
 
@@ -46,7 +46,7 @@ past a b (suc (suc (suc zero))) = refl
 past a b (suc (suc (suc (suc j)))) = refl
 
 -- the changes
-change-places : (st pa : ℕ → ℕ) → changeSection st pa ≡ table 1024 0 (placed 4 (changeBytes st pa))
+pub change-places : (st pa : ℕ → ℕ) → changeSection st pa ≡ table 1024 0 (placed 4 (changeBytes st pa))
 unfolding changeSection changeByte placed
 change-places st pa = ap (table 1024 0) (fun-ext (λ i. past (st (i / 4)) (pa (i / 4)) (i % 4)))
 
@@ -85,8 +85,8 @@ change-ext st st′ pa f = change-places st pa
 
 module _ (s : List ℕ) (st pa : ℕ → ℕ) (c : ℕ) (e : s ≡ changeSection st pa) (h : c < 256) where
   -- byte j of a change
-  change-read : (j : ℕ) → j < 4 → getD s (c * 4 + j) 0 ≡ getD (changeBytes st pa c) j 0
-  change-read j t = ap (λ (r : List ℕ). getD r (c * 4 + j) 0) (e ∙ change-places st pa) ∙ cell-read 4 (omega arith) 256 (changeBytes st pa) c j h t
+  pub change-read : (j : ℕ) → j < 4 → getD s (c * 4 + j) 0 ≡ getD (changeBytes st pa c) j 0
+  change-read j t = ap (λ (r : List ℕ). getD r (c * 4 + j) 0) (e ∙ change-places st pa) ∙ cell-read 4 256 (changeBytes st pa) c j h t
 
   -- its status
   pub status-read : getD s (c * 4) 0 ≡ st c

@@ -25,10 +25,6 @@ use Rattle.reads.proofs.ReadLaws.{change-fits, entry-fits}
 pub ends-within : {n m : ℕ} → n ≤ windowSize → m ≡ windowSize → n ≤ m
 ends-within h e = rw e h
 
--- a log that has room for a record, by the count that is read
-pub room-counted : {n m : ℕ} → n ≡ m → m < 2048 → n < 2048
-room-counted e h = omega arith
-
 module _ (bs : List ℕ) (s : soundBytes bs ≡ true) where
   pub write-known : (c e v : ℕ) → firstFailed (checks limits (decode bs) (Write c e v)) ≡ 0 → (c < 256) × (e < 256) × (length (decode bs .log) < 2048)
   unfolding checks _if_ limits

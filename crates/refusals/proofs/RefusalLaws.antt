@@ -1,7 +1,7 @@
 -- The first refusal of a list of checks, from the tests of the code. Assumes nothing.
 use mathlib.Core.Path.{_≡_, refl, sym, _∙_}
 use mathlib.Core.Logic.{_≢_}
-use mathlib.Core.Bool.{Bool, true, false, not, _||_}
+use mathlib.Core.Bool.{Bool, true, false, not, cond, _||_}
 use mathlib.Core.List.{List, [], _∷_}
 use Prim.Native.Nat.{ℕ, suc, _≤_, _<_}
 use native.Mathlib.Omega.{arith}
@@ -10,7 +10,8 @@ use borrow.Author.Tests.{ne-eqb, lt-ltb, le-ltb}
 use Rattle.rules.specs.Base.{exceeds}
 use Rattle.rules.specs.Window.{Window, noChange}
 use Rattle.rules.specs.Refusals.{Check, _if_, checks, firstFailed}
-use Rattle.rules.proofs.BaseLaws.{eqb-same, over-false, over-true}
+use Rattle.rules.proofs.BaseLaws.{over-false, over-true}
+pub use Rattle.reads.proofs.ReadLaws.{reads-same, reads-other}
 use Rattle.refusals.specs.Shared.{ChangeRefusal}
 
 -- checks made in order give a number: t is the code's test
@@ -26,6 +27,13 @@ first all-passed = refl
 first (fails e h) = rw (sym e, h)
 first (passes e h q) = rw (sym e, h) (first q)
 
+-- what the first checks of a list give, r, decides, or those after them, l
+pub decided : (l : List Check) {r n : ℕ} → cond (eqb r 0) (firstFailed l) r ≡ n → r ≢ 0 → r ≡ n
+decided l {r} e h = rw (ne-eqb r 0 h) at e
+
+pub undecided : {l : List Check} {r s n : ℕ} → cond (eqb r 0) (firstFailed l) r ≡ n → r ≡ 0 → Checked l s → s ≡ n
+undecided e z q = first q ∙ (rw z at e)
+
 -- the four calls that only ask that there is the change have the same checks
 pub change-refusal : {W : Window} {c r : ℕ} → Checked (3 if noChange W c ∷ []) r → ChangeRefusal W c r
 unfolding checks
@@ -38,12 +46,6 @@ module _ {x y : ℕ} (e : x ≡ y) (n : ℕ) where
 
   pub reads-not-below : n ≤ x → ltb y n ≡ false
   reads-not-below h = le-ltb y n (omega arith)
-
-  pub reads-same : x ≡ n → eqb y n ≡ true
-  reads-same h = rw (sym e, h) (eqb-same n)
-
-  pub reads-other : x ≢ n → eqb y n ≡ false
-  reads-other h = ne-eqb y n (λ q. h (e ∙ q))
 
   -- one more exceeds a largest figure, or does not
   pub full : n ≤ x → exceeds (suc y) n ≡ true

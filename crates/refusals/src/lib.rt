@@ -8,15 +8,17 @@ use reads::no_change;
 use reads::no_entry;
 use reads::outside;
 ghost use mathlib.Core.Path.{_≡_};
-ghost use mathlib.Core.Bool.{true};
+ghost use mathlib.Core.Bool.{true, cond};
+ghost use mathlib.Core.List.{List};
 ghost use Prim.Native.Nat.{ℕ};
+ghost use lib.Dec.{eqb};
 ghost use lib.ListN.{length};
 ghost use Rattle.rules.specs.Window.{limits};
 ghost use Rattle.rules.specs.Calls.{Initiate, Begin, Complete, Lock, Read, Write, Value};
-ghost use Rattle.rules.specs.Refusals.{checks, firstFailed};
+ghost use Rattle.rules.specs.Refusals.{Check, checks, firstFailed};
 ghost use Rattle.layout.specs.Codec.{windowSize, decode};
 ghost use Rattle.layout.specs.Memory.{soundBytes};
-ghost use Rattle.refusals.specs.Shared.{ChangeRefusal};
+ghost use Rattle.refusals.specs.Shared.{ChangeRefusal, onEntry};
 
 // Commit, abort, status and parent.
 pub fn change(w: &[u8], change: u32) -> u32
@@ -112,11 +114,11 @@ pub fn lock(w: &[u8], change: u32, entry: u32, mode: u32) -> u32
     0
 }
 
-// Read.
-pub fn read(w: &[u8], change: u32, entry: u32) -> u32
+// The first checks of read and write: there are the change and the entry, and the change runs.
+fn on_entry(w: &[u8], change: u32, entry: u32) -> u32
     requires { ⌜ length (now w) ≡ windowSize ⌝ }
     requires { ⌜ soundBytes (now w) ≡ true ⌝ }
-    ensures { λ r. ⌜ r ≡ firstFailed (checks limits (decode (now (w .entry))) (Read change entry)) ⌝ }
+    ensures { λ r. ⌜ ((l : List Check) → cond (eqb r 0) (firstFailed l) r ≡ firstFailed (onEntry (decode (now (w .entry))) change entry l)) ⌝ }
 {
     if no_change(w, change) {
         return 3;
@@ -126,6 +128,19 @@ pub fn read(w: &[u8], change: u32, entry: u32) -> u32
     }
     if !is_running(w, change) {
         return 7;
+    }
+    0
+}
+
+// Read.
+pub fn read(w: &[u8], change: u32, entry: u32) -> u32
+    requires { ⌜ length (now w) ≡ windowSize ⌝ }
+    requires { ⌜ soundBytes (now w) ≡ true ⌝ }
+    ensures { λ r. ⌜ r ≡ firstFailed (checks limits (decode (now (w .entry))) (Read change entry)) ⌝ }
+{
+    let refused = on_entry(w, change, entry);
+    if refused != 0 {
+        return refused;
     }
     if held(w, entry, change) == 0 {
         return 8;
@@ -139,14 +154,9 @@ pub fn write(w: &[u8], change: u32, entry: u32) -> u32
     requires { ⌜ soundBytes (now w) ≡ true ⌝ }
     ensures { λ r. ⌜ ((v : ℕ) → r ≡ firstFailed (checks limits (decode (now (w .entry))) (Write change entry v))) ⌝ }
 {
-    if no_change(w, change) {
-        return 3;
-    }
-    if no_entry(w, entry) {
-        return 4;
-    }
-    if !is_running(w, change) {
-        return 7;
+    let refused = on_entry(w, change, entry);
+    if refused != 0 {
+        return refused;
     }
     if held(w, entry, change) != 2 {
         return 8;

@@ -83,7 +83,7 @@ module _ {A : Type 0} (R : Rows A) (p : A → Bool) (most : ℕ) (bs : List ℕ)
 
   module _ (s : Stands) where
     pub byte-at : (j k : ℕ) → j < most → k < 4 → getD bs (j * 4 + k) 0 ≡ getD (R .bytes (getD (s .rows) j (R .none))) k 0
-    byte-at j k h l = ap (λ x. getD x (j * 4 + k) 0) (s .is) ∙ place-at 4 (omega arith) (R .bytes) (R .none) most (s .rows) j k h l
+    byte-at j k h l = ap (λ x. getD x (j * 4 + k) 0) (s .is) ∙ place-at 4 (R .bytes) (R .none) most (s .rows) j k h l
 
     read-at : (j : ℕ) → j < most → R .read bs j ≡ getD (s .rows) j (R .none)
     read-at j h = R .again bs (getD (s .rows) j (R .none)) j (λ k l. byte-at j k h l)

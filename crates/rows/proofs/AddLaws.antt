@@ -2,7 +2,7 @@
 use mathlib.Core.Path.{_≡_, refl, sym, ap, _∙_}
 use mathlib.Core.Bool.{Bool, true, false, not, cond}
 use mathlib.Core.List.{List}
-use Prim.Native.Nat.{ℕ, suc, _+_, _-_, _*_, _≤_, _<_}
+use Prim.Native.Nat.{ℕ, _+_, _-_, _*_, _≤_, _<_}
 use native.Mathlib.Omega.{arith}
 use lib.ListN.{length, getD, set}
 use lib.Dec.{eqb}
@@ -32,27 +32,14 @@ united-other old more h = rw (ne-eqb old more h) (go (eqb old 3) (eqb-true old 3
     go false f = refl
 
 -- a list that fits takes the other's place
-pub unless-fits {ℓ} : {A : Type ℓ} (most : ℕ) (new old : List A) → exceeds (length new) most ≡ false → unlessOver most new old ≡ new
-unfolding unlessOver
-unless-fits most new old e = rw e
-
--- a longer one does not
-pub unless-over {ℓ} : {A : Type ℓ} (most : ℕ) (new old : List A) → exceeds (length new) most ≡ true → unlessOver most new old ≡ old
-unfolding unlessOver
-unless-over most new old e = rw e
-
--- by its length
 pub unless-not {ℓ} : {A : Type ℓ} (most : ℕ) (new old : List A) → length new ≤ most → unlessOver most new old ≡ new
-unless-not most new old h = unless-fits most new old (over-false (length new) most h)
+unfolding unlessOver
+unless-not most new old h = rw (over-false (length new) most h)
 
--- one row more at most
-length-added : (x : Row) (rs : List Row) → length (addRow x rs) ≤ suc (length rs)
-unfolding addRow
-length-added x rs = length-insert rowKey uniteRows (λ y z. unfold rowKey uniteRows in refl) x rs
-
--- so it fits where there is room
+-- a row more fits where there is room
 pub fits-room : (l : List ℕ) (n most : ℕ) (x : Row) → n < most → true ≡ not (exceeds (length (addRow x (rows n l))) most)
-fits-room l n most x h = sym (ap not (over-false (length (addRow x (rows n l))) most (omega (arith, length-added x (rows n l), length-rows n l))))
+unfolding addRow
+fits-room l n most x h = sym (ap not (over-false _ most (omega (arith, length-insert rowKey uniteRows x (rows n l), length-rows n l))))
 
 -- `t` says whether a row of the key stands at its place
 module _ (l : List ℕ) (n : ℕ) (x : Row) (at : ℕ) (p : Placed l n x at) (most : ℕ) (t : Bool) (et : t ≡ standsAt l n (rank x) at) where
@@ -79,8 +66,9 @@ module _ (l : List ℕ) (n : ℕ) (x : Row) (at : ℕ) (p : Placed l n x at) (mo
 
     -- it does not, and the table is full: nothing changes
     pub add-full : t ≡ false → n ≡ most → Stored (unlessOver most (addRow x (rows n l)) (rows n l)) l n l
+    unfolding unlessOver
     add-full f e =
-        rw (unless-over most (addRow x (rows n l)) (rows n l) (over-true (length (addRow x (rows n l))) most (omega (arith, length-new l n x at p (sym et ∙ f)))))
+        rw (over-true (length (addRow x (rows n l))) most (omega (arith, length-new l n x at p (sym et ∙ f))))
         (record { count = sym (length-rows n l); bytes = sym (rows-same l n (omega arith)) })
 
     -- it does not, and there is room: put in

@@ -80,9 +80,9 @@ ranks-rise l n b e i j h k =
     (rw (getD-table0 n (rowAt l) i none (omega arith), getD-table0 n (rowAt l) j none k) at (rising-at rowKey none (table n 0 (rowAt l)) e i j h (rw length-table k)))
 
 -- a search by halves: the middle row is lower, or not
-module _ (l : List ℕ) (n : ℕ) (b : Bytes l) (e : rising rowKey (rows n l) ≡ true) (k mid : ℕ) (h : mid < n) where
-  pub half-lower : rank (rowAt l mid) < k → (j : ℕ) → j < mid + 1 → rank (rowAt l j) < k
-  half-lower low j g = ⊎-elim (λ q. rw q low) (λ q. omega (arith, ranks-rise l n b e j mid q h)) (eq-or-lt-of-le {n = j} {m = mid} (omega arith))
+module _ (l : List ℕ) (n : ℕ) (b : Bytes l) (e : rising rowKey (rows n l) ≡ true) (k mid : ℕ) where
+  pub half-lower : mid < n → rank (rowAt l mid) < k → (j : ℕ) → j < mid + 1 → rank (rowAt l j) < k
+  half-lower h low j g = ⊎-elim (λ q. rw q low) (λ q. omega (arith, ranks-rise l n b e j mid q h)) (eq-or-lt-of-le {n = j} {m = mid} (omega arith))
 
   -- those from a row on that is not lower are not lower
   pub half-higher : k ≤ rank (rowAt l mid) → (j : ℕ) → mid ≤ j → j < n → k ≤ rank (rowAt l j)

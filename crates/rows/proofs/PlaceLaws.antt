@@ -3,29 +3,18 @@ use mathlib.Core.Path.{_≡_, refl, sym, ap, _∙_}
 use mathlib.Core.Logic.{⊎-elim}
 use mathlib.Core.Bool.{Bool, true, false, false≢true}
 use mathlib.Core.List.{List, _∷_, _++_}
-use Prim.Native.Nat.{ℕ, zero, suc, _+_, _-_, _≤_, _<_}
+use Prim.Native.Nat.{ℕ, suc, _+_, _-_, _≤_, _<_}
 use native.Mathlib.Nat.{eq-or-lt-of-le}
 use native.Mathlib.Omega.{arith}
 use lib.Dec.{ltb, eqb}
 use lib.ListN.{length, length-append}
 use borrow.Author.Tests.{lt-ltb, ltb-true, eq-eqb, eqb-true}
-use Rattle.rules.specs.Base.{table, any}
-use Rattle.rules.proofs.BaseLaws.{and-both, and-left, and-right, or-cases}
+use Rattle.rules.specs.Base.{table}
+use Rattle.rules.proofs.BaseLaws.{and-both, and-left, and-right}
 use Rattle.layout.proofs.SectionLaws.{Bytes, length-table}
 use Rattle.rows.specs.Rows.{Row, rank, rowAt, rows, standsAt, KeyPlace, uniteRows, addRow}
 use Rattle.rows.proofs.OrderLaws.{Small, small-at, put-behind, put-before, put-same}
 use Rattle.rows.proofs.RowLaws.{rows-split}
-
--- where one of a table passes
-module _ {ℓ} {A : Type ℓ} (p : A → Bool) where
-  pub any-where : (n i : ℕ) (f : ℕ → A) → any p (table n i f) ≡ true → (j : ℕ) × (i ≤ j) × (j < i + n) × (p (f j) ≡ true)
-  unfolding any table
-  any-where zero i f e = absurd (false≢true e)
-  any-where (suc n) i f e =
-      ⊎-elim
-      (λ q. (i, omega arith, omega arith, q))
-      (λ q. let w = any-where n (suc i) f q in (w .0, omega arith, omega arith, w .3))
-      (or-cases (p (f i)) (any p (table n (suc i) f)) e)
 
 -- what a row that stands at a place is
 pub stands-below : (l : List ℕ) (n k at : ℕ) (t : Bool) → t ≡ standsAt l n k at → t ≡ true → at < n

@@ -59,7 +59,7 @@ row-here (r ∷ rs) t (suc j) h = rw (append-assoc (rowBytes r) (rowsBytes rs) t
 -- all of them
 pub rows-bytes : (rs : List Row) (t : List ℕ) → rows (length rs) (rowsBytes rs ++ t) ≡ rs
 unfolding rows
-rows-bytes rs t = table-list (row 0 0 0 0) rs (rowAt (rowsBytes rs ++ t)) (row-here rs t)
+rows-bytes rs t = table-list (row 0 0 0 0) rs (rowAt (rowsBytes rs ++ t)) refl (row-here rs t)
 
 -- a section is the bytes of its first rows, and the rest
 pub rows-rest : (l : List ℕ) (n : ℕ) → 4 * n ≤ length l → rowsBytes (rows n l) ++ drop (4 * n) l ≡ l

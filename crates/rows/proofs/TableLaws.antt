@@ -34,7 +34,7 @@ module _ {A : Type 0} (f : A → Row) where
       go false e = e
 
   -- one of the records passes where one of their rows does
-  pub any-map : (q : Row → Bool) (p : A → Bool) → ((x : A) → q (f x) ≡ p x) → (l : List A) → any q (map f l) ≡ any p l
+  any-map : (q : Row → Bool) (p : A → Bool) → ((x : A) → q (f x) ≡ p x) → (l : List A) → any q (map f l) ≡ any p l
   unfolding any
   any-map q p h [] = refl
   any-map q p h (x ∷ l) = ap₂ (λ (a b : Bool). a || b) (h x) (any-map q p h l)
@@ -64,7 +64,7 @@ module _ {A : Type 0} (f : A → Row) where
 
     module _ (unite : A → A → A) (united : (x y : A) → f (unite x y) ≡ uniteRows (f x) (f y)) where
       -- the rows after a record is added
-      pub added-map : (x : A) (l : List A) → addRow (f x) (map f l) ≡ map f (insert key unite x l)
+      added-map : (x : A) (l : List A) → addRow (f x) (map f l) ≡ map f (insert key unite x l)
       unfolding addRow insert byOrder
       added-map x [] = refl
       added-map x (y ∷ l) = rw (keyed x, keyed y) (go (order (key x) (key y)) (added-map x l))

@@ -2,11 +2,11 @@
 use mathlib.Core.Path.{_≡_, refl, sym, _∙_, ap}
 use mathlib.Core.Logic.{_⊎_, inl, inr, ⊎-elim, _≢_}
 use mathlib.Core.Bool.{Bool, true, false, not, cond, _&&_, _||_, false≢true}
-use Prim.Native.Nat.{ℕ, zero, suc, _≤_, _<_, zero-le, suc-le-suc}
+use Prim.Native.Nat.{ℕ, zero, suc, _≤_, _<_, zero-le}
 use native.Mathlib.Nat.{eq-or-lt-of-le, le-of-suc-le-suc, not-suc-le-zero}
 use native.Mathlib.Omega.{arith}
-use lib.Dec.{ltb, eqb, T, ltb→lt, nltb→le}
-use borrow.Author.Tests.{eqb-true, eq-eqb, ne-eqb}
+use lib.Dec.{ltb, eqb, T, ltb→lt, nltb→le, leb·suc-suc}
+use borrow.Author.Tests.{not-true, eqb-true, eq-eqb, lt-ltb, le-ltb, ltb-false}
 use Rattle.rules.specs.Base.{put, allBelow, anyBelow, countBelow, exceeds}
 
 pub or-left : (a b : Bool) → a ≡ true → a || b ≡ true
@@ -44,20 +44,13 @@ and-four a b c d e = let f = and-left (a && b && c) d e in let g = and-left (a &
 pub and-five : (a b c d x : Bool) → a && b && c && d && x ≡ true → (a ≡ true) × (b ≡ true) × (c ≡ true) × (d ≡ true) × (x ≡ true)
 and-five a b c d x e = let f = and-four a b c d (and-left (a && b && c && d) x e) in (f .0, f .1, f .2, f .3, and-right (a && b && c && d) x e)
 
--- tests that failed
+-- of one test or two: what cannot be, and when two are the same
 pub never : (b : Bool) → b ≡ true → not b ≡ true → ⊥
 never b p q = false≢true (rw p at q)
 
-pub or-false-left : (a b : Bool) → a || b ≡ false → a ≡ false
-or-false-left true b e = e
-or-false-left false b e = refl
-
-pub or-false-right : (a b : Bool) → a || b ≡ false → b ≡ false
-or-false-right true b e = absurd (false≢true (sym e))
-or-false-right false b e = e
-
 pub or-none : (a b : Bool) → a || b ≡ false → (a ≡ false) × (b ≡ false)
-or-none a b e = (or-false-left a b e, or-false-right a b e)
+or-none true b e = absurd (false≢true (sym e))
+or-none false b e = (refl, e)
 
 pub no-true : (b : Bool) → (b ≡ true → ⊥) → b ≡ false
 no-true true f = absurd (f refl)
@@ -96,12 +89,12 @@ same? a b = go (eqb a b) refl
     go true e = same (eqb-true a b e)
     go false e = other (λ q. false≢true (sym e ∙ (rw q (eqb-same b))))
 
+-- numbers that are equal just where two others are
+pub eqb-iff : (a b c d : ℕ) → (a ≡ b → c ≡ d) → (c ≡ d → a ≡ b) → eqb a b ≡ eqb c d
+eqb-iff a b c d f g = both-ways _ _ (λ e. eq-eqb c d (f (eqb-true a b e))) (λ e. eq-eqb a b (g (eqb-true c d e)))
+
 pub eqb-sym : (a b : ℕ) → eqb a b ≡ eqb b a
-eqb-sym a b = go (same? a b)
-  where
-    go : {x : Bool} → Same a b x → x ≡ eqb b a
-    go (same e) = sym (rw e (eqb-same b))
-    go (other n) = sym (ne-eqb b a (λ q. n (sym q)))
+eqb-sym a b = eqb-iff a b b a sym sym
 
 -- for all below a bound
 pub allBelow-intro : (n : ℕ) (p : ℕ → Bool) → ((c : ℕ) → c < n → p c ≡ true) → allBelow n p ≡ true
@@ -124,23 +117,20 @@ cond-same true a = refl
 cond-same false a = refl
 
 -- a largest figure
-pub over-false : (m n : ℕ) → m ≤ n → exceeds m n ≡ false
+pub exceeds-ltb : (m n : ℕ) → exceeds m n ≡ ltb n m
 unfolding exceeds
-over-false zero n h = refl
-over-false (suc m) zero h = absurd (not-suc-le-zero h)
-over-false (suc m) (suc n) h = over-false m n (le-of-suc-le-suc h)
+exceeds-ltb zero n = sym (le-ltb n 0 zero-le)
+exceeds-ltb (suc m) zero = sym (lt-ltb 0 (suc m) (omega arith))
+exceeds-ltb (suc m) (suc n) = exceeds-ltb m n ∙ sym (leb·suc-suc (suc n) m)
+
+pub over-false : (m n : ℕ) → m ≤ n → exceeds m n ≡ false
+over-false m n h = exceeds-ltb m n ∙ le-ltb n m h
 
 pub over-true : (m n : ℕ) → n < m → exceeds m n ≡ true
-unfolding exceeds
-over-true zero n h = absurd (not-suc-le-zero h)
-over-true (suc m) zero h = refl
-over-true (suc m) (suc n) h = over-true m n (le-of-suc-le-suc h)
+over-true m n h = exceeds-ltb m n ∙ lt-ltb n m h
 
 pub within-of : (m n : ℕ) → not (exceeds m n) ≡ true → m ≤ n
-unfolding exceeds
-within-of zero n e = zero-le
-within-of (suc m) zero e = absurd (false≢true e)
-within-of (suc m) (suc n) e = suc-le-suc (within-of m n e)
+within-of m n e = ltb-false n m (sym (exceeds-ltb m n) ∙ not-true _ e)
 
 pub over-less : (m k n : ℕ) → k ≤ m → not (exceeds m n) ≡ true → not (exceeds k n) ≡ true
 over-less m k n h e = ap not (over-false k n (omega (arith, within-of m n e)))

@@ -6,7 +6,7 @@ use native.Mathlib.Nat.{add-zero, add-suc, not-suc-le-zero}
 use native.Mathlib.Omega.{arith}
 use borrow.Author.Tests.{not-true}
 use Rattle.rules.specs.Base.{anyBelow, allBelow, countBelow, lowestBelow}
-use Rattle.rules.proofs.BaseLaws.{any-intro, any-elim, anyBelow-none, none-below, allBelow-intro, allBelow-at, both-ways, Within, count-same, Same, same, other, same?, Below, under, over, below}
+use Rattle.rules.proofs.BaseLaws.{any-intro, any-elim, anyBelow-none, none-below, allBelow-intro, allBelow-at, both-ways, no-true, Within, count-same, Same, same, other, same?, Below, under, over, below}
 
 -- tests that agree below the bound
 module _ (f g : ℕ → Bool) where
@@ -62,13 +62,13 @@ module _ (p : ℕ → Bool) where
   lowest-is zero r h hit none = omega arith
   lowest-is (suc n) r h hit none = go (same? r (suc n)) (same? r n) (lowest-is n r)
     where
-      low : r ≡ suc n → anyBelow n p ≡ false
+      low : n ≤ r → anyBelow n p ≡ false
       low e = none-below n p (λ d l q. false≢true (sym (none d (omega arith)) ∙ q))
 
       go : {x y : Bool} → Same r (suc n) x → Same r n y → (r ≤ n → (r < n → p r ≡ true) → ((k : ℕ) → k < r → p k ≡ false) → lowestBelow n p ≡ r)
           → cond (anyBelow n p) (lowestBelow n p) (cond (p n) n (suc n)) ≡ r
-      go (same e) s ih = rw (low e, none n (omega arith)) (sym e)
-      go (other u) (same e) ih = rw (none-below n p (λ d l q. false≢true (sym (none d (omega arith)) ∙ q)), rw e at (hit (omega arith))) (sym e)
+      go (same e) s ih = rw (low (omega arith), none n (omega arith)) (sym e)
+      go (other u) (same e) ih = rw (low (omega arith), rw e at (hit (omega arith))) (sym e)
       go (other u) (other v) ih = rw (any-intro n p r (omega arith) (hit (omega arith))) (ih (omega arith) (λ l. hit (omega arith)) none)
 
   -- at most the bound
@@ -118,20 +118,19 @@ module _ (p : ℕ → Bool) where
           at (other u) = anyBelow-none n p q k (omega arith)
 
   -- a bound past which none passes plays no part
-  module _ (n m : ℕ) (le : n ≤ m) (past : (k : ℕ) → n ≤ k → p k ≡ false) where
-    before : (k : ℕ) → p k ≡ true → k < n
-    before k e = go (below k n)
-      where
-        go : {b : Bool} → Below k n b → k < n
-        go (under h) = h
-        go (over h) = absurd (false≢true (sym (past k h) ∙ e))
+  pub any-bound : (n m : ℕ) → n ≤ m → ((k : ℕ) → n ≤ k → k < m → p k ≡ false) → anyBelow m p ≡ anyBelow n p
+  any-bound n m le past = both-ways _ _ (λ e. let a = any-elim m p e in any-intro n p (a .0) (before (a .0) (a .1) (a .2)) (a .2))
+      (λ e. let a = any-elim n p e in any-intro m p (a .0) (omega (arith, a .1)) (a .2))
+    where
+      before : (k : ℕ) → k < m → p k ≡ true → k < n
+      before k l e = go (below k n)
+        where
+          go : {b : Bool} → Below k n b → k < n
+          go (under h) = h
+          go (over h) = absurd (false≢true (sym (past k h l) ∙ e))
 
-    pub any-bound : anyBelow m p ≡ anyBelow n p
-    any-bound = both-ways _ _ (λ e. let a = any-elim m p e in any-intro n p (a .0) (before (a .0) (a .2)) (a .2))
-        (λ e. let a = any-elim n p e in any-intro m p (a .0) (omega (arith, a .1)) (a .2))
-
-    pub lowest-bound : anyBelow n p ≡ true → lowestBelow m p ≡ lowestBelow n p
-    lowest-bound e = let h = lowest-hit n e in lowest-is m (lowestBelow n p) (omega (arith, h .0)) (λ l. h .1) (lowest-below n)
+  pub lowest-bound : (n m : ℕ) → n ≤ m → anyBelow n p ≡ true → lowestBelow m p ≡ lowestBelow n p
+  lowest-bound n m le e = let h = lowest-hit n e in lowest-is m (lowestBelow n p) (omega (arith, h .0)) (λ l. h .1) (lowest-below n)
 
   count-from : (n i : ℕ) → ((k : ℕ) → n ≤ k → p k ≡ false) → countBelow (n + i) p ≡ countBelow n p
   unfolding countBelow
@@ -160,3 +159,17 @@ count-more n s t w c h e q = go (below (countBelow n s) (countBelow n t))
     go : {b : Bool} → Below (countBelow n s) (countBelow n t) b → countBelow n s < countBelow n t
     go (under l) = l
     go (over l) = absurd (false≢true (sym e ∙ count-same n s t w l c h q))
+
+-- where none is counted none passes
+pub count-none : (n : ℕ) (p : ℕ → Bool) → countBelow n p ≡ 0 → (j : ℕ) → j < n → p j ≡ false
+count-none n p e j h = no-true (p j) (λ q. omega (arith, count-more n (λ i. false) p (λ i l z. absurd (false≢true z)) j h refl q))
+
+-- where one is counted one passes
+pub count-some : (n : ℕ) (p : ℕ → Bool) → (countBelow n p ≡ 0 → ⊥) → (j : ℕ) × (j < n) × (p j ≡ true)
+unfolding countBelow
+count-some zero p h = absurd (h refl)
+count-some (suc n) p h = go (p n) refl h (count-some n p)
+  where
+    go : (b : Bool) → p n ≡ b → (cond b (suc (countBelow n p)) (countBelow n p) ≡ 0 → ⊥) → ((countBelow n p ≡ 0 → ⊥) → (j : ℕ) × (j < n) × (p j ≡ true)) → (j : ℕ) × (j < suc n) × (p j ≡ true)
+    go true e f ih = (n, omega arith, e)
+    go false e f ih = let w = ih f in (w .0, omega (arith, w .1), w .2)

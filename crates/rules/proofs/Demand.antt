@@ -11,32 +11,31 @@ use Rattle.rules.specs.Ties.{grouped, groupOf}
 use Rattle.rules.specs.Calls.{Call, Open, fits}
 use Rattle.rules.specs.Effects.{endAll, addChange, handOver}
 use Rattle.rules.specs.Refusals.{step}
-use Rattle.rules.specs.Events.{Event, Action, opening, initiating, other, locking, permitting, delegating, tying, actionOf, action, isOpening, isTying, highestAfter}
+use Rattle.rules.specs.Events.{Event, Action, opening, initiating, nothing, locking, permitting, delegating, tying, actionOf, action, isOpening, isTying, highestAfter}
 use Rattle.rules.specs.Lists.{status, remember, event, history, tieMade, enter, strike, book, highest, isGrouped, firstOfGroup, liveGroups, walks, Demand3After, Demand3, final}
 use Rattle.rules.proofs.BaseLaws.{never, none-below, within-of, or-cases, and-both, and-left, and-right, any-intro, Within, count-within}
 use Rattle.rules.proofs.DemandBook.{bookOf, strike-same, book-next, clash-permitted}
 use Rattle.rules.proofs.DemandEnds.{endingOf, fresh-tie}
-use Rattle.rules.proofs.DemandMoves.{shownStatus, status-shown, Move, opened, started, calm, locked, granted, handed, tied, committed, aborted, move, live-not, live-status}
-use Rattle.rules.proofs.DemandTies.{TieHistory, Bound, stands, over as gone, story-next, story-fresh, story-lasts, story-groups, story-falls, story-waits}
+use Rattle.rules.proofs.DemandMoves.{shownStatus, status-shown, Move, opened, started, calm, locked, granted, handed, depended, committed, aborted, move, live-not, live-status}
+use Rattle.rules.proofs.DemandTies.{TieHistory, Bound, stands, ended, story-next, story-fresh, story-lasts, story-groups, story-falls, story-waits}
 use Rattle.rules.proofs.DemandWalks.{final-append, firstInGroup, groupCount, all-end}
 use Rattle.rules.proofs.SetLaws.{reach-closed, reach-least}
-use Rattle.rules.proofs.TieLaws.{group-seed}
+use Rattle.rules.proofs.TieLaws.{grouped-both, group-seed}
 use Rattle.rules.proofs.SoundParts.{live-below, Sound, given-live, live-change}
 use Rattle.rules.proofs.SoundStep.{step-sound, opened-sound, opened-fresh, group-live}
-use Rattle.rules.proofs.SourceLaws.{grouped-both}
 
 -- the window after a list, and its history
 pub record Inv (L : Limits) (W : Window) (p : List Event) : Type 0 where
   pub sound : Sound L W
   pub story : TieHistory W p
-  pub booked : book p ≡ bookOf W
+  booked : book p ≡ bookOf W
   pub top : highest p ≡ W .given
 
 is-opening : (d : Action) → isOpening d ≡ true → d ≡ opening
 unfolding isOpening
 is-opening opening e = refl
 is-opening initiating e = absurd (false≢true e)
-is-opening other e = absurd (false≢true e)
+is-opening nothing e = absurd (false≢true e)
 is-opening (locking c x m) e = absurd (false≢true e)
 is-opening (permitting g t x o) e = absurd (false≢true e)
 is-opening (delegating f t x) e = absurd (false≢true e)
@@ -47,10 +46,10 @@ unfolding isOpening
 opening-fresh W (opened n k) e = (n, refl)
 opening-fresh W (started p) e = absurd (false≢true e)
 opening-fresh W (calm k X q) e = absurd (false≢true e)
-opening-fresh W (locked c x m k h a b q) e = absurd (false≢true e)
+opening-fresh W (locked c x m k h q) e = absurd (false≢true e)
 opening-fresh W (granted g t x o k) e = absurd (false≢true e)
-opening-fresh W (handed g t x k a) e = absurd (false≢true e)
-opening-fresh W (tied j m g k a b) e = absurd (false≢true e)
+opening-fresh W (handed g t x k) e = absurd (false≢true e)
+opening-fresh W (depended j m g k a b) e = absurd (false≢true e)
 opening-fresh W (committed c k a b) e = absurd (false≢true e)
 opening-fresh W (aborted c k v a) e = absurd (false≢true e)
 
@@ -59,10 +58,10 @@ unfolding isOpening highestAfter addChange withHeld withPermits withTies withVal
 given-next W (opened n k) e = absurd (true≢false e)
 given-next W (started p) e = omega arith
 given-next W (calm k X q) e = sym (q .given)
-given-next W (locked c x m k h a b q) e = refl
+given-next W (locked c x m k h q) e = refl
 given-next W (granted g t x o k) e = refl
-given-next W (handed g t x k a) e = refl
-given-next W (tied j m g k a b) e = refl
+given-next W (handed g t x k) e = refl
+given-next W (depended j m g k a b) e = refl
 given-next W (committed c k a b) e = refl
 given-next W (aborted c k v a) e = refl
 
@@ -121,11 +120,11 @@ module _ (L : Limits) where
       where
         forth : Bound W p x y → grouped (W .ties) x y ≡ true
         forth (stands a b g) = g
-        forth (gone a b t) = absurd (live-not W x l a)
+        forth (ended a b t) = absurd (live-not W x l a)
 
         back : Bound W p y x → grouped (W .ties) x y ≡ true
         back (stands a b g) = grouped-both (W .ties) y x g
-        back (gone a b t) = absurd (live-not W x l (ap isEnded b ∙ a))
+        back (ended a b t) = absurd (live-not W x l (ap isEnded b ∙ a))
 
     group-step : (c x y : ℕ) → live W c ≡ true → x < suc (W .given) → y < suc (W .given) → groupOf W c x ≡ true → tieMade p 3 x y || tieMade p 3 y x ≡ true → groupOf W c y ≡ true
     group-step c x y lc hx hy g e = next (tied-now x y (group-live L W (v .sound) c lc x g) e)
@@ -160,7 +159,7 @@ module _ (L : Limits) where
   unfolding event action isOpening actionOf
   first-inv W n a q z = inv-open (step L W (Open n) .after) n q (event (step L) W (Open n)) [] (rw a) z (status-shown L (step L W (Open n) .after))
 
-  pub hist-inv : (l : List Call) (W : Window) (p : List Event) → Inv L W p → all fits l ≡ true → Inv L (final (step L) W l) (history (step L) W p l)
+  hist-inv : (l : List Call) (W : Window) (p : List Event) → Inv L W p → all fits l ≡ true → Inv L (final (step L) W l) (history (step L) W p l)
   unfolding history final all
   hist-inv [] W p v f = v
   hist-inv (c ∷ l) W p v f = let h = step-sound L W c (and-left (fits c) _ f) (v .sound) in

@@ -17,7 +17,7 @@ use Rattle.rules.specs.Events.{Action, isOpening}
 use Rattle.rules.specs.Lists.{Book, enter, strike}
 use Rattle.rules.proofs.BaseLaws.{or-cases, and-left, and-right}
 use Rattle.rules.proofs.DemandEnds.{how-ended, Ending, commit-ending, abort-ending}
-use Rattle.rules.proofs.DemandMoves.{shownStatus, Calm, Move, opened, started, calm, locked, granted, handed, tied, committed, aborted, live-unended, live-not}
+use Rattle.rules.proofs.DemandMoves.{shownStatus, Calm, Move, opened, started, calm, locked, granted, handed, depended, committed, aborted, live-unended, live-not}
 use Rattle.rules.proofs.SoundParts.{Sound, permit-parts, held-zero}
 
 unfoldable pub bookOf : Window → Book
@@ -85,7 +85,7 @@ module _ (L : Limits) (W X : Window) (s : Set) (how : ℕ) (P : Ending W X s how
   struck-permits : keep (λ p. not (isEnded (st (p .giver)) || isEnded (st (p .taker)))) (W .permits) ≡ keep (λ p. not (s (p .giver) || s (p .taker))) (W .permits)
   struck-permits = keep-same _ _ _ (same-parties (W .entries) (live W) (λ c. isEnded (st c)) s told (untold (s 0) refl)) (W .permits) (z .permits)
 
-  pub strike-ended : strike st (bookOf W) ≡ bookOf (endAll how s W)
+  strike-ended : strike st (bookOf W) ≡ bookOf (endAll how s W)
   unfolding strike released putAll permitsLeft permitStays bookOf endAll
   strike-ended = λ i. record { held = fun-ext (λ e. fun-ext (λ c. struck-held e c)) i; permits = struck-permits i }
 
@@ -100,10 +100,10 @@ module _ (L : Limits) (W : Window) (z : Sound L W) where
   book-next (opened n j) y st sh o = absurd (true≢false o)
   book-next (started p) y st sh o = strike-same L (addChange W p) y st sh
   book-next (calm j X q) y st sh o = ap (strike st) (calm-book X q) ∙ strike-same L X y st sh
-  book-next (locked c e m j h l b q) y st sh o = ap (strike st) (λ i. record { held = fun-ext (λ x. fun-ext (λ d. sym (q x d))) i; permits = W .permits }) ∙ strike-same L (withHeld W h) y st sh
+  book-next (locked c e m j h q) y st sh o = ap (strike st) (λ i. record { held = fun-ext (λ x. fun-ext (λ d. sym (q x d))) i; permits = W .permits }) ∙ strike-same L (withHeld W h) y st sh
   book-next (granted g t e o j) y st sh w = strike-same L _ y st sh
-  book-next (handed f t e j l) y st sh o = strike-same L _ y st sh
-  book-next (tied i l f j a b) y st sh o = strike-same L _ y st sh
+  book-next (handed f t e j) y st sh o = strike-same L _ y st sh
+  book-next (depended i l f j a b) y st sh o = strike-same L _ y st sh
   book-next (committed c j l b) y st sh o = strike-ended L W _ (groupOf W c) 4 (commit-ending L W z c l b) z st sh
   book-next (aborted c j v l) y st sh o = strike-ended L W _ (endSet W c) 5 (abort-ending L W z c v l) z st sh
 

@@ -2,24 +2,27 @@
 use mathlib.Core.Path.{_≡_, refl, sym, _∙_, ap}
 use mathlib.Core.Logic.{_⊎_, inl, inr, ⊎-elim}
 use mathlib.Core.Bool.{Bool, true, false, not, cond, _&&_, _||_, false≢true, true≢false}
-use mathlib.Core.List.{List, [], _∷_}
-use Prim.Native.Nat.{ℕ, suc, _<_, min, max, Ordering}
+use mathlib.Core.List.{List}
+use Prim.Native.Nat.{ℕ, suc, min, max}
 use native.Mathlib.Omega.{arith}
 use lib.Dec.{eqb}
-use borrow.Author.Tests.{eqb-true, ne-eqb, lt-ltb}
-use Rattle.rules.specs.Base.{Key, put, anyBelow, any, insert, byOrder, outside}
+use borrow.Author.Tests.{eqb-true}
+use Rattle.rules.specs.Base.{put, anyBelow, outside}
 use Rattle.rules.specs.Sets.{Set, putAll, reach}
 use Rattle.rules.specs.Window.{Limits, TieRecord, Window, tieKey, withValue, withHeld, withPermits, withTies, isEnded, live, noChange}
 use Rattle.rules.specs.Ties.{isGroup, isFall, isArrow, tied, grouped, falling, makeTie, addTie, groupOf, endSet}
-use Rattle.rules.specs.Effects.{commitBlockers, tieStays, tiesLeft, endAll, addChange, handOver, leadsTo, leadersOf}
+use Rattle.rules.specs.Effects.{commitBlockers, tieStays, tiesLeft, endAll, addChange, handOver}
 use Rattle.rules.specs.Events.{Action, isTying, isOpening}
-use Rattle.rules.proofs.BaseLaws.{or-left, or-right, or-map, and-left, and-right, eqb-same, Same, same, other, same?, Below, under, over, below, any-intro}
-use Rattle.rules.proofs.DemandMoves.{shownStatus, Calm, Move, opened, started, calm, locked, granted, handed, tied as tieing, committed, aborted, live-status}
-use Rattle.rules.proofs.ListLaws.{any-keep-up, any-weaken}
+use Rattle.rules.proofs.BaseLaws.{or-left, or-right, or-map, and-left, and-right, eqb-same, Same, same, other, same?, Below, under, over, below}
+use Rattle.rules.proofs.DemandMoves.{shownStatus, Calm, Move, opened, started, calm, locked, granted, handed, depended, committed, aborted}
+use Rattle.rules.proofs.ListLaws.{any-keep-up}
+use Rattle.rules.proofs.Promises.{free-of}
 use Rattle.rules.proofs.SetLaws.{reach-closed}
-use Rattle.rules.proofs.SortLaws.{any-insert, Ordered, below as less, equal, above, ordered}
+use Rattle.rules.proofs.SortLaws.{any-insert, any-insert-new}
 use Rattle.rules.proofs.SoundParts.{live-below, Sound, live-change}
+use Rattle.rules.proofs.SoundPlain.{live-start}
 use Rattle.rules.proofs.SoundStep.{group-live, fall-live}
+use Rattle.rules.proofs.TieLaws.{tied-kinds}
 
 abbrev pub ofKind : ℕ → ℕ → Bool
 ofKind k j = eqb j k
@@ -63,20 +66,10 @@ quietly W X a b c d = record {
   fallen = λ l f p q r h e. absurd (false≢true e);
 }
 
--- adding a record
-any-insert-new {ℓ} : {A : Type ℓ} (key : A → Key) (q : Key → Bool) (x : A) (l : List A) → q (key x) ≡ true → any (λ y. q (key y)) (insert key (λ t u. u) x l) ≡ true
-unfolding any insert byOrder
-any-insert-new key q x [] e = or-left (q (key x)) false e
-any-insert-new key q x (y ∷ l) e = go (ordered (key x) (key y)) (any-insert-new key q x l e)
-  where
-    go : {o : Ordering} → Ordered (key x) (key y) o → any (λ z. q (key z)) (insert key (λ t u. u) x l) ≡ true → any (λ z. q (key z)) (byOrder o (x ∷ y ∷ l) (y ∷ l) (y ∷ insert key (λ t u. u) x l)) ≡ true
-    go (less b) ih = or-left (q (key x)) _ e
-    go (equal b) ih = or-left (q (key y)) _ (ap q (sym b) ∙ e)
-    go (above b) ih = or-right (q (key y)) _ ih
-
+-- one tie more
 pub tie-old : (t : TieRecord) (ts : List TieRecord) (k : ℕ → Bool) (l f : ℕ) → tied ts k l f ≡ true → tied (addTie t ts) k l f ≡ true
 unfolding tied addTie
-tie-old t ts k l f = any-insert tieKey (λ x y. y) (λ x y. refl) _ t (λ y h. h) ts
+tie-old t ts k l f = any-insert tieKey (λ x y. y) _ t (λ y h. h) ts
 
 pub tie-new : (t : TieRecord) (ts : List TieRecord) (k : ℕ → Bool) → k (t .kind) ≡ true → tied (addTie t ts) k (t .leader) (t .follower) ≡ true
 unfolding tied addTie tieKey
@@ -104,17 +97,6 @@ module _ (L : Limits) (W : Window) (z : Sound L W) where
         stay : (t : TieRecord) → k (t .kind) && eqb (t .leader) l ≡ true → eqb (t .follower) f ≡ true → not (s (t .leader) || s (t .follower)) ≡ true
         stay t p q = rw (eqb-true (t .leader) l (and-right (k (t .kind)) _ p), eqb-true (t .follower) f q, hl, hf)
 
-  arrow-blocks : (g : Set) (k l f : ℕ) → isArrow k ≡ true → tied (W .ties) (ofKind k) l f ≡ true → g f ≡ true → commitBlockers W g l ≡ true
-  unfolding tied commitBlockers leadersOf leadsTo
-  arrow-blocks g k l f a e h = or-right (g l && not (eqb (W .status l) 3)) _ (weaken (W .ties) e)
-    where
-      one : (t : TieRecord) → eqb (t .kind) k && eqb (t .leader) l && eqb (t .follower) f ≡ true → isArrow (t .kind) && eqb (t .leader) l && g (t .follower) ≡ true
-      one t q = let u = and-left (eqb (t .kind) k && eqb (t .leader) l) (eqb (t .follower) f) q in
-          rw (eqb-true (t .kind) k (and-left (eqb (t .kind) k) _ u), a, and-right (eqb (t .kind) k) (eqb (t .leader) l) u, eqb-true (t .follower) f (and-right (eqb (t .kind) k && eqb (t .leader) l) _ q)) h
-
-      weaken : (ts : List TieRecord) → any (λ t. eqb (t .kind) k && eqb (t .leader) l && eqb (t .follower) f) ts ≡ true → any (λ t. isArrow (t .kind) && eqb (t .leader) l && g (t .follower)) ts ≡ true
-      weaken = any-weaken _ _ one
-
   pub commit-ending : (c : ℕ) → live W c ≡ true → anyBelow (suc (W .given)) (commitBlockers W (groupOf W c)) ≡ false → Ending W (endAll 4 (groupOf W c) W) (groupOf W c) 4
   unfolding groupOf
   commit-ending c lc free = record {
@@ -125,7 +107,7 @@ module _ (L : Limits) (W : Window) (z : Sound L W) where
     on = end-on 4 g inside;
     ties = end-ties 4 g inside;
     together = λ a b la lb e h. reach-closed (suc (W .given)) (grouped (W .ties)) c a b (live-below W a la) (live-below W b lb) h e;
-    unled = λ k l f a ll e q h. false≢true (sym free ∙ any-intro (suc (W .given)) (commitBlockers W g) l (live-below W l ll) (arrow-blocks g k l f a e h));
+    unled = λ k l f a ll e q h. free-of L W z c lc free .unled l f h (tied-kinds (ofKind k) isArrow (λ x p. rw (eqb-true x k p) a) (W .ties) l f e);
     fallen = λ l f ll lf e q h. absurd (four q);
   }
     where
@@ -167,11 +149,11 @@ module _ (L : Limits) (W : Window) (z : Sound L W) where
   calm-ending : (X : Window) → Calm W X → Ending W X none 4
   calm-ending X q = quietly W X (q .stay) (q .fewer) (q .on) (λ k l f e. rw (q .ties) e)
 
-  pub start-ending : (p : ℕ) → Ending W (addChange W p) none 4
+  start-ending : (p : ℕ) → Ending W (addChange W p) none 4
   unfolding addChange shownStatus live noChange put isEnded outside
   start-ending p = quietly W (addChange W p) (λ c. stays c (same? c 0) (same? c (suc (W .given))) (below (W .given) c) (below (suc (W .given)) c))
       (λ c. few c (same? c 0) (same? c (suc (W .given))) (below (W .given) c) (below (suc (W .given)) c))
-      (λ c h. lives-on c (live-below W c h) (live-status W c h)) (λ k l f e. e)
+      (live-start W p) (λ k l f e. e)
     where
       stays : (c : ℕ) {o a b d : Bool} → Same c 0 o → Same c (suc (W .given)) a → Below (W .given) c b → Below (suc (W .given)) c d
           → isEnded (cond (o || b) 0 (W .status c)) ≡ true → cond (o || d) 0 (cond a 1 (W .status c)) ≡ cond (o || b) 0 (W .status c)
@@ -189,9 +171,6 @@ module _ (L : Limits) (W : Window) (z : Sound L W) where
       few c (other i) (other q) (under k) (over j) h = absurd (omega arith)
       few c (other i) (other q) (over k) (over j) h = h
 
-      lives-on : (c : ℕ) → c < suc (W .given) → not (outside 1 3 (W .status c)) ≡ true → live (addChange W p) c ≡ true
-      lives-on c h k = rw (lt-ltb c (suc (suc (W .given))) (omega arith), ne-eqb c (suc (W .given)) (omega arith)) k
-
   -- nobody ends where numbers and statuses stay and no tie is lost
   same-ending : (X : Window) → X .given ≡ W .given → X .status ≡ W .status → ((k : ℕ → Bool) (l f : ℕ) → tied (W .ties) k l f ≡ true → tied (X .ties) k l f ≡ true) → Ending W X none 4
   unfolding shownStatus live noChange
@@ -202,10 +181,10 @@ module _ (L : Limits) (W : Window) (z : Sound L W) where
   endingOf (opened n k) o = absurd (true≢false o)
   endingOf (started p) o = (none, 4, start-ending p)
   endingOf (calm k X q) o = (none, 4, calm-ending X q)
-  endingOf (locked c e m k h l b q) o = (none, 4, same-ending _ refl refl (λ i a b t. t))
+  endingOf (locked c e m k h q) o = (none, 4, same-ending _ refl refl (λ i a b t. t))
   endingOf (granted g t e o k) p = (none, 4, same-ending _ refl refl (λ i a b t. t))
-  endingOf (handed f t e k l) o = (none, 4, same-ending _ refl refl (λ i a b t. t))
-  endingOf (tieing i l f k a b) o = (none, 4, same-ending _ refl refl (tie-old (makeTie i l f) (W .ties)))
+  endingOf (handed f t e k) o = (none, 4, same-ending _ refl refl (λ i a b t. t))
+  endingOf (depended i l f k a b) o = (none, 4, same-ending _ refl refl (tie-old (makeTie i l f) (W .ties)))
   endingOf (committed c k l b) o = (groupOf W c, 4, commit-ending c l b)
   endingOf (aborted c k v l) o = (endSet W c, 5, abort-ending c v l)
 
@@ -239,10 +218,10 @@ unfolding isTying
 fresh-tie W (opened n k) i l f e = absurd (false≢true e)
 fresh-tie W (started p) i l f e = absurd (false≢true e)
 fresh-tie W (calm k X q) i l f e = absurd (false≢true e)
-fresh-tie W (locked c x m k h a b q) i l f e = absurd (false≢true e)
+fresh-tie W (locked c x m k h q) i l f e = absurd (false≢true e)
 fresh-tie W (granted g t x o k) i l f e = absurd (false≢true e)
-fresh-tie W (handed g t x k a) i l f e = absurd (false≢true e)
-fresh-tie W (tieing j m g k a b) i l f e = let u = and-left (eqb i j && eqb l m) (eqb f g) e in
+fresh-tie W (handed g t x k) i l f e = absurd (false≢true e)
+fresh-tie W (depended j m g k a b) i l f e = let u = and-left (eqb i j && eqb l m) (eqb f g) e in
     rw (eqb-true i j (and-left (eqb i j) _ u), eqb-true l m (and-right (eqb i j) _ u), eqb-true f g (and-right (eqb i j && eqb l m) _ e)) (new-tie W j m g a b)
 fresh-tie W (committed c k a b) i l f e = absurd (false≢true e)
 fresh-tie W (aborted c k v a) i l f e = absurd (false≢true e)

@@ -15,13 +15,13 @@ use Rattle.rules.specs.Lists.{history, tieMade, Grouped, itself, along, 
 use Rattle.rules.proofs.BaseLaws.{or-left, or-right, or-cases, Below, under, over, below}
 use Rattle.rules.proofs.Demand.{Inv, rules-inv}
 use Rattle.rules.proofs.DemandMoves.{shownStatus}
-use Rattle.rules.proofs.DemandTies.{Bound, stands, over as gone}
+use Rattle.rules.proofs.DemandTies.{Bound, stands, ended}
 use Rattle.rules.proofs.SetLaws.{reach-to, reach-seed, reach-closed}
 use Rattle.rules.proofs.SoundParts.{live-below}
 
 test-grouped : (p : List Event) (a b : ℕ) → isGrouped p a b ≡ true → Grouped p a b
 unfolding isGrouped
-test-grouped p a b = reach-to (suc (highest p)) _ (Grouped p a) (λ d e g q. ⊎-elim (along g) (against g) (or-cases (tieMade p 3 d e) _ q)) a itself b
+test-grouped p a b = reach-to (suc (highest p)) _ (Grouped p a) (λ d e h g q. ⊎-elim (along g) (against g) (or-cases (tieMade p 3 d e) _ q)) a itself b
 
 module _ (L : Limits) (W : Window) (p : List Event) (v : Inv L W p) where
   ended-below : (c : ℕ) → isEnded (shownStatus W c) ≡ true → c < suc (W .given)
@@ -35,7 +35,7 @@ module _ (L : Limits) (W : Window) (p : List Event) (v : Inv L W p) where
 
   bound-below : (l f : ℕ) → Bound W p l f → (l < suc (W .given)) × (f < suc (W .given))
   bound-below l f (stands a b g) = (live-below W l a, live-below W f b)
-  bound-below l f (gone a b t) = (ended-below l a, ended-below f (ap isEnded b ∙ a))
+  bound-below l f (ended a b t) = (ended-below l a, ended-below f (ap isEnded b ∙ a))
 
   grouped-below : (a b : ℕ) → a < suc (W .given) → Grouped p a b → (b < suc (W .given)) × (isGrouped p a b ≡ true)
   unfolding isGrouped
@@ -46,7 +46,7 @@ module _ (L : Limits) (W : Window) (p : List Event) (v : Inv L W p) where
       (w .0, reach-closed (suc (highest p)) _ a x y (rw (v .top) (w .1)) (rw (v .top) (w .0)) (u .1) (or-right (tieMade p 3 x y) _ m))
 
   -- of the changes that there are
-  pub inv-grouped : (a b : ℕ) → a ≤ highest p → isGrouped p a b ≡ true ↔ Grouped p a b
+  inv-grouped : (a b : ℕ) → a ≤ highest p → isGrouped p a b ≡ true ↔ Grouped p a b
   inv-grouped a b h = (test-grouped p a b, λ g. grouped-below a b (let q = v .top in omega arith) g .1)
 
 -- after any list of calls, of any change number given

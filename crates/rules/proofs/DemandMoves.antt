@@ -5,7 +5,7 @@ use mathlib.Core.List.{List}
 use Prim.Native.Nat.{ℕ, zero, suc, _≤_, _<_, max}
 use native.Mathlib.Omega.{arith}
 use lib.Dec.{leb, ltb, eqb, eqb·suc-zero}
-use borrow.Author.Tests.{not-false, leb-true, ltb-true, leb-false}
+use borrow.Author.Tests.{not-false, leb-true, leb-false}
 use Rattle.rules.specs.Base.{put, put2, anyBelow, outside}
 use Rattle.rules.specs.Window.{Limits, LogRecord, Window, fresh, withValue, withStatus, withHeld, withLog, withPermits, withTies, isEnded, isLive, noChange, live, running}
 use Rattle.rules.specs.Locks.{makePermit, addPermit}
@@ -13,10 +13,10 @@ use Rattle.rules.specs.Ties.{makeTie, addTie, groupOf, endSet}
 use Rattle.rules.specs.Calls.{Call, Open, Initiate, Begin, Complete, Lock, Read, Write, Permit, Delegate, Depend, Commit, Abort, Status, Parent, Value, Outcome, done, unchanged}
 use Rattle.rules.specs.Effects.{effect, covers, lockEntry, writeEntry, entriesNamed, handOver, commitChange, abortChange, addChange, putHeld, commitBlockers, commitGroup, abortAll, endAll, grantable}
 use Rattle.rules.specs.Refusals.{step, settle, checks, firstFailed, _if_}
-use Rattle.rules.specs.Events.{Action, opening, initiating, other as nothing, locking, permitting, delegating, tying, actionOf}
+use Rattle.rules.specs.Events.{Action, opening, initiating, nothing, locking, permitting, delegating, tying, actionOf}
 use Rattle.rules.proofs.BaseLaws.{and-both, and-left, and-right, Same, same, other, same?}
 use Rattle.rules.proofs.SoundParts.{Sound, live-at, live-of}
-use Rattle.rules.proofs.SoundStep.{Passed, passed, codes, entry-of}
+use Rattle.rules.proofs.SoundStep.{Passed, passed, codes}
 
 -- what a status call gives
 unfoldable pub shownStatus : Window → ℕ → ℕ
@@ -36,7 +36,6 @@ pub record Calm (W X : Window) : Type 0 where
   pub fewer : (c : ℕ) → isEnded (shownStatus X c) ≡ true → isEnded (shownStatus W c) ≡ true
   pub on : (c : ℕ) → live W c ≡ true → live X c ≡ true
   pub given : X .given ≡ W .given
-  pub entries : X .entries ≡ W .entries
   pub held : X .held ≡ W .held
   pub permits : X .permits ≡ W .permits
   pub ties : X .ties ≡ W .ties
@@ -45,18 +44,18 @@ pub data Move (W : Window) : Action → ℕ → Window → Type 0 where
   opened : (n k : ℕ) → Move W opening k (fresh n)
   started : (p : ℕ) → Move W initiating (suc (W .given)) (addChange W p)
   calm : (k : ℕ) (X : Window) → Calm W X → Move W nothing k X
-  locked : (c e m k : ℕ) (h : ℕ → ℕ → ℕ) → live W c ≡ true → e < W .entries → ((x d : ℕ) → h x d ≡ put2 (W .held) e c (max (W .held e c) m) x d)
+  locked : (c e m k : ℕ) (h : ℕ → ℕ → ℕ) → ((x d : ℕ) → h x d ≡ put2 (W .held) e c (max (W .held e c) m) x d)
       → Move W (locking c e m) k (withHeld W h)
   granted : (g t e o k : ℕ) → Move W (permitting g t e o) k (withPermits W (addPermit (makePermit g t e o) (W .permits)))
-  handed : (f t e k : ℕ) → live W t ≡ true → Move W (delegating f t e) k (handOver W f t (entriesNamed e))
-  tied : (i l f k : ℕ) → live W l ≡ true → live W f ≡ true → Move W (tying i l f) k (withTies W (addTie (makeTie i l f) (W .ties)))
+  handed : (f t e k : ℕ) → Move W (delegating f t e) k (handOver W f t (entriesNamed e))
+  depended : (i l f k : ℕ) → live W l ≡ true → live W f ≡ true → Move W (tying i l f) k (withTies W (addTie (makeTie i l f) (W .ties)))
   committed : (c k : ℕ) → live W c ≡ true → anyBelow (suc (W .given)) (commitBlockers W (groupOf W c)) ≡ false → Move W nothing k (endAll 4 (groupOf W c) W)
   aborted : (c k : ℕ) (v : ℕ → ℕ) → live W c ≡ true → Move W nothing k (endAll 5 (endSet W c) (withValue W v))
 
 -- values and the log play no part
 calm-values : (W : Window) (v : ℕ → ℕ) (l : List LogRecord) → Calm W (withLog (withValue W v) l)
 unfolding withLog withValue shownStatus noChange live
-calm-values W v l = record { stay = λ c e. refl; fewer = λ c e. e; on = λ c e. e; given = refl; entries = refl; held = refl; permits = refl; ties = refl }
+calm-values W v l = record { stay = λ c e. refl; fewer = λ c e. e; on = λ c e. e; given = refl; held = refl; permits = refl; ties = refl }
 
 pub not-ended : (x : ℕ) → isLive x ≡ true → isEnded x ≡ false
 unfolding outside isEnded
@@ -103,7 +102,6 @@ calm-status W c s lc ls = record {
   fewer = λ d. few d (same? d c);
   on = λ d. ons d (same? d c);
   given = refl;
-  entries = refl;
   held = refl;
   permits = refl;
   ties = refl;
@@ -130,13 +128,13 @@ abbrev Moved : Window → Action → Outcome → Type 0
 Moved W d o = Move W (cond (eqb (o .answer) 0) d nothing) (o .number) (o .after)
 
 module _ (L : Limits) (W : Window) (z : Sound L W) where
-  pub idle : (k : ℕ) → Move W nothing k W
+  idle : (k : ℕ) → Move W nothing k W
   unfolding withLog withValue
   idle k = calm k W (calm-values W (W .value) (W .log))
 
-  lock-moves : (c e m : ℕ) → live W c ≡ true → e < W .entries → Moved W (locking c e m) (effect W (Lock c e m))
+  lock-moves : (c e m : ℕ) → Moved W (locking c e m) (effect W (Lock c e m))
   unfolding effect lockEntry covers done unchanged putHeld withHeld put2
-  lock-moves c e m lc le = go (leb m (W .held e c)) refl (grantable W c e m)
+  lock-moves c e m = go (leb m (W .held e c)) refl (grantable W c e m)
     where
       keeps : leb m (W .held e c) ≡ true → (x d : ℕ) → W .held x d ≡ put2 (W .held) e c (max (W .held e c) m) x d
       keeps q x d = same-place (same? x e) (same? d c)
@@ -150,8 +148,8 @@ module _ (L : Limits) (W : Window) (z : Sound L W) where
       puts q x d = let h : W .held e c < m = leb-false m (W .held e c) q in let r : max (W .held e c) m ≡ m = omega arith in rw r
 
       go : (b : Bool) → leb m (W .held e c) ≡ b → (g : Bool) → Moved W (locking c e m) (cond b (done 0 W) (cond g (done 0 (putHeld W e c m)) (unchanged 20 0 W)))
-      go true q g = locked c e m 0 (W .held) lc le (keeps q)
-      go false q true = locked c e m 0 (put2 (W .held) e c m) lc le (puts q)
+      go true q g = locked c e m 0 (W .held) (keeps q)
+      go false q true = locked c e m 0 (put2 (W .held) e c m) (puts q)
       go false q false = idle 0
 
   commit-moves : (c : ℕ) → noChange W c ≡ false → Moved W nothing (effect W (Commit c))
@@ -181,12 +179,12 @@ module _ (L : Limits) (W : Window) (z : Sound L W) where
   does (Initiate q) p = started q
   does (Begin c) p = calm 0 _ (calm-status W c 2 (live-at W c 1 (p .0) (not-false _ (p .1 .0)) refl) refl)
   does (Complete c) p = calm 0 _ (calm-status W c 3 (live-at W c 2 (p .0) (not-false _ (p .1 .0)) refl) refl)
-  does (Lock c e m) p = lock-moves c e m (live-at W c 2 (p .0) (not-false _ (p .1 .1 .1 .0)) refl) (ltb-true e (W .entries) (entry-of W e (p .1 .0)))
+  does (Lock c e m) p = lock-moves c e m
   does (Read c e) p = idle _
   does (Write c e v) p = calm 0 _ (calm-values W _ _)
   does (Permit g t e o) p = granted g t e o 0
-  does (Delegate f t e) p = handed f t e 0 (and-right (live W f) (live W t) (not-false _ (p .1 .1 .1 .1 .0)))
-  does (Depend k l f) p = tied k l f 0 (and-left (live W l) (live W f) (not-false _ (p .1 .1 .1 .1 .0))) (and-right (live W l) (live W f) (not-false _ (p .1 .1 .1 .1 .0)))
+  does (Delegate f t e) p = handed f t e 0
+  does (Depend k l f) p = depended k l f 0 (and-left (live W l) (live W f) (not-false _ (p .1 .1 .1 .1 .0))) (and-right (live W l) (live W f) (not-false _ (p .1 .1 .1 .1 .0)))
   does (Commit c) p = commit-moves c (p .0)
   does (Abort c) p = abort-moves c (p .0)
   does (Status c) p = idle _

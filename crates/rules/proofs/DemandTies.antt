@@ -7,18 +7,17 @@ use Prim.Native.Nat.{ℕ, suc, _≤_, _<_}
 use native.Mathlib.Omega.{arith}
 use lib.Dec.{eqb}
 use lib.ListN.{length}
-use borrow.Author.Tests.{eqb-true}
+use borrow.Author.Tests.{eqb-true, ne-eqb}
 use Rattle.rules.specs.Base.{any}
 use Rattle.rules.specs.Sets.{Set}
 use Rattle.rules.specs.Window.{Window, fresh, isEnded, live, noChange}
 use Rattle.rules.specs.Ties.{isWait, isFall, isArrow, tied, grouped, isGroup}
 use Rattle.rules.specs.Events.{Event, action, isTying}
 use Rattle.rules.specs.Lists.{status, endedAs, endedAt, tieMade, Grouped, itself, along, against}
-use Rattle.rules.proofs.BaseLaws.{or-right, or-cases, and-left, and-right, cond-same, Same, same, other, same?}
+use Rattle.rules.proofs.BaseLaws.{or-right, or-cases, and-left, and-right, cond-same}
 use Rattle.rules.proofs.DemandEnds.{Ending, how-ended, grouped-stays, New, ofKind}
 use Rattle.rules.proofs.DemandMoves.{shownStatus, ended-0, ended-4, ended-5, live-unended, live-not}
-use Rattle.rules.proofs.SourceLaws.{grouped-both}
-use Rattle.rules.proofs.TieLaws.{arrow-not-group}
+use Rattle.rules.proofs.TieLaws.{arrow-not-group, grouped-both}
 
 -- what an arrow's leader has come to when its follower may commit
 unfoldable pub passes : ℕ → ℕ → Bool
@@ -27,7 +26,7 @@ passes k x = isEnded x && (not (eqb k 2) || eqb x 4)
 -- a made group tie stands between two live ones, or its ends have ended together
 pub data Bound (W : Window) (p : List Event) (l f : ℕ) : Type 0 where
   stands : live W l ≡ true → live W f ≡ true → grouped (W .ties) l f ≡ true → Bound W p l f
-  over : isEnded (shownStatus W l) ≡ true → shownStatus W f ≡ shownStatus W l → endedAt p f ≡ endedAt p l → Bound W p l f
+  ended : isEnded (shownStatus W l) ≡ true → shownStatus W f ≡ shownStatus W l → endedAt p f ≡ endedAt p l → Bound W p l f
 
 -- a made arrow stands, or its follower was aborted, or its leader has ended, as the kind asks, and the follower has not, or ended later
 pub data Led (W : Window) (p : List Event) (k l f : ℕ) : Type 0 where
@@ -41,32 +40,20 @@ pub record TieHistory (W : Window) (p : List Event) : Type 0 where
   pub yet : (c : ℕ) → isEnded (shownStatus W c) ≡ false → endedAt p c ≡ 0
   pub lasts : (c : ℕ) → isEnded (shownStatus W c) ≡ true → endedAs p c ≡ shownStatus W c
   pub bound : (l f : ℕ) → tieMade p 3 l f ≡ true → Bound W p l f
-  pub drawn : (k l f : ℕ) → isArrow k ≡ true → tieMade p k l f ≡ true → Led W p k l f
+  drawn : (k l f : ℕ) → isArrow k ≡ true → tieMade p k l f ≡ true → Led W p k l f
 
 at-kept : (e : Event) (p : List Event) (c : ℕ) → 0 < endedAt p c → endedAt (e ∷ p) c ≡ endedAt p c
 unfolding endedAt
-at-kept e p c h = go (same? (endedAt p c) 0)
-  where
-    go : {b : Bool} → Same (endedAt p c) 0 b → cond b (cond (isEnded (e .status c)) (suc (length p)) 0) (endedAt p c) ≡ endedAt p c
-    go (same q) = absurd (omega arith)
-    go (other n) = refl
+at-kept e p c h = rw (ne-eqb (endedAt p c) 0 (λ q. omega arith))
 
 at-first : (e : Event) (p : List Event) (c : ℕ) → endedAt p c ≡ 0 → endedAt (e ∷ p) c ≡ cond (isEnded (e .status c)) (suc (length p)) 0
 unfolding endedAt
-at-first e p c h = go (same? (endedAt p c) 0)
-  where
-    go : {b : Bool} → Same (endedAt p c) 0 b → cond b (cond (isEnded (e .status c)) (suc (length p)) 0) (endedAt p c) ≡ cond (isEnded (e .status c)) (suc (length p)) 0
-    go (same q) = refl
-    go (other n) = absurd (n h)
+at-first e p c h = rw h
 
 -- the status with which it ended, kept or taken from the call that ended it
 as-kept : (e : Event) (p : List Event) (c : ℕ) → 0 < endedAt p c → endedAs (e ∷ p) c ≡ endedAs p c
 unfolding endedAs
-as-kept e p c h = go (same? (endedAt p c) 0)
-  where
-    go : {b : Bool} → Same (endedAt p c) 0 b → cond b (cond (isEnded (e .status c)) (e .status c) 0) (endedAs p c) ≡ endedAs p c
-    go (same q) = absurd (omega arith)
-    go (other n) = refl
+as-kept e p c h = rw (ne-eqb (endedAt p c) 0 (λ q. omega arith))
 
 as-first : (e : Event) (p : List Event) (c : ℕ) → endedAt p c ≡ 0 → isEnded (e .status c) ≡ true → endedAs (e ∷ p) c ≡ e .status c
 unfolding endedAs
@@ -77,7 +64,7 @@ module _ (W X : Window) (s : Set) (how : ℕ) (P : Ending W X s how) (p : List E
   data Now (c : ℕ) : Type 0 where
     gone : isEnded (shownStatus W c) ≡ true → shownStatus X c ≡ shownStatus W c → endedAt (e ∷ p) c ≡ endedAt p c → Now c
     ending : s c ≡ true → live W c ≡ true → shownStatus X c ≡ how → isEnded how ≡ true → endedAt p c ≡ 0 → endedAt (e ∷ p) c ≡ suc (length p) → Now c
-    going : s c ≡ false → isEnded (shownStatus W c) ≡ false → isEnded (shownStatus X c) ≡ false → endedAt p c ≡ 0 → endedAt (e ∷ p) c ≡ 0 → Now c
+    going : s c ≡ false → isEnded (shownStatus W c) ≡ false → isEnded (shownStatus X c) ≡ false → endedAt (e ∷ p) c ≡ 0 → Now c
 
   now : (c : ℕ) → Now c
   now c = go (s c) refl (isEnded (shownStatus W c)) refl (isEnded (shownStatus X c)) refl
@@ -88,7 +75,7 @@ module _ (W X : Window) (s : Set) (how : ℕ) (P : Ending W X s how) (p : List E
           ending i lc sx (how-ended P) z (at-first e p c z ∙ rw (shows c, sx, (how-ended P)))
       go false i true j d k = gone j (P .stays c i j) (at-kept e p c (S .past c j .0))
       go false i false j true k = absurd (true≢false (sym (P .fewer c i k) ∙ j))
-      go false i false j false k = let z = S .yet c j in going i j k z (at-first e p c z ∙ rw (shows c, k))
+      go false i false j false k = let z = S .yet c j in going i j k (at-first e p c z ∙ rw (shows c, k))
 
   past-next : (c : ℕ) → isEnded (shownStatus X c) ≡ true → (0 < endedAt (e ∷ p) c) × (endedAt (e ∷ p) c ≤ suc (length p))
   past-next c h = go (now c)
@@ -96,7 +83,7 @@ module _ (W X : Window) (s : Set) (how : ℕ) (P : Ending W X s how) (p : List E
       go : Now c → (0 < endedAt (e ∷ p) c) × (endedAt (e ∷ p) c ≤ suc (length p))
       go (gone j k a) = let u = S .past c j in rw a (omega arith)
       go (ending i l k x z a) = rw a (omega arith)
-      go (going i j k z a) = absurd (true≢false (sym h ∙ k))
+      go (going i j k a) = absurd (true≢false (sym h ∙ k))
 
   yet-next : (c : ℕ) → isEnded (shownStatus X c) ≡ false → endedAt (e ∷ p) c ≡ 0
   yet-next c h = go (now c)
@@ -104,7 +91,7 @@ module _ (W X : Window) (s : Set) (how : ℕ) (P : Ending W X s how) (p : List E
       go : Now c → endedAt (e ∷ p) c ≡ 0
       go (gone j k a) = absurd (true≢false (sym j ∙ ap isEnded (sym k) ∙ h))
       go (ending i l k x z a) = absurd (true≢false (sym x ∙ ap isEnded (sym k) ∙ h))
-      go (going i j k z a) = a
+      go (going i j k a) = a
 
   lasts-next : (c : ℕ) → isEnded (shownStatus X c) ≡ true → endedAs (e ∷ p) c ≡ shownStatus X c
   lasts-next c h = go (now c)
@@ -112,7 +99,7 @@ module _ (W X : Window) (s : Set) (how : ℕ) (P : Ending W X s how) (p : List E
       go : Now c → endedAs (e ∷ p) c ≡ shownStatus X c
       go (gone j k a) = as-kept e p c (S .past c j .0) ∙ S .lasts c j ∙ sym k
       go (ending i l k x z a) = as-first e p c z (ap isEnded (shows c) ∙ h) ∙ shows c
-      go (going i j k z a) = absurd (true≢false (sym h ∙ k))
+      go (going i j k a) = absurd (true≢false (sym h ∙ k))
 
   bound-next : (l f : ℕ) → Bound W p l f → Bound X (e ∷ p) l f
   bound-next l f (stands a b g) = go (now l) (now f)
@@ -120,19 +107,19 @@ module _ (W X : Window) (s : Set) (how : ℕ) (P : Ending W X s how) (p : List E
       go : Now l → Now f → Bound X (e ∷ p) l f
       go (gone j k t) y = absurd (live-not W l a j)
       go (ending i l′ k x z t) (gone j k′ t′) = absurd (live-not W f b j)
-      go (ending i l′ k x z t) (ending i′ l″ k′ x′ z′ t′) = over (ap isEnded k ∙ x) (k′ ∙ sym k) (t′ ∙ sym t)
-      go (ending i l′ k x z t) (going i′ j′ k′ z′ t′) = absurd (true≢false (sym (P .together l f a b g i) ∙ i′))
-      go (going i j k z t) (gone j′ k′ t′) = absurd (live-not W f b j′)
-      go (going i j k z t) (ending i′ l″ k′ x′ z′ t′) = absurd (true≢false (sym (P .together f l b a (grouped-both (W .ties) l f g) i′) ∙ i))
-      go (going i j k z t) (going i′ j′ k′ z′ t′) = stands (P .on l i a) (P .on f i′ b) (grouped-stays P l f i i′ g)
-  bound-next l f (over a b t) = go (now l) (now f)
+      go (ending i l′ k x z t) (ending i′ l″ k′ x′ z′ t′) = ended (ap isEnded k ∙ x) (k′ ∙ sym k) (t′ ∙ sym t)
+      go (ending i l′ k x z t) (going i′ j′ k′ t′) = absurd (true≢false (sym (P .together l f a b g i) ∙ i′))
+      go (going i j k t) (gone j′ k′ t′) = absurd (live-not W f b j′)
+      go (going i j k t) (ending i′ l″ k′ x′ z′ t′) = absurd (true≢false (sym (P .together f l b a (grouped-both (W .ties) l f g) i′) ∙ i))
+      go (going i j k t) (going i′ j′ k′ t′) = stands (P .on l i a) (P .on f i′ b) (grouped-stays P l f i i′ g)
+  bound-next l f (ended a b t) = go (now l) (now f)
     where
       go : Now l → Now f → Bound X (e ∷ p) l f
       go (ending i l′ k x z t′) y = absurd (live-not W l l′ a)
-      go (going i j k z t′) y = absurd (true≢false (sym a ∙ j))
-      go (gone j k t′) (gone j′ k′ t″) = over (ap isEnded k ∙ a) (k′ ∙ b ∙ sym k) (t″ ∙ t ∙ sym t′)
+      go (going i j k t′) y = absurd (true≢false (sym a ∙ j))
+      go (gone j k t′) (gone j′ k′ t″) = ended (ap isEnded k ∙ a) (k′ ∙ b ∙ sym k) (t″ ∙ t ∙ sym t′)
       go (gone j k t′) (ending i′ l″ k′ x′ z′ t″) = absurd (live-not W f l″ (ap isEnded b ∙ a))
-      go (gone j k t′) (going i′ j′ k′ z′ t″) = absurd (true≢false (sym a ∙ ap isEnded (sym b) ∙ j′))
+      go (gone j k t′) (going i′ j′ k′ t″) = absurd (true≢false (sym a ∙ ap isEnded (sym b) ∙ j′))
 
   passes-4 : (k : ℕ) → passes k 4 ≡ true
   unfolding passes isEnded
@@ -157,24 +144,24 @@ module _ (W X : Window) (s : Set) (how : ℕ) (P : Ending W X s how) (p : List E
       go : Now f → Now l → Led X (e ∷ p) k l f
       go (gone j k′ t′) y = absurd (live-not W f b j)
       go (ending i l′ k′ x′ z t′) y = ⊎-elim (λ q. absurd (P .unled k l f r a t q i)) (λ q. fell (k′ ∙ q)) (P .way)
-      go (going i′ j′ k″ z′ t″) (gone j k′ t′) = absurd (live-not W l a j)
-      go (going i′ j′ k″ z′ t″) (ending i l′ k′ x′ z t′) = leaves k′ i i′ k″ (P .way) (eqb k 2) refl
-      go (going i′ j′ k″ z′ t″) (going i j k′ z t′) = stands (P .on l i a) (P .on f i′ b) (P .ties (ofKind k) l f i i′ t)
+      go (going i′ j′ k″ t″) (gone j k′ t′) = absurd (live-not W l a j)
+      go (going i′ j′ k″ t″) (ending i l′ k′ x′ z t′) = leaves k′ i i′ k″ (P .way) (eqb k 2) refl
+      go (going i′ j′ k″ t″) (going i j k′ t′) = stands (P .on l i a) (P .on f i′ b) (P .ties (ofKind k) l f i i′ t)
   led-next k l f r (fell h) = go (now f)
     where
       go : Now f → Led X (e ∷ p) k l f
       go (gone j k′ t) = fell (k′ ∙ h)
       go (ending i l′ k′ x z t) = absurd (live-not W f l′ (ap isEnded h ∙ ended-5))
-      go (going i j k′ z t) = absurd (true≢false (sym ended-5 ∙ ap isEnded (sym h) ∙ j))
+      go (going i j k′ t) = absurd (true≢false (sym ended-5 ∙ ap isEnded (sym h) ∙ j))
   led-next k l f r (led a b) = go (now l) (now f) b
     where
       go : Now l → Now f → (isEnded (shownStatus W f) ≡ false) ⊎ (endedAt p l < endedAt p f) → Led X (e ∷ p) k l f
       go (ending i l′ k′ x z t) y c = absurd (live-not W l l′ (passes-ended k (shownStatus W l) a))
-      go (going i j k′ z t) y c = absurd (true≢false (sym (passes-ended k (shownStatus W l) a) ∙ j))
+      go (going i j k′ t) y c = absurd (true≢false (sym (passes-ended k (shownStatus W l) a) ∙ j))
       go (gone j k′ t) (gone j′ k″ t′) (inl c) = absurd (true≢false (sym j′ ∙ c))
       go (gone j k′ t) (gone j′ k″ t′) (inr c) = led (ap (passes k) k′ ∙ a) (inr (rw (t, t′) c))
       go (gone j k′ t) (ending i′ l″ k″ x z t′) c = let u = S .past l j in led (ap (passes k) k′ ∙ a) (inr (rw (t, t′) (omega arith)))
-      go (gone j k′ t) (going i′ j′ k″ z t′) c = led (ap (passes k) k′ ∙ a) (inl k″)
+      go (gone j k′ t) (going i′ j′ k″ t′) c = led (ap (passes k) k′ ∙ a) (inl k″)
 
   module _ (new : (k l f : ℕ) → isTying k l f (action e) ≡ true → New X k l f) where
     pub story-next : TieHistory X (e ∷ p)
@@ -223,11 +210,11 @@ module _ (W : Window) (p : List Event) (S : TieHistory W p) where
 
   one-tie : (b c : ℕ) → Bound W p b c → status p b ≡ 4 → (status p c ≡ 4) × (endedAt p c ≡ endedAt p b)
   one-tie b c (stands x y g) h = absurd (never-live b h x)
-  one-tie b c (over x y t) h = (S .shown c ∙ y ∙ is-4 b h, t)
+  one-tie b c (ended x y t) h = (S .shown c ∙ y ∙ is-4 b h, t)
 
   tie-back : (b c : ℕ) → Bound W p c b → status p b ≡ 4 → (status p c ≡ 4) × (endedAt p c ≡ endedAt p b)
   tie-back b c (stands x y g) h = absurd (never-live b h y)
-  tie-back b c (over x y t) h = (S .shown c ∙ sym y ∙ is-4 b h, sym t)
+  tie-back b c (ended x y t) h = (S .shown c ∙ sym y ∙ is-4 b h, sym t)
 
   pub story-groups : (c d : ℕ) → status p c ≡ 4 → Grouped p c d → (status p d ≡ 4) × (endedAt p d ≡ endedAt p c)
   story-groups c d h itself = (h, refl)

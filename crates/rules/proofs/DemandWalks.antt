@@ -1,33 +1,30 @@
 -- Walks: with all live changes completed, each walk ends a live group, as committed. Assumes nothing.
 use mathlib.Core.Path.{_≡_, refl, sym, _∙_, ap}
 use mathlib.Core.Logic.{_⊎_, inl, inr, ⊎-elim}
-use mathlib.Core.Bool.{Bool, true, false, not, cond, _&&_, _||_, false≢true, true≢false}
+use mathlib.Core.Bool.{Bool, true, false, not, cond, _&&_, false≢true, true≢false}
 use mathlib.Core.List.{List, [], _∷_, _++_}
 use Prim.Native.Nat.{ℕ, zero, suc, _+_, _≤_, _<_}
-use native.Mathlib.Nat.{eq-or-lt-of-le}
 use native.Mathlib.Omega.{arith}
 use lib.Dec.{ltb, eqb}
-use borrow.Author.Tests.{not-true, lt-ltb}
-use Rattle.rules.specs.Base.{anyBelow, countBelow, lowestBelow, all, any, table, outside}
-use Rattle.rules.specs.Sets.{Set, putAll, reach}
-use Rattle.rules.specs.Window.{Limits, TieRecord, Window, isEnded, noChange, live}
-use Rattle.rules.specs.Ties.{isArrow, tied, grouped, leading, acyclic, groupOf}
-use Rattle.rules.specs.Sound.{tieSound}
+use Rattle.rules.specs.Base.{anyBelow, countBelow, lowestBelow, table, outside}
+use Rattle.rules.specs.Sets.{putAll}
+use Rattle.rules.specs.Window.{Limits, Window, isEnded, noChange, live}
+use Rattle.rules.specs.Ties.{isArrow, tied, grouped, leading, groupOf}
 use Rattle.rules.specs.Calls.{Call, Commit, done, unchanged}
-use Rattle.rules.specs.Effects.{effect, commitChange, commitBlockers, commitGroup, tiesLeft, endAll, leadsTo, leadersOf}
+use Rattle.rules.specs.Effects.{effect, commitChange, commitBlockers, commitGroup, tiesLeft, endAll}
 use Rattle.rules.specs.Refusals.{step, settle, checks, firstFailed, _if_}
 use Rattle.rules.specs.Lists.{final, walks}
-use Rattle.rules.proofs.BaseLaws.{no-true, never, none-below, or-none, or-cases, and-both, and-left, and-right, Same, same, other, same?, any-intro, Within, count-within, count-same}
-use Rattle.rules.proofs.BoundLaws.{lowest-hit, lowest-below}
+use Rattle.rules.proofs.BaseLaws.{no-true, never, none-below, and-both, and-left, and-right, Same, same, other, same?, any-intro, any-elim, Within}
+use Rattle.rules.proofs.BoundLaws.{lowest-hit, lowest-below, count-more, count-none}
 use Rattle.rules.proofs.DemandEnds.{Ending, grouped-stays, commit-ending}
-use Rattle.rules.proofs.DemandMoves.{shownStatus, ended-4, live-unended, live-status, not-ended}
-use Rattle.rules.proofs.ListLaws.{all-weaken, all-and, any-weaken}
-use Rattle.rules.proofs.SetLaws.{Closed, reach-closed, reach-least}
+use Rattle.rules.proofs.DemandMoves.{shownStatus, ended-4, live-unended}
+use Rattle.rules.proofs.PathLaws.{Way, stay, on, way-join, way-map, way-back, by-group, by-arrow, leading-bounded, acyclic-clear}
+use Rattle.rules.proofs.Promises.{group-ways, blocks, commit-live}
 use Rattle.rules.proofs.SoundEnd.{end-sound}
-use Rattle.rules.proofs.SoundParts.{live-below, Sound, live-zero, live-change, live-of, ends-live, tie-parts}
+use Rattle.rules.proofs.SoundParts.{live-below, Sound, live-zero, live-of, ends-live, ends-below}
 use Rattle.rules.proofs.SoundStep.{group-live}
-use Rattle.rules.proofs.SourceLaws.{blocked, fineTie, source, reach-back, reach-through, grouped-both}
-use Rattle.rules.proofs.TieLaws.{grouped-ends, arrows-tied, group-seed}
+use Rattle.rules.proofs.SourceLaws.{source}
+use Rattle.rules.proofs.TieLaws.{tied-ends, grouped-both, group-seed}
 
 -- the live changes with which no lower live one is grouped, and how many
 unfoldable pub firstInGroup : Window → ℕ → Bool
@@ -37,32 +34,32 @@ unfoldable pub groupCount : Window → ℕ
 groupCount W = countBelow (suc (W .given)) (firstInGroup W)
 
 module _ (L : Limits) (W : Window) (z : Sound L W) where
-  -- a group is what is reached from any of its members
-  group-back : (c d : ℕ) → live W c ≡ true → live W d ≡ true → groupOf W c d ≡ true → groupOf W d c ≡ true
-  unfolding groupOf
-  group-back c d lc ld = reach-back (suc (W .given)) (grouped (W .ties)) (grouped-both (W .ties)) c d (live-below W c lc) (live-below W d ld)
-
-  group-through : (c d x : ℕ) → live W x ≡ true → groupOf W c d ≡ true → groupOf W d x ≡ true → groupOf W c x ≡ true
-  unfolding groupOf
-  group-through c d x lx e = reach-through (suc (W .given)) (grouped (W .ties)) c d e x (live-below W x lx)
+  -- a group has the groups of its members
+  group-through : (c d x : ℕ) → groupOf W c d ≡ true → groupOf W d x ≡ true → groupOf W c x ≡ true
+  group-through c d x p q = group-ways L W z c x .1 (way-join (group-ways L W z c d .0 p) (group-ways L W z d x .0 q))
 
   -- the head of a live change's group
-  head-of : (c : ℕ) → live W c ≡ true → (h : ℕ) × (groupOf W c h ≡ true) × (firstInGroup W h ≡ true)
+  head-of : (c : ℕ) → live W c ≡ true → (h : ℕ) × (live W h ≡ true) × (groupOf W c h ≡ true) × (firstInGroup W h ≡ true)
   unfolding firstInGroup
   head-of c lc =
       let h = lowestBelow (suc (W .given)) (groupOf W c) in
-      let g = lowest-hit (groupOf W c) (suc (W .given)) (any-intro (suc (W .given)) (groupOf W c) c (live-below W c lc) (group-seed W c)) .1 in (
+      let g = lowest-hit (groupOf W c) (suc (W .given)) (any-intro (suc (W .given)) (groupOf W c) c (live-below W c lc) (group-seed W c)) .1 in
+      let l = group-live L W z c lc h g in (
         h,
+        l,
         g,
-        and-both (live W h) _ (group-live L W z c lc h g) (ap not (none-below h (λ d. live W d && groupOf W h d)
-            (λ d k e. false≢true (sym (lowest-below (groupOf W c) (suc (W .given)) d k) ∙ group-through c h d (and-left (live W d) _ e) g (and-right (live W d) _ e))))),
+        and-both (live W h) _ l (ap not (none-below h (λ d. live W d && groupOf W h d)
+            (λ d k e. false≢true (sym (lowest-below (groupOf W c) (suc (W .given)) d k) ∙ group-through c h d g (and-right (live W d) _ e))))),
       )
 
   -- where there is no head, nobody lives
   no-heads : groupCount W ≡ 0 → (c : ℕ) → live W c ≡ true → ⊥
-  unfolding groupCount firstInGroup
-  no-heads e c l = let r = head-of c l in
-      false≢true (count-same (suc (W .given)) (λ x. false) (firstInGroup W) (λ x k q. absurd (false≢true q)) (omega (arith, e)) (r .0) (live-below W (r .0) (group-live L W z c l (r .0) (r .1))) (r .2))
+  unfolding groupCount
+  no-heads e c l = let r = head-of c l in false≢true (sym (count-none (suc (W .given)) (firstInGroup W) e (r .0) (live-below W (r .0) (r .1))) ∙ r .3)
+
+  group-sound : (c : ℕ) → live W c ≡ true → Sound L (endAll 4 (groupOf W c) W)
+  unfolding outside
+  group-sound c l = end-sound L W 4 (groupOf W c) refl refl (group-live L W z c l) z
 
   -- committing a live group
   module _ (c : ℕ) (lc : live W c ≡ true) (clear : anyBelow (suc (W .given)) (commitBlockers W (groupOf W c)) ≡ false) where
@@ -81,90 +78,46 @@ module _ (L : Limits) (W : Window) (z : Sound L W) where
         go true e q = absurd (false≢true (and-right (ltb d (suc (W .given))) false q))
         go false e q = (e, q)
 
-    not-in : (a b : ℕ) → live W a ≡ true → live W b ≡ true → groupOf W c a ≡ false → groupOf W a b ≡ true → groupOf W c b ≡ false
-    not-in a b la lb n g = no-true (groupOf W c b) (λ e. true≢false (sym (group-through c b a la e (group-back a b la lb g)) ∙ n))
-
-    not-next : (a b : ℕ) → live W a ≡ true → live W b ≡ true → groupOf W c a ≡ false → grouped (W .ties) a b ≡ true → groupOf W c b ≡ false
-    not-next a b la lb n g = no-true (groupOf W c b) (λ e. true≢false (sym (P .together b a lb la (grouped-both (W .ties) a b g) e) ∙ n))
-
-    still-step : (a x y : ℕ) → x < suc (W .given) → y < suc (W .given) → groupOf X a x ≡ true → grouped (X .ties) x y ≡ true → groupOf X a y ≡ true
-    unfolding groupOf X endAll tiesLeft
-    still-step a x y hx hy = reach-closed (suc (W .given)) (grouped (X .ties)) a x y hx hy
-
-    -- the other groups stay
-    beside : ℕ → Set
-    beside a x = groupOf X a x && not (groupOf W c x) && live W x
-
-    beside-closed : (a : ℕ) → Closed (suc (W .given)) (grouped (W .ties)) (beside a)
-    unfolding beside
-    beside-closed a x y hx hy e q =
-        let gx = and-left (groupOf X a x) _ (and-left _ (live W x) e) in
-        let lx = and-right (groupOf X a x && not (groupOf W c x)) (live W x) e in
-        let ly = grouped-ends (live W) (W .ties) (ends-live L W z) x y q .1 in
-        let nx = not-true (groupOf W c x) (and-right (groupOf X a x) _ (and-left _ (live W x) e)) in
-        let ny = not-next x y lx ly nx q in
-        rw (still-step a x y hx hy gx (grouped-stays P x y nx ny q), ny, ly)
-
-    beside-seed : (a : ℕ) → live W a ≡ true → groupOf W c a ≡ false → beside a a ≡ true
-    unfolding beside
-    beside-seed a la n = rw (group-seed X a, n, la)
-
-    beside-all : (a b : ℕ) → live W a ≡ true → groupOf W c a ≡ false → b < suc (W .given) → groupOf W a b ≡ true → beside a b ≡ true
-    unfolding groupOf
-    beside-all a b la n hb = reach-least (suc (W .given)) (grouped (W .ties)) a (beside a) (beside-seed a la n) (beside-closed a) b hb
-
-    group-still : (a b : ℕ) → live W a ≡ true → live W b ≡ true → groupOf W c a ≡ false → groupOf W a b ≡ true → groupOf X a b ≡ true
-    unfolding beside
-    group-still a b la lb n g = and-left (groupOf X a b) _ (and-left _ (live W b) (beside-all a b la n (live-below W b lb) g))
+    -- from outside the group, group ties lead where they did, and never into it
+    still : (a : ℕ) → groupOf W c a ≡ false → {b : ℕ} → Way (grouped (W .ties)) a b → (groupOf W c b ≡ false) × Way (grouped (X .ties)) a b
+    still a n stay = (n, stay)
+    still a n (on {b = x} {c = y} p q) =
+        let m = still a n p in
+        let ny = no-true (groupOf W c y) (λ e. true≢false (sym (group-ways L W z c x .1 (on (group-ways L W z c y .0 e) (grouped-both (W .ties) x y q))) ∙ m .0)) in
+        (ny, on (m .1) (grouped-stays P x y (m .0) ny q))
 
     heads-fewer : Within (suc (W .given)) (firstInGroup X) (firstInGroup W)
-    unfolding firstInGroup
+    unfolding firstInGroup X
     heads-fewer d k e =
-        let lx = and-left (live X d) _ e in
-        let o = out d lx in
+        let o = out d (and-left (live X d) _ e) in
         and-both (live W d) _ (o .1) (ap not (none-below d (λ x. live W x && groupOf W d x)
-        (λ x j q. let l = and-left (live W x) _ q in let g = and-right (live W x) _ q in
-        let n = not-in d x (o .1) l (o .0) g in
-        never (anyBelow d (λ y. live X y && groupOf X d y)) (any-intro d (λ y. live X y && groupOf X d y) x j (and-both (live X x) _ (P .on x n l) (group-still d x (o .1) l (o .0) g))) (and-right (live X d) _ e))))
+        (λ x j q. let m = still d (o .0) (group-ways L W z d x .0 (and-right (live W x) _ q)) in
+        never (anyBelow d (λ y. live X y && groupOf X d y)) (any-intro d (λ y. live X y && groupOf X d y) x j
+        (and-both (live X x) _ (P .on x (m .0) (and-left (live W x) _ q)) (group-ways L X (group-sound c lc) d x .1 (m .1)))) (and-right (live X d) _ e))))
 
-    out-4 : (d : ℕ) → groupOf W c d ≡ true → live X d ≡ true → ⊥
-    out-4 d g l = true≢false (sym g ∙ out d l .0)
-
-    pub heads-less : groupCount (endAll 4 (groupOf W c) W) < groupCount W
+    heads-less : groupCount (endAll 4 (groupOf W c) W) < groupCount W
     unfolding groupCount X endAll tiesLeft firstInGroup
-    heads-less = go (eq-or-lt-of-le (count-within (suc (W .given)) (firstInGroup X) (firstInGroup W) heads-fewer)) (head-of c lc)
-      where
-        go : (countBelow (suc (W .given)) (firstInGroup X) ≡ countBelow (suc (W .given)) (firstInGroup W)) ⊎ (countBelow (suc (W .given)) (firstInGroup X) < countBelow (suc (W .given)) (firstInGroup W))
-            → (h : ℕ) × (groupOf W c h ≡ true) × (firstInGroup W h ≡ true) → countBelow (suc (W .given)) (firstInGroup X) < countBelow (suc (W .given)) (firstInGroup W)
-        go (inl q) r = absurd (out-4 (r .0) (r .1) (and-left (live X (r .0)) _ (count-same (suc (W .given)) (firstInGroup X) (firstInGroup W) heads-fewer (omega arith) (r .0) (live-below W (r .0) (group-live L W z c lc (r .0) (r .1))) (r .2))))
-        go (inr q) r = q
-
--- a group that nothing blocks
-module _ (L : Limits) (W : Window) (z : Sound L W) where
-  all-fine : all (λ t. live W (t .leader) && fineTie (suc (W .given)) (W .ties) t) (W .ties) ≡ true
-  unfolding fineTie acyclic
-  all-fine = all-weaken _ _ one (W .ties) (all-and _ _ (W .ties) (z .ties) (all-and _ _ (W .ties) (arrows-tied (W .ties)) (z .no-cycle)))
-    where
-      one : (t : TieRecord) → tieSound (live W) t && ((not (isArrow (t .kind)) || tied (W .ties) isArrow (t .leader) (t .follower)) && (not (isArrow (t .kind)) || not (reach (suc (W .given)) (leading (W .ties)) (t .follower) (t .leader)))) ≡ true
-          → live W (t .leader) && ((ltb (t .leader) (suc (W .given)) && ltb (t .follower) (suc (W .given))) && ((not (isArrow (t .kind)) || tied (W .ties) isArrow (t .leader) (t .follower)) && (not (isArrow (t .kind)) || not (reach (suc (W .given)) (leading (W .ties)) (t .follower) (t .leader))))) ≡ true
-      one t h = let p = tie-parts (live W) t (and-left (tieSound (live W) t) _ h) in
-          rw (p .1, lt-ltb (t .leader) (suc (W .given)) (live-below W (t .leader) (p .1)), lt-ltb (t .follower) (suc (W .given)) (live-below W (t .follower) (p .2))) (and-right (tieSound (live W) t) _ h)
+    heads-less = let r = head-of c lc in count-more (suc (W .given)) (firstInGroup X) (firstInGroup W) heads-fewer (r .0) (live-below W (r .0) (r .1))
+        (no-true (firstInGroup X (r .0)) (λ q. true≢false (sym (r .2) ∙ out (r .0) (and-left (live X (r .0)) _ q) .0))) (r .3)
 
   -- with all live changes completed, where one lives there is one whose group can commit
   module _ (ready : (c : ℕ) → live W c ≡ true → W .status c ≡ 3) where
-    unblocked : (d : ℕ) → live W d ≡ true → blocked (suc (W .given)) (W .ties) d ≡ false → anyBelow (suc (W .given)) (commitBlockers W (groupOf W d)) ≡ false
-    unfolding blocked commitBlockers leadersOf leadsTo groupOf
-    unblocked d ld h = none-below (suc (W .given)) _ (λ x k e. ⊎-elim (λ q. unready x q) (λ q. led x q) (or-cases (reach (suc (W .given)) (grouped (W .ties)) d x && not (eqb (W .status x) 3)) _ e))
+    -- who blocks a group leads to it, and not back
+    blocker : (x : ℕ) → live W x ≡ true → anyBelow (suc (W .given)) (commitBlockers W (groupOf W x)) ≡ true
+        → (y : ℕ) × (y < suc (W .given)) × (live W y ≡ true) × Way (leading (W .ties)) y x × (Way (leading (W .ties)) x y → ⊥)
+    blocker x l e = let a = any-elim (suc (W .given)) _ e in
+        ⊎-elim (λ m. absurd (m .1 (ready (a .0) (group-live L W z x l (a .0) (m .0))))) (λ m. led (a .0) (m .0) (m .1) (m .2)) (blocks W (groupOf W x) (a .0) (a .2))
       where
-        unready : (x : ℕ) → reach (suc (W .given)) (grouped (W .ties)) d x && not (eqb (W .status x) 3) ≡ true → ⊥
-        unready x q = let s : W .status x ≡ 3 = ready x (group-live L W z d ld x (and-left _ _ q)) in false≢true (rw s at (and-right (reach (suc (W .given)) (grouped (W .ties)) d x) _ q))
+        led : (y f : ℕ) → tied (W .ties) isArrow y f ≡ true → groupOf W x f ≡ true
+            → (d : ℕ) × (d < suc (W .given)) × (live W d ≡ true) × Way (leading (W .ties)) d x × (Way (leading (W .ties)) x d → ⊥)
+        led y f t g =
+            let ly = tied-ends (live W) (W .ties) (ends-live L W z) isArrow y f t .0 in
+            let w = way-map (by-group (W .ties)) (way-back (grouped-both (W .ties)) (group-ways L W z x f .0 g)) in
+            (y, live-below W y ly, ly, way-join (on stay (by-arrow (W .ties) y f t)) w, λ v. acyclic-clear (W .ties) (suc (W .given)) (ends-below W (z .ties)) (z .no-cycle) y f t (way-join w v))
 
-        led : (x : ℕ) → any (λ t. isArrow (t .kind) && eqb (t .leader) x && reach (suc (W .given)) (grouped (W .ties)) d (t .follower)) (W .ties) ≡ true → ⊥
-        led x q = true≢false (sym (any-weaken _ (λ t. isArrow (t .kind) && reach (suc (W .given)) (grouped (W .ties)) d (t .follower))
-            (λ t y. and-both (isArrow (t .kind)) _ (and-left (isArrow (t .kind)) _ (and-left _ _ y)) (and-right (isArrow (t .kind) && eqb (t .leader) x) _ y)) (W .ties) q) ∙ h)
-
-    pub someone : (c : ℕ) → live W c ≡ true → (d : ℕ) × (live W d ≡ true) × (anyBelow (suc (W .given)) (commitBlockers W (groupOf W d)) ≡ false)
-    someone c lc = let r = source (suc (W .given)) (W .ties) (live W) all-fine (suc (W .given)) c (live-below W c lc) lc (omega arith) in (r .0, r .2, unblocked (r .0) (r .2) (r .3))
+    someone : (c : ℕ) → live W c ≡ true → (d : ℕ) × (live W d ≡ true) × (anyBelow (suc (W .given)) (commitBlockers W (groupOf W d)) ≡ false)
+    someone c lc = let r = source (suc (W .given)) (leading (W .ties)) (leading-bounded (W .ties) (suc (W .given)) (ends-below W (z .ties))) (live W) (λ d. anyBelow (suc (W .given)) (commitBlockers W (groupOf W d)))
+        (λ x h. blocker x) c (live-below W c lc) lc in (r .0, r .2, r .3)
 
 -- what a commit leaves
 data Committing (W : Window) (c : ℕ) : Window → Type 0 where
@@ -218,8 +171,8 @@ module _ (L : Limits) (W : Window) (z : Sound L W) where
       go false n false p false q false r i j = did (live-of L W z c n p q) r
 
   commit-does : (c : ℕ) → live W c ≡ true → anyBelow (suc (W .given)) (commitBlockers W (groupOf W c)) ≡ false → step L W (Commit c) .after ≡ endAll 4 (groupOf W c) W
-  unfolding step checks firstFailed settle effect commitChange _if_ done unchanged commitGroup isEnded
-  commit-does c l e = let u = or-none (eqb (W .status c) 4) (eqb (W .status c) 5) (not-ended (W .status c) (live-status W c l)) in rw (live-change L W z c l, u .0, u .1, e)
+  unfolding commitGroup done
+  commit-does c l e = rw (commit-live L W z c l, e)
 
   done-fits : (c : ℕ) → ((d : ℕ) → live W d ≡ true → W .status d ≡ 3) → live W c ≡ true → anyBelow (suc (W .given)) (commitBlockers W (groupOf W c)) ≡ false
       → Sound L (endAll 4 (groupOf W c) W) → Fit L W (endAll 4 (groupOf W c) W)
@@ -233,9 +186,6 @@ module _ (L : Limits) (W : Window) (z : Sound L W) where
     less = inr (heads-less L W z c l e);
   }
     where
-      P4 : Ending W (endAll 4 (groupOf W c) W) (groupOf W c) 4
-      P4 = commit-ending L W z c l e
-
       given-same : endAll 4 (groupOf W c) W .given ≡ W .given
       given-same = unfold endAll in refl
 
@@ -243,20 +193,16 @@ module _ (L : Limits) (W : Window) (z : Sound L W) where
       status-same d o = unfold endAll in rw (o .0) (r d (o .1))
 
       good : (d : ℕ) → live W d ≡ true → (b : Bool) → groupOf W c d ≡ b → (live (endAll 4 (groupOf W c) W) d ≡ true) ⊎ (shownStatus (endAll 4 (groupOf W c) W) d ≡ 4)
-      good d ld true q = inr (P4 .ends d q .1)
-      good d ld false q = inl (P4 .on d q ld)
+      good d ld true q = inr (P L W z c l e .ends d q .1)
+      good d ld false q = inl (P L W z c l e .on d q ld)
 
       stay : (d : ℕ) → shownStatus W d ≡ 4 → (b : Bool) → groupOf W c d ≡ b → shownStatus (endAll 4 (groupOf W c) W) d ≡ 4
-      stay d h true q = absurd (true≢false (sym ended-4 ∙ ap isEnded (sym h) ∙ live-unended W d (P4 .ends d q .0)))
-      stay d h false q = P4 .stays d q (ap isEnded h ∙ ended-4) ∙ h
-
-  group-sound : (c : ℕ) → live W c ≡ true → Sound L (endAll 4 (groupOf W c) W)
-  unfolding outside
-  group-sound c l = end-sound L W 4 (groupOf W c) refl refl (group-live L W z c l) z
+      stay d h true q = absurd (true≢false (sym ended-4 ∙ ap isEnded (sym h) ∙ live-unended W d (P L W z c l e .ends d q .0)))
+      stay d h false q = P L W z c l e .stays d q (ap isEnded h ∙ ended-4) ∙ h
 
   commit-fits : (c : ℕ) (X : Window) → ((d : ℕ) → live W d ≡ true → W .status d ≡ 3) → Committing W c X → Fit L W X
   commit-fits c Y r kept = fit-same L W z r
-  commit-fits c Y r (did l e) = done-fits c r l e (group-sound c l)
+  commit-fits c Y r (did l e) = done-fits c r l e (group-sound L W z c l)
 
 no-more : (W X : Window) → (X ≡ W) ⊎ (groupCount X < groupCount W) → groupCount X ≤ groupCount W
 no-more W X (inl p) = rw p (omega arith)

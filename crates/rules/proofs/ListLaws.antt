@@ -35,7 +35,7 @@ module _ {ℓ} {A : Type ℓ} where
       go true h ih = and-both (r x) (all r (keep q l)) (f x (and-left (p x) (all p l) e) h) ih
       go false h ih = ih
 
-  pub all-and : (p q : A → Bool) (l : List A) → all p l ≡ true → all q l ≡ true → all (λ x. p x && q x) l ≡ true
+  all-and : (p q : A → Bool) (l : List A) → all p l ≡ true → all q l ≡ true → all (λ x. p x && q x) l ≡ true
   unfolding all
   all-and p q [] d e = refl
   all-and p q (x ∷ l) d e = and-both (p x && q x) (all (λ y. p y && q y) l) (and-both (p x) (q x) (and-left (p x) (all p l) d) (and-left (q x) (all q l) e))
@@ -86,9 +86,7 @@ module _ {ℓ} {A : Type ℓ} where
 
   -- one that passes, of a list of which another test holds throughout
   pub find : (p q : A → Bool) (l : List A) → any p l ≡ true → all q l ≡ true → (x : A) × (p x ≡ true) × (q x ≡ true)
-  unfolding any all
-  find p q [] e h = absurd (false≢true e)
-  find p q (x ∷ l) e h = ⊎-elim (λ a. (x, a, and-left (q x) (all q l) h)) (λ a. find p q l a (and-right (q x) (all q l) h)) (or-cases (p x) (any p l) e)
+  find p q l e h = let m = any-find p l e in (m .0, m .2, all-member q (m .1) h)
 
   -- two lists, one after the other
   pub all-join : (p : A → Bool) (l m : List A) → all p l ≡ true → all p m ≡ true → all p (l ++ m) ≡ true

@@ -3,15 +3,16 @@ use mathlib.Core.Path.{_≡_, refl, fun-ext}
 use mathlib.Core.Logic.{_⊎_, inl, inr, _↔_}
 use mathlib.Core.Bool.{Bool, true, false, not, _&&_, _||_, false≢true}
 use mathlib.Core.List.{List, List·Memᴰ}
-use Prim.Native.Nat.{ℕ, _<_}
+use Prim.Native.Nat.{ℕ, suc, _<_}
+use native.Mathlib.Omega.{arith}
 use lib.Dec.{ltb, eqb}
-use borrow.Author.Tests.{ltb-true, eqb-true}
-use Rattle.rules.specs.Base.{all}
+use borrow.Author.Tests.{ltb-true, lt-ltb, eqb-true}
+use Rattle.rules.specs.Base.{all, keep}
 use Rattle.rules.specs.Sets.{Set, Rel, only, closure, reach}
 use Rattle.rules.specs.Window.{TieRecord}
 use Rattle.rules.specs.Ties.{isArrow, tied, grouped, falling, leading, acyclic}
-use Rattle.rules.proofs.BaseLaws.{or-left, or-right, or-cases, and-left, and-right, eqb-same, both-ways, no-true}
-use Rattle.rules.proofs.ListLaws.{all-members, find}
+use Rattle.rules.proofs.BaseLaws.{or-left, or-right, or-cases, or-map, and-left, and-right, and-map, eqb-same, both-ways, no-true}
+use Rattle.rules.proofs.ListLaws.{all-weaken, all-keep, all-members, any-keep, find}
 use Rattle.rules.proofs.SetLaws.{closure-to, closure-holds, closure-closed, reach-to}
 use Rattle.rules.proofs.TieLaws.{grouped-ends, falling-ends, leading-ends, stands-tied}
 
@@ -28,6 +29,11 @@ pub way-map : {r s : Rel} → ((a b : ℕ) → r a b ≡ true → s a b ≡ true
 way-map f stay = stay
 way-map f (on p e) = on (way-map f p) (f _ _ e)
 
+-- along a relation that goes both ways a path goes back
+pub way-back : {r : Rel} → ((a b : ℕ) → r a b ≡ true → r b a ≡ true) → {a b : ℕ} → Way r a b → Way r b a
+way-back both stay = stay
+way-back both (on p e) = way-join (on stay (both _ _ e)) (way-back both p)
+
 -- a relation of numbers below n
 abbrev pub Bounded : ℕ → Rel → Type 0
 Bounded n r = (a b : ℕ) → r a b ≡ true → (a < n) × (b < n)
@@ -42,12 +48,12 @@ module _ (n : ℕ) (r : Rel) (ends : Bounded n r) where
   way-closure s e (on {b = x} {c = y} p q) = closure-closed n r s x y (ends x y q .0) (ends x y q .1) (way-closure s e p) q
 
   -- the closure of a set is what paths from it lead to
-  pub closure-ways : (s : Set) (c : ℕ) → closure n r s c ≡ true ↔ From r s c
-  closure-ways s c = (closure-to n r (From r s) (λ d e m q. (m .0, m .1, on (m .2) q)) s (λ d e. (d, e, stay)) c, λ m. way-closure s (m .1) (m .2))
+  closure-ways : (s : Set) (c : ℕ) → closure n r s c ≡ true ↔ From r s c
+  closure-ways s c = (closure-to n r (From r s) (λ d e h m q. (m .0, m .1, on (m .2) q)) s (λ d e. (d, e, stay)) c, λ m. way-closure s (m .1) (m .2))
 
   pub reach-ways : (c d : ℕ) → reach n r c d ≡ true ↔ Way r c d
   unfolding reach only
-  reach-ways c d = (reach-to n r (Way r c) (λ x y p q. on p q) c stay d, way-closure (only c) (eqb-same c))
+  reach-ways c d = (reach-to n r (Way r c) (λ x y h p q. on p q) c stay d, way-closure (only c) (eqb-same c))
 
 -- so the bound plays no part where the relation keeps below it
 pub closure-bound : (n m : ℕ) (r : Rel) → Bounded n r → Bounded m r → (s : Set) → closure n r s ≡ closure m r s
@@ -66,12 +72,20 @@ pub data Arrows (ts : List TieRecord) (x : ℕ) : ℕ → Type 0 where
   one : {y : ℕ} → Arrow ts x y → Arrows ts x y
   more : {y z : ℕ} → Arrows ts x y → Arrow ts y z → Arrows ts x z
 
+-- a path from x to y that goes along an arrow
+pub record Crossing (ts : List TieRecord) (x y : ℕ) : Type 0 where
+  pub leader : ℕ
+  pub follower : ℕ
+  pub to : Way (leading ts) x leader
+  pub arrow : tied ts isArrow leader follower ≡ true
+  pub fro : Way (leading ts) follower y
+
 -- no arrow's follower leads to its leader
 abbrev pub NoReturn : List TieRecord → Type 0
 NoReturn ts = (l f : ℕ) → tied ts isArrow l f ≡ true → Way (leading ts) f l → ⊥
 
 module _ (ts : List TieRecord) where
-  by-group : (a b : ℕ) → grouped ts a b ≡ true → leading ts a b ≡ true
+  pub by-group : (a b : ℕ) → grouped ts a b ≡ true → leading ts a b ≡ true
   unfolding leading
   by-group a b e = or-left (grouped ts a b) (tied ts isArrow a b) e
 
@@ -79,7 +93,7 @@ module _ (ts : List TieRecord) where
   unfolding leading
   by-arrow a b e = or-right (grouped ts a b) (tied ts isArrow a b) e
 
-  either-way : (a b : ℕ) → leading ts a b ≡ true → (grouped ts a b ≡ true) ⊎ (tied ts isArrow a b ≡ true)
+  pub either-way : (a b : ℕ) → leading ts a b ≡ true → (grouped ts a b ≡ true) ⊎ (tied ts isArrow a b ≡ true)
   unfolding leading
   either-way a b e = or-cases (grouped ts a b) (tied ts isArrow a b) e
 
@@ -104,10 +118,10 @@ module _ (ts : List TieRecord) where
       go (inl g) r = extend r (on stay g)
       go (inr t) r = more r (record { leader = u; follower = w; leaves = stay; tie = t; enters = stay })
 
-  -- its first arrow, and the way from there
-  first : {x y : ℕ} → Arrows ts x y → (l f : ℕ) × Way (leading ts) x l × (tied ts isArrow l f ≡ true) × Way (leading ts) f y
-  first (one a) = (a .leader, a .follower, way-map by-group (a .leaves), a .tie, way-map by-group (a .enters))
-  first (more p a) = let m = first p in (m .0, m .1, m .2, m .3, way-join (m .4) (across a))
+  -- by its first arrow
+  first : {x y : ℕ} → Arrows ts x y → Crossing ts x y
+  first (one a) = record { leader = a .leader; follower = a .follower; to = way-map by-group (a .leaves); arrow = a .tie; fro = way-map by-group (a .enters) }
+  first (more p a) = let m = first p in record { leader = m .leader; follower = m .follower; to = m .to; arrow = m .arrow; fro = way-join (m .fro) (across a) }
 
   module _ (n : ℕ) (ends : all (λ t. ltb t.leader n && ltb t.follower n) ts ≡ true) where
     -- a bound on the ends of ties bounds what they tie
@@ -146,6 +160,21 @@ module _ (ts : List TieRecord) where
     -- "no path of arrows returns to its group"
     pub acyclic-paths : acyclic n ts ≡ true ↔ ((x : ℕ) → Arrows ts x x → ⊥)
     acyclic-paths = (
-      λ h x p. let m = first p in acyclic-clear h (m .0) (m .1) (m .3) (way-join (m .4) (m .2)),
+      λ h x p. let m = first p in acyclic-clear h (m .leader) (m .follower) (m .arrow) (way-join (m .fro) (m .to)),
       λ h. clear-acyclic (λ l f e w. h l (further (one (record { leader = l; follower = f; leaves = stay; tie = e; enters = stay })) w)),
     )
+
+-- fewer ties close no cycle, and neither does one more change
+module _ (n : ℕ) (ts : List TieRecord) (ends : all (λ t. ltb t.leader n && ltb t.follower n) ts ≡ true) (h : acyclic n ts ≡ true) where
+  pub acyclic-keep : (q : TieRecord → Bool) → acyclic n (keep q ts) ≡ true
+  unfolding leading grouped tied
+  acyclic-keep q = clear-acyclic (keep q ts) n (all-keep _ q _ (λ t p x. p) ts ends) (λ l f e w. acyclic-clear ts n ends h l f (any-keep _ q ts e) (way-map old w))
+    where
+      old : (a b : ℕ) → leading (keep q ts) a b ≡ true → leading ts a b ≡ true
+      old a b = or-map _ _ _ _ (or-map _ _ _ _ (any-keep _ q ts) (any-keep _ q ts)) (any-keep _ q ts)
+
+  pub acyclic-more : acyclic (suc n) ts ≡ true
+  acyclic-more = clear-acyclic ts (suc n) (all-weaken _ _ (λ t. and-map (ltb t.leader n) _ _ _ (up t.leader) (up t.follower)) ts ends) (acyclic-clear ts n ends h)
+    where
+      up : (x : ℕ) → ltb x n ≡ true → ltb x (suc n) ≡ true
+      up x e = lt-ltb x (suc n) (omega (arith, ltb-true x n e))

@@ -1,7 +1,7 @@
 -- What document 01 says of groups, of the set an abort ends and of arrows, by paths; and demand 2's three sentences, of the rules:
 -- when a lock is granted, when a change commits, what a withdrawal puts back. Assumes nothing.
 use mathlib.Core.Path.{_≡_, refl, sym, _∙_, ap}
-use mathlib.Core.Logic.{⊎-elim, _↔_, _≢_}
+use mathlib.Core.Logic.{_⊎_, inl, inr, ⊎-elim, _↔_, _≢_}
 use mathlib.Core.Bool.{Bool, true, false, not, cond, _&&_, false≢true, true≢false}
 use mathlib.Core.List.{List, [], _∷_, List·Memᴰ}
 use Prim.Native.Nat.{ℕ, suc}
@@ -88,12 +88,24 @@ module _ (L : Limits) (W : Window) (z : Sound L W) (c e m : ℕ) (passed : first
     λ f. lock-answer ∙ of-zero (grantable W c e m) (unblocked f),
   )
 
+-- who blocks a commit: a member that is not completed, or the leader of an arrow to a member
+pub blocks : (W : Window) (g : Set) (d : ℕ) → commitBlockers W g d ≡ true → ((g d ≡ true) × (W .status d ≢ 3)) ⊎ ((f : ℕ) × (tied W.ties isArrow d f ≡ true) × (g f ≡ true))
+unfolding commitBlockers leadersOf leadsTo
+blocks W g d e = ⊎-elim (λ q. inl (and-left (g d) _ q, eqb-false (W .status d) 3 (not-true _ (and-right (g d) _ q)))) (λ q. inr (led q)) (or-cases (g d && not (eqb (W .status d) 3)) _ e)
+  where
+    led : any (λ t. isArrow t.kind && eqb t.leader d && g t.follower) W.ties ≡ true → (f : ℕ) × (tied W.ties isArrow d f ≡ true) × (g f ≡ true)
+    led q = let m = any-find _ W.ties q in let t = m .0 in let u = and-left (isArrow t.kind && eqb t.leader d) (g t.follower) (m .2) in
+        (t .follower, rw (eqb-true t.leader d (and-right (isArrow t.kind) (eqb t.leader d) u)) at (stands-tied isArrow (m .1) (and-left (isArrow t.kind) (eqb t.leader d) u)), and-right (isArrow t.kind && eqb t.leader d) (g t.follower) (m .2))
+
 -- "a change commits exactly when its whole group is completed and none of them has a live leader to wait for or fall with"
 module _ (L : Limits) (W : Window) (z : Sound L W) (c : ℕ) (lc : live W c ≡ true) where
+  pub commit-live : step L W (Commit c) ≡ commitGroup W (groupOf W c)
+  unfolding step checks firstFailed settle effect commitChange _if_ isEnded
+  commit-live = let u = or-none (eqb (W .status c) 4) (eqb (W .status c) 5) (not-ended (W .status c) (live-status W c lc)) in rw (live-change L W z c lc, u .0, u .1)
+
   commit-answer : step L W (Commit c) .answer ≡ zeroOr20 (not (anyBelow (suc W.given) (commitBlockers W (groupOf W c))))
-  unfolding zeroOr20 step checks firstFailed settle effect commitChange _if_ done unchanged commitGroup isEnded
-  commit-answer = let u = or-none (eqb (W .status c) 4) (eqb (W .status c) 5) (not-ended (W .status c) (live-status W c lc)) in
-      rw (live-change L W z c lc, u .0, u .1) (go (anyBelow (suc W.given) (commitBlockers W (groupOf W c))) _ _ _)
+  unfolding zeroOr20 done unchanged commitGroup
+  commit-answer = rw commit-live (go (anyBelow (suc W.given) (commitBlockers W (groupOf W c))) _ _ _)
     where
       go : (b : Bool) (i j : ℕ) (X : Window) → cond b (unchanged 20 i W) (done j X) .answer ≡ zeroOr20 (not b)
       go true i j X = refl
@@ -103,7 +115,7 @@ module _ (L : Limits) (W : Window) (z : Sound L W) (c : ℕ) (lc : live W c ≡ 
     pub completed : (d : ℕ) → groupOf W c d ≡ true → W .status d ≡ 3
     pub unled : (l f : ℕ) → groupOf W c f ≡ true → tied W.ties isArrow l f ≡ true → ⊥
 
-  free-of : anyBelow (suc W.given) (commitBlockers W (groupOf W c)) ≡ false → Free
+  pub free-of : anyBelow (suc W.given) (commitBlockers W (groupOf W c)) ≡ false → Free
   unfolding commitBlockers leadersOf leadsTo tied
   free-of none = record { completed = completed; unled = unled }
     where
@@ -120,16 +132,8 @@ module _ (L : Limits) (W : Window) (z : Sound L W) (c : ℕ) (lc : live W c ≡ 
           one t q = and-both (isArrow t.kind && eqb t.leader l) _ (and-left (isArrow t.kind && eqb t.leader l) _ q) (rw (eqb-true t.follower f (and-right (isArrow t.kind && eqb t.leader l) _ q)) g)
 
   of-free : Free → anyBelow (suc W.given) (commitBlockers W (groupOf W c)) ≡ false
-  unfolding commitBlockers leadersOf leadsTo
-  of-free f = none-below (suc W.given) _ (λ d h e. ⊎-elim (unready d) (led d) (or-cases (groupOf W c d && not (eqb (W .status d) 3)) _ e))
-    where
-      unready : (d : ℕ) → groupOf W c d && not (eqb (W .status d) 3) ≡ true → ⊥
-      unready d q = false≢true (rw (f .completed d (and-left (groupOf W c d) _ q)) at (and-right (groupOf W c d) _ q))
-
-      led : (d : ℕ) → any (λ t. isArrow t.kind && eqb t.leader d && groupOf W c t.follower) W.ties ≡ true → ⊥
-      led d q = let m = any-find _ W.ties q in let t = m .0 in let u = and-left (isArrow t.kind && eqb t.leader d) (groupOf W c t.follower) (m .2) in
-          f .unled d t.follower (and-right (isArrow t.kind && eqb t.leader d) (groupOf W c t.follower) (m .2))
-          (rw (eqb-true t.leader d (and-right (isArrow t.kind) (eqb t.leader d) u)) at (stands-tied isArrow (m .1) (and-left (isArrow t.kind) (eqb t.leader d) u)))
+  of-free f = none-below (suc W.given) (commitBlockers W (groupOf W c))
+      (λ d h e. ⊎-elim (λ m. m .1 (f .completed d (m .0))) (λ m. f .unled d (m .0) (m .2) (m .1)) (blocks W (groupOf W c) d e))
 
   pub commit-done : step L W (Commit c) .answer ≡ 0 ↔ Free
   commit-done = (

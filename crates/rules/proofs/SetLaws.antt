@@ -23,18 +23,30 @@ module _ (n : ℕ) (r : Rel) where
   times-keeps zero s c e = e
   times-keeps (suc k) s c e = times-keeps k (grow n r s) c (grow-keeps s c e)
 
-  grow-within : (s t : Set) → Closed n r t → Within n s t → Within n (grow n r s) t
-  unfolding grow
-  grow-within s t z w c h e =
-      ⊎-elim (λ q. w c h q)
-      (λ q. let a = any-elim n (λ d. s d && r d c) q in
-      z (a .0) c (a .1) h (w (a .0) (a .1) (and-left (s (a .0)) (r (a .0) c) (a .2))) (and-right (s (a .0)) (r (a .0) c) (a .2)))
-      (or-cases (s c) _ e)
+  -- what is reached has whatever the seed has and the relation hands on
+  module _ (Q : ℕ → Type 0) (z : (d e : ℕ) → d < n → Q d → r d e ≡ true → Q e) where
+    grow-to : (s : Set) → ((c : ℕ) → s c ≡ true → Q c) → (c : ℕ) → grow n r s c ≡ true → Q c
+    unfolding grow
+    grow-to s w c e = ⊎-elim (w c)
+        (λ q. let a = any-elim n (λ d. s d && r d c) q in z (a .0) c (a .1) (w (a .0) (and-left (s (a .0)) (r (a .0) c) (a .2))) (and-right (s (a .0)) (r (a .0) c) (a .2)))
+        (or-cases (s c) _ e)
 
+    times-to : (k : ℕ) (s : Set) → ((c : ℕ) → s c ≡ true → Q c) → (c : ℕ) → times k (grow n r) s c ≡ true → Q c
+    unfolding times
+    times-to zero s w = w
+    times-to (suc k) s w = times-to k (grow n r s) (grow-to s w)
+
+    pub closure-to : (s : Set) → ((c : ℕ) → s c ≡ true → Q c) → (d : ℕ) → closure n r s d ≡ true → Q d
+    unfolding closure
+    closure-to = times-to n
+
+    pub reach-to : (c : ℕ) → Q c → (d : ℕ) → reach n r c d ≡ true → Q d
+    unfolding reach only
+    reach-to c e = closure-to (only c) (λ d q. rw (eqb-true d c q) e)
+
+  -- and so what lies within a closed set stays within it
   times-within : (k : ℕ) (s t : Set) → Closed n r t → Within n s t → Within n (times k (grow n r) s) t
-  unfolding times
-  times-within zero s t z w = w
-  times-within (suc k) s t z w = times-within k (grow n r s) t z (grow-within s t z w)
+  times-within k s t z w c h e = times-to (λ d. d < n → t d ≡ true) (λ d x hd q p hx. z d x hd hx (q hd) p) k s (λ d q hd. w d hd q) c e h
 
   -- a set that does not grow is closed
   still-closed : (s : Set) → Within n (grow n r s) s → Closed n r s
@@ -52,31 +64,9 @@ module _ (n : ℕ) (r : Rel) where
       let m : countBelow n s ≤ countBelow n (grow n r s) = count-within n s (grow n r s) w in
       ⊎-elim
       (λ q. let z : Closed n r s = still-closed s (count-same n s (grow n r s) w (omega arith)) in
-      closed-same s (times k (grow n r) (grow n r s)) (λ c l e. times-keeps k (grow n r s) c (grow-keeps s c e))
-      (times-within k (grow n r s) s z (grow-within s s z (λ c l e. e))) z)
+      closed-same s (times k (grow n r) (grow n r s)) (λ c l e. times-keeps k (grow n r s) c (grow-keeps s c e)) (times-within (suc k) s s z (λ c l e. e)) z)
       (λ l. times-closed k (grow n r s) (omega arith))
       (eq-or-lt-of-le m)
-
-  -- what is reached has whatever the seed has and the relation hands on, whatever the bound
-  module _ (Q : ℕ → Type 0) (z : (d e : ℕ) → Q d → r d e ≡ true → Q e) where
-    grow-to : (s : Set) → ((c : ℕ) → s c ≡ true → Q c) → (c : ℕ) → grow n r s c ≡ true → Q c
-    unfolding grow
-    grow-to s w c e = ⊎-elim (w c)
-        (λ q. let a = any-elim n (λ d. s d && r d c) q in z (a .0) c (w (a .0) (and-left (s (a .0)) (r (a .0) c) (a .2))) (and-right (s (a .0)) (r (a .0) c) (a .2)))
-        (or-cases (s c) _ e)
-
-    times-to : (k : ℕ) (s : Set) → ((c : ℕ) → s c ≡ true → Q c) → (c : ℕ) → times k (grow n r) s c ≡ true → Q c
-    unfolding times
-    times-to zero s w = w
-    times-to (suc k) s w = times-to k (grow n r s) (grow-to s w)
-
-    pub closure-to : (s : Set) → ((c : ℕ) → s c ≡ true → Q c) → (d : ℕ) → closure n r s d ≡ true → Q d
-    unfolding closure
-    closure-to = times-to n
-
-    pub reach-to : (c : ℕ) → Q c → (d : ℕ) → reach n r c d ≡ true → Q d
-    unfolding reach only
-    reach-to c e = closure-to (only c) (λ d q. rw (eqb-true d c q) e)
 
   -- it holds the set, is closed, and lies within every closed set that holds the set
   pub closure-holds : (s : Set) (c : ℕ) → s c ≡ true → closure n r s c ≡ true
@@ -87,7 +77,7 @@ module _ (n : ℕ) (r : Rel) where
   unfolding closure
   closure-closed s = times-closed n s (omega arith)
 
-  pub closure-least : (s t : Set) → Within n s t → Closed n r t → Within n (closure n r s) t
+  closure-least : (s t : Set) → Within n s t → Closed n r t → Within n (closure n r s) t
   unfolding closure
   closure-least s t w z = times-within n s t z w
 

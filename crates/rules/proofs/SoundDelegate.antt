@@ -34,6 +34,19 @@ pub hand-parts : (from to : ℕ) (on : Set) (ps : List PermitRecord) → length 
 unfolding permitMoves permitKept
 hand-parts from to on = length-parts (permitMoves from to on) (permitKept from on) (λ p a b. never (permitGiven from on p) (and-left (permitGiven from on p) (not (eqb p.taker to)) a) b)
 
+pub hand-room : (from to : ℕ) (on : Set) (ps : List PermitRecord) → length (movePermits from to on ps) ≤ length ps
+unfolding movePermits addPermit
+hand-room from to on ps = omega (
+  arith,
+  length-inserts permitKey unitePermits (map (movedPermit to) (keep (permitMoves from to on) ps)) (keep (permitKept from on) ps),
+  length-map (keep (permitMoves from to on) ps) (movedPermit to),
+  hand-parts from to on ps,
+)
+
+pub hand-order : (from to : ℕ) (on : Set) (ps : List PermitRecord) → rising permitKey ps ≡ true → rising permitKey (movePermits from to on ps) ≡ true
+unfolding movePermits addPermit
+hand-order from to on ps e = inserts-rising permitKey unitePermits unite-key (map (movedPermit to) (keep (permitMoves from to on) ps)) (keep (permitKept from on) ps) (rising-keep permitKey (permitKept from on) ps e)
+
 module _ (L : Limits) (W : Window) (from to : ℕ) (on : Set) (k : Sound L W) (lives : live W to ≡ true) where
   pub hand-held : (e c : ℕ) → heldSound W.entries (live W) (handOver W from to on .held) e c ≡ true
   unfolding heldSound handOver moveHeld
@@ -74,19 +87,6 @@ module _ (L : Limits) (W : Window) (from to : ℕ) (on : Set) (k : Sound L W) (l
       let n : to ≢ p .taker = λ q. eqb-false p.taker to (not-true (eqb p.taker to) (and-right (permitGiven from on p) (not (eqb p.taker to)) g)) (sym q) in
       rw (lives, x .1, x .2, x .3, ne-eqb to p.taker n)
 
-  hand-room : length (movePermits from to on W.permits) ≤ length W.permits
-  unfolding movePermits addPermit
-  hand-room = omega (
-    arith,
-    length-inserts permitKey unitePermits unite-key (map (movedPermit to) (keep (permitMoves from to on) W.permits)) (keep (permitKept from on) W.permits),
-    length-map (keep (permitMoves from to on) W.permits) (movedPermit to),
-    hand-parts from to on W.permits,
-  )
-
-  pub hand-order : rising permitKey (movePermits from to on W.permits) ≡ true
-  unfolding movePermits addPermit
-  hand-order = inserts-rising permitKey unitePermits unite-key (map (movedPermit to) (keep (permitMoves from to on) W.permits)) (keep (permitKept from on) W.permits) (rising-keep permitKey (permitKept from on) W.permits (k .permit-order))
-
   pub hand-sound : clashesPermitted (handOver W from to on) ≡ true → Sound L (handOver W from to on)
   unfolding handOver moveLog live movePermits addPermit
   hand-sound fit = record {
@@ -94,18 +94,18 @@ module _ (L : Limits) (W : Window) (from to : ℕ) (on : Set) (k : Sound L W) (l
     entries = k .entries;
     changes = k .changes;
     room-log = rw (length-map W.log (movedRecord from to on)) (k .room-log);
-    room-permits = over-less (length W.permits) (length (movePermits from to on W.permits)) L.permits hand-room (k .room-permits);
+    room-permits = over-less (length W.permits) (length (movePermits from to on W.permits)) L.permits (hand-room from to on W.permits) (k .room-permits);
     room-ties = k .room-ties;
     values = k .values;
     statuses = k .statuses;
     parents = k .parents;
     helds = hand-held;
     records = all-map _ (recordSound W.entries (live W) W.held) (movedRecord from to on) hand-record W.log (k .records);
-    permits = all-inserts permitKey unitePermits unite-key (permitSound W.entries (live W)) (λ p q a b. unite-sound W.entries (live W) p q b) (map (movedPermit to) (keep (permitMoves from to on) W.permits)) (keep (permitKept from on) W.permits)
+    permits = all-inserts permitKey unitePermits (permitSound W.entries (live W)) (λ p q a b. unite-sound W.entries (live W) p q b) (map (movedPermit to) (keep (permitMoves from to on) W.permits)) (keep (permitKept from on) W.permits)
         (all-map (permitSound W.entries (live W)) (λ p. permitSound W.entries (live W) (movedPermit to p)) (movedPermit to) (λ p h. h) (keep (permitMoves from to on) W.permits) (all-keep (permitSound W.entries (live W)) (permitMoves from to on) _ hand-permit W.permits (k .permits)))
         (all-keep (permitSound W.entries (live W)) (permitKept from on) _ (λ p a b. a) W.permits (k .permits));
     ties = k .ties;
-    permit-order = hand-order;
+    permit-order = hand-order from to on W.permits (k .permit-order);
     tie-order = k .tie-order;
     no-cycle = k .no-cycle;
     locks = fits-all (handOver W from to on) hand-held fit;

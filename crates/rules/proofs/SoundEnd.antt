@@ -4,18 +4,18 @@ use mathlib.Core.Logic.{⊎-elim}
 use mathlib.Core.Bool.{Bool, true, false, not, cond, _&&_, _||_, false≢true, or-true, and-false}
 use Prim.Native.Nat.{ℕ, suc}
 use lib.Dec.{leb, ltb, eqb}
-use borrow.Author.Tests.{not-true, eqb-true, lt-ltb}
-use Rattle.rules.specs.Base.{all, outside}
+use borrow.Author.Tests.{not-true, eqb-true}
+use Rattle.rules.specs.Base.{outside}
 use Rattle.rules.specs.Sets.{Set, putAll}
 use Rattle.rules.specs.Window.{Limits, LogRecord, PermitRecord, TieRecord, Window, permitKey, tieKey, withPermits, live, noChange}
 use Rattle.rules.specs.Locks.{pairPermitted, permitted, contains, clash}
 use Rattle.rules.specs.Sound.{statusSound, heldSound, recordSound, permitSound, tieSound}
 use Rattle.rules.specs.Effects.{released, isUnowned, unowned, permitStays, permitsLeft, tieStays, tiesLeft, endAll}
-use Rattle.rules.proofs.BaseLaws.{or-cases, and-left, and-right, no-true, or-false-left, or-false-right}
-use Rattle.rules.proofs.ListLaws.{all-weaken, all-keep, any-keep-up, fewer}
+use Rattle.rules.proofs.BaseLaws.{or-cases, and-left, and-right, no-true, or-none}
+use Rattle.rules.proofs.ListLaws.{all-keep, any-keep-up, fewer}
+use Rattle.rules.proofs.PathLaws.{acyclic-keep}
 use Rattle.rules.proofs.SortLaws.{rising-keep}
-use Rattle.rules.proofs.SoundParts.{Sound, clash-left, clash-right, live-below, live-zero, live-change, ends-live, fits-on}
-use Rattle.rules.proofs.TieLaws.{acyclic-keep}
+use Rattle.rules.proofs.SoundParts.{Sound, clash-left, clash-right, live-zero, live-change, fits-on, ends-below}
 
 module _ (L : Limits) (W : Window) (how : ℕ) (s : Set) (ended : outside 1 3 how ≡ true) (ranged : outside 1 5 how ≡ false)
     (lives : (c : ℕ) → s c ≡ true → live W c ≡ true) (k : Sound L W) where
@@ -56,15 +56,11 @@ module _ (L : Limits) (W : Window) (how : ℕ) (s : Set) (ended : outside 1 3 ho
 
   end-permit : (p : PermitRecord) → permitSound W.entries (live W) p ≡ true → permitStays s p ≡ true → permitSound W.entries left p ≡ true
   unfolding permitSound left permitStays
-  end-permit p h q = let n = not-true (s p.giver || s p.taker) q in rw (or-false-left (s p.giver) (s p.taker) n, or-false-right (s p.giver) (s p.taker) n) h
+  end-permit p h q = let n = or-none (s p.giver) (s p.taker) (not-true _ q) in rw (n .0, n .1) h
 
   end-tie : (t : TieRecord) → tieSound (live W) t ≡ true → tieStays s t ≡ true → tieSound left t ≡ true
   unfolding tieSound left tieStays
-  end-tie t h q = let n = not-true (s t.leader || s t.follower) q in rw (or-false-left (s t.leader) (s t.follower) n, or-false-right (s t.leader) (s t.follower) n) h
-
-  end-cycle : all (λ t. ltb t.leader (suc W.given)) W.ties ≡ true
-  end-cycle = all-weaken (λ t. live W t.leader && live W t.follower) (λ t. ltb t.leader (suc W.given))
-      (λ t h. lt-ltb t.leader (suc W.given) (live-below W t.leader (and-left (live W t.leader) (live W t.follower) h))) W.ties (ends-live L W k)
+  end-tie t h q = let n = or-none (s t.leader) (s t.follower) (not-true _ q) in rw (n .0, n .1) h
 
   -- a permit from one that lives on, to one that lives on or to anybody, stays
   end-permitted : (a b e m : ℕ) → s a ≡ false → s b ≡ false → permitted W.permits a b e m ≡ true → permitted (permitsLeft s W.permits) a b e m ≡ true
@@ -103,6 +99,6 @@ module _ (L : Limits) (W : Window) (how : ℕ) (s : Set) (ended : outside 1 3 ho
     ties = rw live-end (all-keep (tieSound (live W)) (tieStays s) (tieSound left) end-tie W.ties (k .ties));
     permit-order = rising-keep permitKey (permitStays s) W.permits (k .permit-order);
     tie-order = rising-keep tieKey (tieStays s) W.ties (k .tie-order);
-    no-cycle = acyclic-keep (suc W.given) (tieStays s) W.ties end-cycle (k .no-cycle);
+    no-cycle = acyclic-keep (suc W.given) W.ties (ends-below W (k .ties)) (k .no-cycle) (tieStays s);
     locks = end-pair;
   }

@@ -1,7 +1,7 @@
 -- A lock that is granted keeps a window sound. Assumes nothing.
 use mathlib.Core.Path.{_≡_, refl, sym, _∙_, ap}
 use mathlib.Core.Logic.{_⊎_, inl, inr, ⊎-elim, _≢_}
-use mathlib.Core.Bool.{Bool, true, false, not, cond, _&&_, _||_, false≢true, or-comm, or-true}
+use mathlib.Core.Bool.{Bool, true, false, not, cond, _&&_, _||_, false≢true, and-comm, or-comm, or-true}
 use Prim.Native.Nat.{ℕ, suc}
 use lib.Dec.{leb, ltb, eqb}
 use borrow.Author.Tests.{not-true, ne-eqb, eqb-true}
@@ -14,15 +14,9 @@ use Rattle.rules.proofs.BaseLaws.{anyBelow-none, Below, under, over as 
 use Rattle.rules.proofs.ListLaws.{all-weaken}
 use Rattle.rules.proofs.SoundParts.{Sound, clash-left, held-no-change, record-parts}
 
-swap-and : (a b c : Bool) → a && b && c ≡ b && a && c
-swap-and true true c = refl
-swap-and true false c = refl
-swap-and false true c = refl
-swap-and false false c = refl
-
 clash-swap : (a b : ℕ) → clash a b ≡ clash b a
 unfolding clash
-clash-swap a b = swap-and (ltb 0 a) (ltb 0 b) _ ∙ ap (λ x. ltb 0 b && ltb 0 a && x) (or-comm (eqb a 2) (eqb b 2))
+clash-swap a b = ap (λ x. x && (eqb a 2 || eqb b 2)) (and-comm (ltb 0 a) (ltb 0 b)) ∙ ap (λ x. ltb 0 b && ltb 0 a && x) (or-comm (eqb a 2) (eqb b 2))
 
 no-blocker : (a b : Bool) → a && not b ≡ false → (not a ≡ true) ⊎ (b ≡ true)
 no-blocker true true e = inr refl
@@ -47,8 +41,7 @@ module _ (L : Limits) (W : Window) (c e m : ℕ) (k : Sound L W)
   lock-pair x a b = go (same? x e) (same? a c) (same? b c)
     where
       second : (p q r s : Bool) → q ≡ true → p || q || r || s ≡ true
-      second true q r s h = refl
-      second false q r s h = rw h
+      second p q r s h = or-left (p || q || r) s (or-left (p || q) r (or-right p q h))
 
       third : (p q r s : Bool) → r ≡ true → p || q || r || s ≡ true
       third p q r s h = or-left (p || q || r) s (or-right (p || q) r h)

@@ -14,7 +14,7 @@ use Rattle.rules.specs.Window.{Limits, LogRecord, PermitRecord, TieRecor
 use Rattle.rules.specs.Locks.{clash, clashesPermitted, permitted, pairPermitted}
 use Rattle.rules.specs.Ties.{isGroup, acyclic}
 use Rattle.rules.specs.Sound.{sound, parts, valueSound, statusSound, parentSound, heldSound, recordSound, permitSound, tieSound}
-use Rattle.rules.proofs.BaseLaws.{Below, under, over as beyond, below, and-left, and-right, and-both, or-left, or-right, or-cases, or-map, allBelow-at, allBelow-intro, within-of, or-false-left, or-false-right, and-four, and-five}
+use Rattle.rules.proofs.BaseLaws.{Below, under, over as beyond, below, and-left, and-right, and-both, or-left, or-right, or-cases, or-map, allBelow-at, allBelow-intro, within-of, or-none, and-four, and-five}
 use Rattle.rules.proofs.ListLaws.{all-weaken}
 
 pub record Sound (L : Limits) (W : Window) : Type 0 where
@@ -57,7 +57,7 @@ each (b ∷ l) e = (and-left b (all (λ x. x) l) e, each l (and-right b (all (λ
 -- a figure in its range
 pub inside-of : (low high x : ℕ) → outside low high x ≡ false → (low ≤ x) × (x ≤ high)
 unfolding outside
-inside-of low high x e = (ltb-false x low (or-false-left (ltb x low) (ltb high x) e), ltb-false high x (or-false-right (ltb x low) (ltb high x) e))
+inside-of low high x e = let o = or-none (ltb x low) (ltb high x) e in (ltb-false x low (o .0), ltb-false high x (o .1))
 
 outside-false : (low high x : ℕ) → low ≤ x → x ≤ high → outside low high x ≡ false
 unfolding outside
@@ -101,7 +101,7 @@ ends-below W = all-weaken (tieSound (live W)) (λ t. ltb t.leader (suc W.given) 
 -- a change that there is has a number given
 pub numbered : (W : Window) (c : ℕ) → noChange W c ≡ false → c ≤ W .given
 unfolding noChange
-numbered W c h = ltb-false W.given c (or-false-right (eqb c 0) (ltb W.given c) h)
+numbered W c h = ltb-false W.given c (or-none (eqb c 0) (ltb W.given c) h .1)
 
 -- who has a number and a live status lives
 pub given-live : (W : Window) (c : ℕ) → noChange W c ≡ false → isLive (W .status c) ≡ true → live W c ≡ true
@@ -129,11 +129,11 @@ module _ (W : Window) (helds : (e c : ℕ) → heldSound W.entries (live W) W.he
   held-no-change e c h = held-zero e c (λ q. let l = live-below W c (and-right (ltb e W.entries) (live W c) q) in omega arith)
 
   -- a pair of which one holds nothing fits
-  pub fits-left : (e a b : ℕ) → W .held e a ≡ 0 → pairPermitted W e a b ≡ true
+  fits-left : (e a b : ℕ) → W .held e a ≡ 0 → pairPermitted W e a b ≡ true
   unfolding pairPermitted
   fits-left e a b h = or-left _ _ (or-left _ _ (or-right (eqb a b) _ (rw (h, clash-left))))
 
-  pub fits-right : (e a b : ℕ) → W .held e b ≡ 0 → pairPermitted W e a b ≡ true
+  fits-right : (e a b : ℕ) → W .held e b ≡ 0 → pairPermitted W e a b ≡ true
   unfolding pairPermitted
   fits-right e a b h = or-left _ _ (or-left _ _ (or-right (eqb a b) _ (rw (h, clash-right))))
 

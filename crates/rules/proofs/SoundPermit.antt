@@ -38,7 +38,7 @@ unite-contains p q m h = go (contains q.ops p.ops)
 
 pub permitted-add : (p : PermitRecord) (ps : List PermitRecord) (a b e m : ℕ) → permitted ps a b e m ≡ true → permitted (addPermit p ps) a b e m ≡ true
 unfolding permitted addPermit unitePermits
-permitted-add p ps a b e m = any-insert permitKey unitePermits unite-key _ p
+permitted-add p ps a b e m = any-insert permitKey unitePermits _ p
     (λ q. and-map (eqb q.giver a && (eqb q.taker b || eqb q.taker 0) && eqb q.entry e) (contains q.ops m) _ _ (λ x. x) (unite-contains p q m)) ps
 
 pub permit-sound : (L : Limits) (W : Window) (p : PermitRecord) → permitSound W.entries (live W) p ≡ true → not (exceeds (length (addPermit p W.permits)) L.permits) ≡ true
@@ -56,7 +56,7 @@ permit-sound L W p s r k = record {
   parents = k .parents;
   helds = k .helds;
   records = k .records;
-  permits = all-insert permitKey unitePermits unite-key (permitSound W.entries (live W)) p s (unite-sound W.entries (live W) p) W.permits (k .permits);
+  permits = all-insert permitKey unitePermits (permitSound W.entries (live W)) p s (unite-sound W.entries (live W) p) W.permits (k .permits);
   ties = k .ties;
   permit-order = insert-rising permitKey unitePermits unite-key p W.permits (k .permit-order);
   tie-order = k .tie-order;

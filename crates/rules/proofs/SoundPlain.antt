@@ -16,8 +16,8 @@ use Rattle.rules.specs.Sound.{valueSound, statusSound, parentSound, held
 use Rattle.rules.specs.Effects.{undo, addChange}
 use Rattle.rules.proofs.BaseLaws.{both-ways, Same, same, other, same?, or-map, and-left, and-right, and-map}
 use Rattle.rules.proofs.ListLaws.{all-weaken, all-append, length-append-one}
+use Rattle.rules.proofs.PathLaws.{acyclic-more}
 use Rattle.rules.proofs.SoundParts.{Sound, live-below, ends-below, record-parts, permit-parts, tie-parts}
-use Rattle.rules.proofs.TieLaws.{acyclic-more}
 
 -- a fresh window
 pub fresh-sound : (L : Limits) (n : ℕ) → ltb 0 n ≡ true → not (exceeds n L.entries) ≡ true → Sound L (fresh n)
@@ -174,13 +174,13 @@ tie-more : (f g : Set) → ((c : ℕ) → f c ≡ true → g c ≡ true) → (t 
 unfolding tieSound
 tie-more f g more t h = let q = tie-parts f t h in rw (q .0, more t.leader (q .1), more t.follower (q .2), q .3, q .4)
 
--- one more change
-module _ (L : Limits) (W : Window) (p : ℕ) (room : not (exceeds (suc W.given) L.changes) ≡ true) (lower : p ≤ W .given) (k : Sound L W) where
-  live-start : (c : ℕ) → live W c ≡ true → live (addChange W p) c ≡ true
-  unfolding live addChange put
-  live-start c h = let l = live-below W c h in
-      rw (ne-eqb c (suc (W .given)) (omega arith), lt-ltb c (suc (suc (W .given))) (omega arith)) (and-right (ltb c (suc (W .given))) _ h)
+-- one more change: the live live on
+pub live-start : (W : Window) (p c : ℕ) → live W c ≡ true → live (addChange W p) c ≡ true
+unfolding live addChange put
+live-start W p c h = let l = live-below W c h in
+    rw (ne-eqb c (suc (W .given)) (omega arith), lt-ltb c (suc (suc (W .given))) (omega arith)) (and-right (ltb c (suc (W .given))) _ h)
 
+module _ (L : Limits) (W : Window) (p : ℕ) (room : not (exceeds (suc W.given) L.changes) ≡ true) (lower : p ≤ W .given) (k : Sound L W) where
   -- the places of changes, with the new one
   places : (g : ℕ → ℕ) (x : ℕ) (test : ℕ → ℕ → Bool) → test (suc (W .given)) x ≡ true
       → ((c : ℕ) → cond (eqb c 0 || ltb W.given c) (eqb (g c) 0) (test c (g c)) ≡ true)
@@ -204,10 +204,10 @@ module _ (L : Limits) (W : Window) (p : ℕ) (room : not (exceeds (suc W.given) 
     values = k .values;
     statuses = places W.status 1 (λ c x. not (outside 1 5 x)) refl (k .statuses);
     parents = places W.parent p (λ c x. ltb x c) (lt-ltb p (suc W.given) (omega arith)) (k .parents);
-    helds = λ e c. held-more W.entries (live W) (live (addChange W p)) live-start W.held e c (k .helds e c);
-    records = all-weaken _ _ (record-more W.entries (live W) (live (addChange W p)) live-start W.held) W.log (k .records);
-    permits = all-weaken _ _ (permit-more W.entries (live W) (live (addChange W p)) live-start) W.permits (k .permits);
-    ties = all-weaken _ _ (tie-more (live W) (live (addChange W p)) live-start) W.ties (k .ties);
+    helds = λ e c. held-more W.entries (live W) (live (addChange W p)) (live-start W p) W.held e c (k .helds e c);
+    records = all-weaken _ _ (record-more W.entries (live W) (live (addChange W p)) (live-start W p) W.held) W.log (k .records);
+    permits = all-weaken _ _ (permit-more W.entries (live W) (live (addChange W p)) (live-start W p)) W.permits (k .permits);
+    ties = all-weaken _ _ (tie-more (live W) (live (addChange W p)) (live-start W p)) W.ties (k .ties);
     permit-order = k .permit-order;
     tie-order = k .tie-order;
     no-cycle = acyclic-more (suc W.given) W.ties (ends-below W (k .ties)) (k .no-cycle);

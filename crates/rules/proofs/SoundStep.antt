@@ -14,7 +14,7 @@ use Rattle.rules.specs.Sound.{sound, recordSound, permitSound}
 use Rattle.rules.specs.Calls.{Call, Open, Initiate, Begin, Complete, Lock, Read, Write, Permit, Delegate, Depend, Commit, Abort, Status, Parent, Value, arguments, fits, Outcome, done, unchanged}
 use Rattle.rules.specs.Effects.{effect, covers, lockEntry, writeEntry, entriesNamed, commitChange, abortChange, grantable, commitBlockers, commitGroup, abortAll, undo, addRecord}
 use Rattle.rules.specs.Refusals.{Check, firstFailed, _if_, checks, step, settle}
-use Rattle.rules.proofs.BaseLaws.{and-left, and-right, or-false-left, or-false-right}
+use Rattle.rules.proofs.BaseLaws.{and-left, and-right, or-none}
 use Rattle.rules.proofs.SetLaws.{reach-to}
 use Rattle.rules.proofs.SoundDelegate.{hand-sound}
 use Rattle.rules.proofs.SoundDepend.{make-sound, depend-sound}
@@ -61,7 +61,7 @@ codes L W (Value e) = refl
 -- open asks nothing of the window
 open-sound : (L : Limits) (W : Window) (n : ℕ) → Passed (checks L W (Open n)) → Sound L (effect W (Open n) .after)
 unfolding checks _if_ effect done
-open-sound L W n p = fresh-sound L n (lt-ltb 0 n (omega (arith, ltb-false n 1 (or-false-left (ltb n 1) (exceeds n L.entries) (p .0))))) (ap not (or-false-right (ltb n 1) (exceeds n L.entries) (p .0)))
+open-sound L W n p = let o = or-none (ltb n 1) (exceeds n L.entries) (p .0) in fresh-sound L n (lt-ltb 0 n (omega (arith, ltb-false n 1 (o .0)))) (ap not (o .1))
 
 -- whichever way a choice goes
 either : (L : Limits) (b : Bool) (x y : Outcome) → (b ≡ true → Sound L (x .after)) → (b ≡ false → Sound L (y .after)) → Sound L (cond b x y .after)
@@ -69,7 +69,7 @@ either L true x y f g = f refl
 either L false x y f g = g refl
 
 -- an entry that there is lies below the bound
-pub entry-of : (W : Window) (e : ℕ) → noEntry W e ≡ false → ltb e W.entries ≡ true
+entry-of : (W : Window) (e : ℕ) → noEntry W e ≡ false → ltb e W.entries ≡ true
 unfolding noEntry
 entry-of W e h = lt-ltb e W.entries (leb-false W.entries e h)
 
@@ -77,11 +77,11 @@ module _ (L : Limits) (W : Window) (k : Sound L W) where
   -- the sets that commit and abort end are of live changes
   pub group-live : (c : ℕ) → live W c ≡ true → (d : ℕ) → groupOf W c d ≡ true → live W d ≡ true
   unfolding groupOf
-  group-live c h = reach-to (suc W.given) (grouped W.ties) (λ d. live W d ≡ true) (λ d e a r. grouped-ends (live W) W.ties (ends-live L W k) d e r .1) c h
+  group-live c h = reach-to (suc W.given) (grouped W.ties) (λ d. live W d ≡ true) (λ d e b a r. grouped-ends (live W) W.ties (ends-live L W k) d e r .1) c h
 
   pub fall-live : (c : ℕ) → live W c ≡ true → (d : ℕ) → endSet W c d ≡ true → live W d ≡ true
   unfolding endSet
-  fall-live c h = reach-to (suc W.given) (falling W.ties) (λ d. live W d ≡ true) (λ d e a r. falling-ends (live W) W.ties (ends-live L W k) d e r .1) c h
+  fall-live c h = reach-to (suc W.given) (falling W.ties) (λ d. live W d ≡ true) (λ d e b a r. falling-ends (live W) W.ties (ends-live L W k) d e r .1) c h
 
   moves : (c s t : ℕ) → noChange W c ≡ false → not (eqb (W .status c) s) ≡ false → outside 1 3 s ≡ outside 1 3 t → outside 1 5 t ≡ false → Sound L (withStatus W (put W.status c t))
   moves c s t n e h r = status-sound L W c t n (ap (outside 1 3) (eqb-true (W .status c) s (not-false _ e)) ∙ h) r k
@@ -164,19 +164,15 @@ unfolding settle unchanged
 settle-answer zero W o h = absurd (omega arith)
 settle-answer (suc a) W o h = refl
 
-fresh-effect : (W : Window) (n : ℕ) → effect W (Open n) .after ≡ fresh n
-unfolding effect done
-fresh-effect W n = refl
-
 -- an open that is not refused makes a sound window of any
 pub opened-sound : (L : Limits) (W : Window) (n : ℕ) → step L W (Open n) .answer ≡ 0 → Sound L (step L W (Open n) .after)
 unfolding step
 opened-sound L W n h = settled L W (Open n) (open-sound L W n) (λ l. absurd (omega (arith, settle-answer (firstFailed (checks L W (Open n))) W (effect W (Open n)) l)))
 
 pub opened-fresh : (L : Limits) (W : Window) (n : ℕ) → step L W (Open n) .answer ≡ 0 → step L W (Open n) .after ≡ fresh n
-unfolding step settle
+unfolding step settle effect done
 opened-fresh L W n h = go (firstFailed (checks L W (Open n))) h
   where
     go : (a : ℕ) → settle a W (effect W (Open n)) .answer ≡ 0 → settle a W (effect W (Open n)) .after ≡ fresh n
-    go zero e = fresh-effect W n
+    go zero e = refl
     go (suc a) e = absurd (omega (arith, settle-answer (suc a) W (effect W (Open n)) (omega arith)))

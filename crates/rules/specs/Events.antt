@@ -13,7 +13,7 @@ pub record Event : Type 0 where
 
 -- what the words look at: opens, initiates, what the book enters, ties made
 pub data Action : Type 0 where
-  opening initiating other : Action
+  opening initiating nothing : Action
   locking : (change entry mode : ℕ) → Action
   permitting : (giver taker entry operations : ℕ) → Action
   delegating : (from to entry : ℕ) → Action
@@ -22,29 +22,29 @@ pub data Action : Type 0 where
 unfoldable pub actionOf : Call → Action
 actionOf (Open n) = opening
 actionOf (Initiate p) = initiating
-actionOf (Begin c) = other
-actionOf (Complete c) = other
+actionOf (Begin c) = nothing
+actionOf (Complete c) = nothing
 actionOf (Lock c e m) = locking c e m
-actionOf (Read c e) = other
-actionOf (Write c e v) = other
+actionOf (Read c e) = nothing
+actionOf (Write c e v) = nothing
 actionOf (Permit g t e o) = permitting g t e o
 actionOf (Delegate f t e) = delegating f t e
 actionOf (Depend k l f) = tying k l f
-actionOf (Commit c) = other
-actionOf (Abort c) = other
-actionOf (Status c) = other
-actionOf (Parent c) = other
-actionOf (Value e) = other
+actionOf (Commit c) = nothing
+actionOf (Abort c) = nothing
+actionOf (Status c) = nothing
+actionOf (Parent c) = nothing
+actionOf (Value e) = nothing
 
 -- "answered 0": "Any other call, or any other answer, enters nothing"
 unfoldable pub action : Event → Action
-action e = cond (eqb e.answer 0) (actionOf e.call) other
+action e = cond (eqb e.answer 0) (actionOf e.call) nothing
 
 -- "An open answered 0"
 unfoldable pub isOpening : Action → Bool
 isOpening opening = true
 isOpening initiating = false
-isOpening other = false
+isOpening nothing = false
 isOpening (locking c e m) = false
 isOpening (permitting g t e o) = false
 isOpening (delegating f t e) = false
@@ -58,7 +58,7 @@ isOpen c = isOpening (actionOf c)
 unfoldable pub isTying : ℕ → ℕ → ℕ → Action → Bool
 isTying k l f opening = false
 isTying k l f initiating = false
-isTying k l f other = false
+isTying k l f nothing = false
 isTying k l f (locking c e m) = false
 isTying k l f (permitting g t e o) = false
 isTying k l f (delegating h t e) = false
@@ -68,7 +68,7 @@ isTying k l f (tying k′ l′ f′) = eqb k k′ && eqb l l′ && eqb f f′
 unfoldable pub highestAfter : Action → ℕ → ℕ → ℕ
 highestAfter opening n h = h
 highestAfter initiating n h = max n h
-highestAfter other n h = h
+highestAfter nothing n h = h
 highestAfter (locking c e m) n h = h
 highestAfter (permitting g t e o) n h = h
 highestAfter (delegating f t e) n h = h

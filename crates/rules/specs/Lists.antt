@@ -12,7 +12,7 @@ use Rattle.rules.specs.Window.{PermitRecord, isLive, isEnded}
 use Rattle.rules.specs.Locks.{clash, permitted, makePermit, addPermit}
 use Rattle.rules.specs.Calls.{Call, Open, Commit, Status, Reply, fits}
 use Rattle.rules.specs.Effects.{entriesNamed, moveHeld, movePermits, released, permitsLeft}
-use Rattle.rules.specs.Events.{Event, Action, opening, initiating, other, locking, permitting, delegating, tying, action, isOpening, isTying, highestAfter}
+use Rattle.rules.specs.Events.{Event, Action, opening, initiating, nothing, locking, permitting, delegating, tying, action, isOpening, isTying, highestAfter}
 
 -- "An open answered 0 inside a list starts everything below anew": the calls made since, the last one first
 unfoldable pub remember : Event → List Event → List Event
@@ -72,7 +72,7 @@ pub record Book : Type 0 where
 unfoldable pub enter : Action → Book → Book
 enter opening b = b
 enter initiating b = b
-enter other b = b
+enter nothing b = b
 enter (locking c e m) b = record { held = put2 b.held e c (max (b .held e c) m); permits = b.permits }
 enter (permitting g t e o) b = record { held = b.held; permits = addPermit (makePermit g t e o) b.permits }
 enter (delegating f t e) b = record { held = moveHeld f t (entriesNamed e) b.held; permits = movePermits f t (entriesNamed e) b.permits }

@@ -6,7 +6,7 @@ use lib.Dec.{ltb, leb, eqb}
 use Rattle.rules.specs.Base.{Key, outside}
 
 -- "The largest figures": how many entries, changes in a window's life, log records, permits and ties there may be.
--- The rules take them as a parameter, and what is proved of the rules holds for any
+-- The rules take them as a parameter, and their laws hold for any
 pub record Limits : Type 0 where
   pub entries : ℕ
   pub changes : ℕ

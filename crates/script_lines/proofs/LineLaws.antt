@@ -20,7 +20,7 @@ unfolding replyTo lineCall
 too-long mem l h r e = rw (lt-leb (length l) 64 h) (broken mem r e)
 
 -- each of four numbers is an argument
-abbrev pub allArguments : (a b c d : ℕ) → Bool
+abbrev allArguments : (a b c d : ℕ) → Bool
 allArguments a b c d = ltb a 4294967296 && ltb b 4294967296 && ltb c 4294967296 && ltb d 4294967296
 
 pub small : (a b c d : ℕ) → allArguments a b c d ≡ true → (a < 4294967296) × (b < 4294967296) × (c < 4294967296) × (d < 4294967296)

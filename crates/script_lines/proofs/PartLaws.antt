@@ -19,7 +19,7 @@ use Rattle.script_lines.specs.declared.Commas.{Commas}
 
 -- AT THE FIRST OF A BYTE
 module _ (s : ℕ) where
-  pub parted-at : (l : List ℕ) → indexOf s l < length l → partedBy s l ≡ take (indexOf s l) l ∷ partedBy s (drop (suc (indexOf s l)) l)
+  parted-at : (l : List ℕ) → indexOf s l < length l → partedBy s l ≡ take (indexOf s l) l ∷ partedBy s (drop (suc (indexOf s l)) l)
   unfolding indexOf indexAfter partedBy inFront
   parted-at [] h = absurd (omega arith)
   parted-at (x ∷ l) h = go (parted-at l) (eqb x s) h
@@ -29,7 +29,7 @@ module _ (s : ℕ) where
       go ih true h = refl
       go ih false h = ap (inFront x) (ih (omega arith))
 
-  pub parted-none : (l : List ℕ) → indexOf s l ≡ length l → partedBy s l ≡ l ∷ []
+  parted-none : (l : List ℕ) → indexOf s l ≡ length l → partedBy s l ≡ l ∷ []
   unfolding indexOf indexAfter partedBy inFront
   parted-none [] h = refl
   parted-none (x ∷ l) h = go (parted-none l) (eqb x s) h

@@ -161,30 +161,23 @@ fn take_apart(line: &[u8]) -> Fields
     let third = at.third;
     let fourth = at.fourth;
     let fifth = at.fifth;
-    if fourth == line.len() {
-        return Fields {
-            call: 0,
-            a: 0,
-            b: 0,
-            c: 0,
-            d: 0,
-        };
-    }
-    if fifth < line.len() {
-        return Fields {
-            call: 0,
-            a: 0,
-            b: 0,
-            c: 0,
-            d: 0,
-        };
+    if fourth < line.len() {
+        if fifth == line.len() {
+            return Fields {
+                call: call_number(&line[0..first]),
+                a: field(line, first + 1, second),
+                b: field(line, second + 1, third),
+                c: field(line, third + 1, fourth),
+                d: field(line, fourth + 1, fifth),
+            };
+        }
     }
     Fields {
-        call: call_number(&line[0..first]),
-        a: field(line, first + 1, second),
-        b: field(line, second + 1, third),
-        c: field(line, third + 1, fourth),
-        d: field(line, fourth + 1, fifth),
+        call: 0,
+        a: 0,
+        b: 0,
+        c: 0,
+        d: 0,
     }
 }
 

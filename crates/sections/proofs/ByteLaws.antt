@@ -2,7 +2,7 @@
 use mathlib.Core.Path.{_≡_}
 use Prim.Native.Nat.{ℕ, zero, suc, _<_}
 use native.Mathlib.Omega.{arith}
-use Rattle.layout.specs.Codec.{byte, join2, join4}
+use Rattle.layout.specs.Codec.{byte, join4}
 
 pub join4-below : (f : ℕ → ℕ) → ((k : ℕ) → f k < 256) → join4 f < 4294967296
 unfolding join4
@@ -19,7 +19,3 @@ byte-join4 f h (suc (suc (suc (suc k)))) t = absurd (omega arith)
 pub join4-zero : (f : ℕ → ℕ) → ((k : ℕ) → k < 4 → f k ≡ 0) → join4 f ≡ 0
 unfolding join4
 join4-zero f h = omega (arith, h 0 (omega arith), h 1 (omega arith), h 2 (omega arith), h 3 (omega arith))
-
-pub byte-join2 : (a b : ℕ) → a < 256 → b < 256 → (byte 0 (join2 a b) ≡ a) × (byte 1 (join2 a b) ≡ b)
-unfolding byte join2
-byte-join2 a b ha hb = (omega arith, omega arith)

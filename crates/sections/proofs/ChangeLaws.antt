@@ -1,22 +1,22 @@
 -- The changes: statuses in their range, lower parents, zeros elsewhere. Assumes nothing.
-use mathlib.Core.Path.{_≡_, refl, sym, _∙_, ap}
+use mathlib.Core.Path.{_≡_, sym, _∙_, ap}
 use mathlib.Core.Logic.{_≢_}
 use mathlib.Core.Bool.{Bool, true, false, not, cond, _||_}
 use mathlib.Core.List.{List, [], _∷_}
 use Prim.Native.Nat.{ℕ, zero, suc, _+_, _-_, _*_, _/_, _%_, _≤_, _<_}
-use native.Mathlib.Nat.{add-zero}
+use native.Mathlib.Nat.{add-zero, div-add-mod'}
 use native.Mathlib.Omega.{arith}
 use lib.Dec.{ltb, eqb}
-use lib.ListN.{getD, length}
-use lib.Seq.{ext-getD}
+use lib.ListN.{getD, length, getD-replicate}
 use borrow.Author.Tests.{eqb-true, ne-eqb, lt-ltb, le-ltb}
-use Rattle.rules.specs.Base.{allBelow, outside, table}
+use Rattle.rules.specs.Base.{allBelow, outside}
 use Rattle.rules.specs.Sound.{statusSound, parentSound}
 use Rattle.rules.proofs.BaseLaws.{and-four, or-right, allBelow-at, allBelow-intro, Same, same, other, same?, Below, under, over, below}
-use Rattle.layout.specs.Codec.{changeByte, changeSection}
-use Rattle.layout.proofs.SectionLaws.{length-table, getD-table0}
+use Rattle.layout.specs.Codec.{changeSection}
+use Rattle.layout.proofs.RecordLaws.{by-cells}
 use Rattle.cells.specs.Part.{byteIs}
 use Rattle.cells.proofs.ZeroLaws.{zeros-at, zeros-all}
+use Rattle.places.proofs.TableLaws.{change-places, change-read, status-read}
 use Rattle.sections.specs.Cells.{changeFits, nextFits}
 use Rattle.sections.specs.Sections.{ChangesSound}
 
@@ -78,19 +78,14 @@ module _ (bs : List ℕ) (size : length bs ≡ 1024) (given : ℕ) (most : given
       go (used n u f) (suc (suc (suc (suc j)))) p q = absurd (omega arith)
 
   changes-bytes : Tests → bs ≡ changeSection (part 0) (part 1)
-  unfolding changeSection changeByte
-  changes-bytes t = ext-getD 0 bs (table 1024 0 (changeByte (part 0) (part 1))) (size ∙ sym (length-table 1024 0 (changeByte (part 0) (part 1))))
-      (λ i h. let m : i < 1024 = rw size at h in sym (getD-table0 1024 (changeByte (part 0) (part 1)) i 0 m ∙ go i m (i % 4) refl))
+  changes-bytes t = by-cells 4 256 (omega arith) bs (λ c. part 0 c ∷ part 1 c ∷ 0 ∷ 0 ∷ []) size go ∙ sym (change-places (part 0) (part 1))
     where
-      at : (i k : ℕ) → i < 1024 → i % 4 ≡ k → getD bs (i / 4 * 4 + k) 0 ≡ getD bs i 0
-      at i k m e = let q : i / 4 * 4 + k ≡ i = omega arith in ap (λ x. getD bs x 0) q
-
-      go : (i : ℕ) → i < 1024 → (r : ℕ) → i % 4 ≡ r → getD (part 0 (i / 4) ∷ part 1 (i / 4) ∷ []) r 0 ≡ getD bs i 0
-      go i m zero e = part-at 0 (i / 4) (omega arith) ∙ at i 0 m e
-      go i m (suc zero) e = part-at 1 (i / 4) (omega arith) ∙ at i 1 m e
-      go i m (suc (suc zero)) e = sym (reserved t (i / 4) 2 (omega arith) (omega arith) (omega arith)) ∙ at i 2 m e
-      go i m (suc (suc (suc zero))) e = sym (reserved t (i / 4) 3 (omega arith) (omega arith) (omega arith)) ∙ at i 3 m e
-      go i m (suc (suc (suc (suc r)))) e = absurd (omega arith)
+      go : (c k : ℕ) → c < 256 → k < 4 → getD bs (c * 4 + k) 0 ≡ getD (part 0 c ∷ part 1 c ∷ 0 ∷ 0 ∷ []) k 0
+      go c zero h l = sym (part-at 0 c h)
+      go c (suc zero) h l = sym (part-at 1 c h)
+      go c (suc (suc zero)) h l = reserved t c 2 h (omega arith) l
+      go c (suc (suc (suc zero))) h l = reserved t c 3 h (omega arith) l
+      go c (suc (suc (suc (suc k)))) h l = absurd (omega arith)
 
   changes-of : Tests → ChangesSound bs given
   unfolding statusSound parentSound
@@ -108,32 +103,21 @@ module _ (bs : List ℕ) (size : length bs ≡ 1024) (given : ℕ) (most : given
       parent c (used n u f) = rw (part-at 1 c (omega arith)) (fits-parts c f .1)
 
   module _ (s : ChangesSound bs given) where
-    byte-at : (i : ℕ) → i < 1024 → getD bs i 0 ≡ getD (s .status (i / 4) ∷ s .parent (i / 4) ∷ []) (i % 4) 0
-    unfolding changeSection changeByte
-    byte-at i h = ap (λ l. getD l i 0) (s .bytes) ∙ getD-table0 1024 (changeByte (s .status) (s .parent)) i 0 h
-
     zero-of : (c : ℕ) → eqb c 0 || ltb given c ≡ true → (s .status c ≡ 0) × (s .parent c ≡ 0)
     unfolding statusSound parentSound
     zero-of c h = (eqb-true (s .status c) 0 (rw h at (s .statuses c)), eqb-true (s .parent c) 0 (rw h at (s .parents c)))
 
     zero-byte : (i : ℕ) → i < 1024 → eqb (i / 4) 0 || ltb given (i / 4) ≡ true → getD bs i 0 ≡ 0
-    zero-byte i h e = byte-at i h ∙ go (i % 4)
-      where
-        go : (r : ℕ) → getD (s .status (i / 4) ∷ s .parent (i / 4) ∷ []) r 0 ≡ 0
-        go zero = zero-of (i / 4) e .0
-        go (suc zero) = zero-of (i / 4) e .1
-        go (suc (suc r)) = refl
+    zero-byte i h e = ap (λ x. getD bs x 0) (sym (div-add-mod' i 4)) ∙ change-read bs (s .status) (s .parent) (i / 4) (s .bytes) (omega arith) (i % 4) (omega arith) ∙ rw (zero-of (i / 4) e .0, zero-of (i / 4) e .1) (getD-replicate 4 (i % 4) 0 0 (omega arith))
 
     fits-of : (c : ℕ) → c < given → nextFits bs c ≡ true
     unfolding nextFits changeFits statusSound parentSound
     fits-of c h =
-        let a : (c + 1) * 4 / 4 ≡ c + 1 = omega arith in let a′ : (c + 1) * 4 % 4 ≡ 0 = omega arith in
-        let b : ((c + 1) * 4 + 1) / 4 ≡ c + 1 = omega arith in let b′ : ((c + 1) * 4 + 1) % 4 ≡ 1 = omega arith in
-        let d′ : ((c + 1) * 4 + 2) % 4 ≡ 2 = omega arith in let e′ : ((c + 1) * 4 + 3) % 4 ≡ 3 = omega arith in
+        let read = change-read bs (s .status) (s .parent) (c + 1) (s .bytes) (omega arith) in
         let n : eqb (c + 1) 0 || ltb given (c + 1) ≡ false = rw (ne-eqb (c + 1) 0 (omega arith), le-ltb given (c + 1) (omega arith)) in
         let x : not (outside 1 5 (s .status (c + 1))) ≡ true = rw n at (s .statuses (c + 1)) in
         let y : ltb (s .parent (c + 1)) (c + 1) ≡ true = rw n at (s .parents (c + 1)) in
-        rw (byte-at ((c + 1) * 4) (omega arith), a, a′, x, byte-at ((c + 1) * 4 + 1) (omega arith), b, b′, y, byte-at ((c + 1) * 4 + 2) (omega arith), d′, byte-at ((c + 1) * 4 + 3) (omega arith), e′)
+        rw (status-read bs (s .status) (s .parent) (c + 1) (s .bytes) (omega arith), x, read 1 (omega arith), y, read 2 (omega arith), read 3 (omega arith))
 
     tests-of : Tests
     tests-of = record {

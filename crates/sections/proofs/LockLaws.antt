@@ -7,15 +7,14 @@ use Prim.Native.Nat.{ℕ, zero, suc, _+_, _-_, _*_, _/_, _%_, _^_, _≤_, _<_}
 use native.Mathlib.Omega.{arith}
 use lib.Dec.{leb, ltb, eqb}
 use lib.ListN.{getD, length}
-use lib.Seq.{ext-getD}
 use borrow.Author.Tests.{not-true, not-false, eqb-true, lt-ltb, le-ltb, ltb-true}
-use Rattle.rules.specs.Base.{allBelow, table}
+use Rattle.rules.specs.Base.{allBelow}
 use Rattle.rules.specs.Sets.{Set}
 use Rattle.rules.specs.Sound.{heldSound}
 use Rattle.rules.proofs.BaseLaws.{and-left, and-right, or-cases, no-true, allBelow-at, allBelow-intro, Same, same, other, same?, Below, under, over, below}
 use Rattle.layout.specs.Codec.{bit, pack, unpack, lockByte, lockSection}
 use Rattle.layout.proofs.CodecLaws.{pack-most, pack-same, pack-none, unpack-pack}
-use Rattle.layout.proofs.SectionLaws.{Bytes, length-table, getD-table0}
+use Rattle.layout.proofs.SectionLaws.{Bytes, getD-table0, table-list}
 use Rattle.cells.specs.Bits.{bytesHave}
 use Rattle.cells.specs.Part.{byteIs}
 use Rattle.cells.proofs.Digits.{unpack-zero, unpack-ext}
@@ -33,6 +32,20 @@ pub held-live : {bs : List ℕ} {entries : ℕ} {lives : Set} (s : LocksSound bs
 unfolding heldSound
 held-live {entries = entries} {lives = lives} s e c n = ⊎-elim (λ q. absurd (n (eqb-true (s .held e c) 0 q))) (λ q. (ltb-true e entries (and-left (ltb e entries) (lives c) q), and-right (ltb e entries) (lives c) q))
     (or-cases (eqb (s .held e c) 0) _ (and-right (leb (s .held e c) 2) _ (s .fine e c)))
+
+-- a bit of an entry's is the lock
+module _ {bs : List ℕ} {entries : ℕ} {lives : Set} (s : LocksSound bs entries lives) (e c : ℕ) (he : e < 256) (hc : c < 256) where
+  bit-read : (m at : ℕ) → m < 2 → at ≡ e * 64 + m * 32 → bytesHave bs at c ≡ eqb (s .held e c) (suc m)
+  unfolding lockBits
+  bit-read m at hm q = ap (λ l. bytesHave l at c) (s .bytes ∙ lock-bits (s .held)) ∙ bits-read (lockBits (s .held)) e m at he hm q c hc
+
+  reads-held : reads bs e c ≡ eqb (s .held e c) 1
+  unfolding reads
+  reads-held = bit-read 0 (e * 64) (omega arith) (omega arith)
+
+  pub writes-held : writes bs e c ≡ eqb (s .held e c) 2
+  unfolding writes
+  writes-held = bit-read 1 (e * 64 + 32) (omega arith) (omega arith)
 
 module _ (bs : List ℕ) (b : Bytes bs) (size : length bs ≡ 16384) (entries : ℕ) (lives : Set) (most : entries ≤ 256) where
   -- both tests
@@ -89,8 +102,7 @@ module _ (bs : List ℕ) (b : Bytes bs) (size : length bs ≡ 16384) (entries : 
 
   locks-bytes : LockTests → bs ≡ lockSection heldAt
   unfolding lockSection lockByte
-  locks-bytes t = ext-getD 0 bs (table 16384 0 (lockByte heldAt)) (size ∙ sym (length-table 16384 0 (lockByte heldAt)))
-      (λ i h. let m : i < 16384 = rw size at h in sym (getD-table0 16384 (lockByte heldAt) i 0 m ∙ go i m))
+  locks-bytes t = sym (table-list 0 bs (lockByte heldAt) size go)
     where
       one : (i j : ℕ) → i < 16384 → j < 8 → eqb (heldAt (i / 64) (i % 32 * 8 + j)) (suc (i % 64 / 32)) ≡ unpack (getD bs i 0) j
       one i j h l =
@@ -116,20 +128,10 @@ module _ (bs : List ℕ) (b : Bytes bs) (size : length bs ≡ 16384) (entries : 
       fine e c (under h) (over l) = unfold heldAt in rw (le-ltb c 256 l, and-false (ltb e 256))
 
   module _ (s : LocksSound bs entries lives) where
-    bit-read : (e c m : ℕ) → e < 256 → c < 256 → m < 2 → bytesHave bs (e * 64 + m * 32) c ≡ eqb (s .held e c) (suc m)
-    unfolding lockBits
-    bit-read e c m he hc hm = ap (λ l. bytesHave l (e * 64 + m * 32) c) (s .bytes ∙ lock-bits (s .held)) ∙ bits-read (lockBits (s .held)) e m (e * 64 + m * 32) he hm refl c hc
-
     row-of : (e : ℕ) → e < entries → rowFits bs lives e ≡ true
-    unfolding rowFits lockFits reads writes
-    row-of e he = allBelow-intro 256 _ (λ c hc. rw (first c hc, second c hc) (go c (s .held e c) refl (same? (s .held e c) 1) (same? (s .held e c) 2)))
+    unfolding rowFits lockFits
+    row-of e he = allBelow-intro 256 _ (λ c hc. rw (reads-held s e c (omega arith) hc, writes-held s e c (omega arith) hc) (go c (s .held e c) refl (same? (s .held e c) 1) (same? (s .held e c) 2)))
       where
-        first : (c : ℕ) → c < 256 → bytesHave bs (e * 64) c ≡ eqb (s .held e c) 1
-        first c hc = let q : e * 64 + c / 8 ≡ e * 64 + 0 * 32 + c / 8 = omega arith in ap (λ x. unpack (getD bs x 0) (c % 8)) q ∙ bit-read e c 0 (omega arith) hc (omega arith)
-
-        second : (c : ℕ) → c < 256 → bytesHave bs (e * 64 + 32) c ≡ eqb (s .held e c) 2
-        second c hc = let q : e * 64 + 32 + c / 8 ≡ e * 64 + 1 * 32 + c / 8 = omega arith in ap (λ x. unpack (getD bs x 0) (c % 8)) q ∙ bit-read e c 1 (omega arith) hc (omega arith)
-
         go : (c h : ℕ) → s .held e c ≡ h → {x y : Bool} → Same h 1 x → Same h 2 y → not (x && y || (x || y) && not (lives c)) ≡ true
         go c h q (same o) (same t) = absurd (omega arith)
         go c h q (same o) (other t) = rw (held-live s e c (λ z. omega (arith, q, z)) .1)

@@ -14,27 +14,19 @@ use Rattle.rules.specs.Sound.{recordSound}
 use Rattle.rules.proofs.BaseLaws.{allBelow-at, allBelow-intro}
 use Rattle.rules.proofs.ListLaws.{all-at, all-table}
 use Rattle.rules.proofs.SoundParts.{record-parts}
-use Rattle.layout.specs.Codec.{byte, join4, recordIn, noRecord, recordBytes, logByte, logSection, lockSection}
+use Rattle.layout.specs.Codec.{byte, join4, recordIn, noRecord, recordBytes, logByte, logSection}
 use Rattle.layout.proofs.RecordLaws.{placed, place-at, places-again, places-rest, first-byte}
 use Rattle.layout.proofs.SectionLaws.{Bytes, length-table}
 use Rattle.cells.specs.Part.{byteIs}
-use Rattle.cells.specs.Bits.{bytesHave}
 use Rattle.cells.proofs.ZeroLaws.{zeros-at, zeros-all}
-use Rattle.locks.proofs.BitLaws.{lockBits, lock-bits, bits-read}
 use Rattle.sections.specs.Cells.{writes, recordFits}
 use Rattle.sections.specs.Sections.{LocksSound, LogSound}
 use Rattle.sections.proofs.ByteLaws.{join4-below, byte-join4}
-use Rattle.sections.proofs.LockLaws.{held-live}
+use Rattle.sections.proofs.LockLaws.{held-live, writes-held}
 
 -- the log record at a place of its section
 abbrev recordAt : List ℕ → ℕ → LogRecord
 recordAt bs = recordIn (λ i. getD bs i 0)
-
--- a writer's bit is the write lock
-writes-held : (locks : List ℕ) (held : ℕ → ℕ → ℕ) → locks ≡ lockSection held → (e c : ℕ) → e < 256 → c < 256 → writes locks e c ≡ eqb (held e c) 2
-unfolding writes lockBits
-writes-held locks held q e c he hc = let p : e * 64 + 32 ≡ e * 64 + 1 * 32 = omega arith in
-    ap (λ l. bytesHave l (e * 64 + 32) c) (q ∙ lock-bits held) ∙ bits-read (lockBits held) e 1 (e * 64 + 32) he (omega arith) p c hc
 
 -- `noRecord` is zeros
 blank : recordBytes noRecord ≡ replicate 6 0
@@ -64,7 +56,7 @@ module _ (bs : List ℕ) (b : Bytes bs) (size : length bs ≡ 12288) (n : ℕ) (
   record-fine j h =
       let o = getD bs (j * 6) 0 in
       let e = getD bs (j * 6 + 1) 0 in
-      let w : eqb (z .held e o) 2 ≡ true = sym (writes-held locks (z .held) (z .bytes) e o (b (j * 6 + 1)) (b (j * 6))) ∙ h in
+      let w : eqb (z .held e o) 2 ≡ true = sym (writes-held z e o (b (j * 6 + 1)) (b (j * 6))) ∙ h in
       let two : z .held e o ≡ 2 = eqb-true (z .held e o) 2 w in
       let l = held-live z e o (λ none. omega (arith, two, none)) in
       rw (l .1, lt-ltb e entries (l .0), lt-ltb (join4 (λ k. getD bs (j * 6 + (k + 2)) 0)) 4294967296 (join4-below (λ k. getD bs (j * 6 + (k + 2)) 0) (λ k. b (j * 6 + (k + 2)))), w)
@@ -81,7 +73,7 @@ module _ (bs : List ℕ) (b : Bytes bs) (size : length bs ≡ 12288) (n : ℕ) (
   module _ (s : LogSound bs n entries lives (z .held)) where
     byte-at : (j k : ℕ) → j < 2048 → k < 6 → getD bs (j * 6 + k) 0 ≡ getD (recordBytes (getD (s .log) j noRecord)) k 0
     unfolding logSection logByte placed
-    byte-at j k h l = ap (λ x. getD x (j * 6 + k) 0) (s .bytes) ∙ place-at 6 (omega arith) recordBytes noRecord 2048 (s .log) j k h l
+    byte-at j k h l = ap (λ x. getD x (j * 6 + k) 0) (s .bytes) ∙ place-at 6 recordBytes noRecord 2048 (s .log) j k h l
 
     fits-of : (j : ℕ) → j < n → recordFits bs locks j ≡ true
     unfolding recordFits recordBytes
@@ -90,7 +82,7 @@ module _ (bs : List ℕ) (b : Bytes bs) (size : length bs ≡ 12288) (n : ℕ) (
         let x = record-parts entries lives (z .held) r (all-at (recordSound entries lives (z .held)) noRecord (s .log) (s .fine) j (rw (s .size) h)) in
         let o : getD bs (j * 6) 0 ≡ r .owner = first-byte (λ i. getD bs i 0) (j * 6) ∙ byte-at j 0 (omega arith) (omega arith) in
         let e : getD bs (j * 6 + 1) 0 ≡ r .entry = byte-at j 1 (omega arith) (omega arith) in
-        let w : writes locks (r .entry) (r .owner) ≡ true = writes-held locks (z .held) (z .bytes) (r .entry) (r .owner) (rw e at (b (j * 6 + 1))) (rw o at (b (j * 6))) ∙ x .3 in
+        let w : writes locks (r .entry) (r .owner) ≡ true = writes-held z (r .entry) (r .owner) (rw e at (b (j * 6 + 1))) (rw o at (b (j * 6))) ∙ x .3 in
         rw (o, e, w)
 
     rest-of : (i : ℕ) → n * 6 ≤ i → i < 12288 → getD bs i 0 ≡ 0

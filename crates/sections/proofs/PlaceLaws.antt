@@ -7,17 +7,20 @@ use Prim.Native.Nat.{ℕ, _+_, _-_, _*_, _/_, _%_, _^_, _≤_, _<_}
 use native.Mathlib.Omega.{arith}
 use lib.Dec.{ltb, eqb}
 use lib.ListN.{getD, length}
-use lib.Seq.{ext-getD}
 use borrow.Author.Tests.{lt-ltb}
-use Rattle.rules.specs.Base.{allBelow, table}
+use Rattle.rules.specs.Base.{allBelow}
 use Rattle.rules.specs.Sound.{valueSound}
 use Rattle.rules.proofs.BaseLaws.{Below, under, over, below}
 use Rattle.rules.proofs.SoundParts.{no-value}
 use Rattle.layout.specs.Codec.{byte, join4, valueByte, lineByte, valueSection, lineSection}
 use Rattle.layout.proofs.CodecLaws.{byte-zero}
-use Rattle.layout.proofs.SectionLaws.{Bytes, length-table, getD-table0}
+use Rattle.layout.proofs.RecordLaws.{by-cells}
+use Rattle.layout.proofs.SectionLaws.{Bytes, getD-table0, table-list}
 use Rattle.cells.specs.Part.{byteIs}
+use Rattle.cells.specs.Num.{le}
+use Rattle.cells.proofs.NumLaws.{le-byte}
 use Rattle.cells.proofs.ZeroLaws.{zeros-at, zeros-all}
+use Rattle.places.proofs.TableLaws.{value-places}
 use Rattle.sections.specs.Sections.{ValuesSound}
 use Rattle.sections.proofs.ByteLaws.{join4-below, byte-join4, join4-zero}
 
@@ -27,13 +30,9 @@ module _ (bs : List ℕ) (b : Bytes bs) (size : length bs ≡ 1024) (entries : �
   valueAt e = cond (ltb e 256) (join4 (λ k. getD bs (e * 4 + k) 0)) 0
 
   values-bytes : bs ≡ valueSection valueAt
-  unfolding valueSection valueByte valueAt
-  values-bytes = ext-getD 0 bs (table 1024 0 (valueByte valueAt)) (size ∙ sym (length-table 1024 0 (valueByte valueAt)))
-      (λ i h. let m : i < 1024 = rw size at h in sym (getD-table0 1024 (valueByte valueAt) i 0 m ∙ go i m))
-    where
-      go : (i : ℕ) → i < 1024 → byte (i % 4) (cond (ltb (i / 4) 256) (join4 (λ k. getD bs (i / 4 * 4 + k) 0)) 0) ≡ getD bs i 0
-      go i m = let q : i / 4 * 4 + i % 4 ≡ i = omega arith in
-          rw (lt-ltb (i / 4) 256 (omega arith)) (byte-join4 (λ k. getD bs (i / 4 * 4 + k) 0) (λ k. b (i / 4 * 4 + k)) (i % 4) (omega arith) ∙ ap (λ x. getD bs x 0) q)
+  unfolding valueAt
+  values-bytes = by-cells 4 256 (omega arith) bs (λ e. le 4 (valueAt e)) size
+      (λ e k h t. sym (le-byte 4 k (valueAt e) t ∙ rw (lt-ltb e 256 h) (byte-join4 (λ j. getD bs (e * 4 + j) 0) (λ j. b (e * 4 + j)) k t))) ∙ sym (value-places valueAt)
 
   values-fine : allBelow (1024 - entries * 4) (byteIs bs (entries * 4) 0) ≡ true → (e : ℕ) → valueSound entries valueAt e ≡ true
   unfolding valueSound valueAt
@@ -60,7 +59,6 @@ module _ (bs : List ℕ) (b : Bytes bs) (size : length bs ≡ 1024) (entries : �
 pub line-sound : (bs : List ℕ) → length bs ≡ 1024 → allBelow (1024 - 0) (byteIs bs 0 0) ≡ true ↔ bs ≡ lineSection
 unfolding lineSection lineByte
 line-sound bs size = (
-  λ z. ext-getD 0 bs (table 1024 0 lineByte) (size ∙ sym (length-table 1024 0 lineByte))
-      (λ i h. let m : i < 1024 = rw size at h in zeros-at bs 0 1024 z i (omega arith) m ∙ sym (getD-table0 1024 lineByte i 0 m)),
+  λ z. sym (table-list 0 bs lineByte size (λ i h. sym (zeros-at bs 0 1024 z i (omega arith) h))),
   λ e. zeros-all bs 0 1024 (λ i h t. ap (λ l. getD l i 0) e ∙ getD-table0 1024 lineByte i 0 t),
 )

@@ -17,6 +17,7 @@ use Rattle.rules.proofs.SetLaws.{closure-holds, closure-closed, closure-to}
 use Rattle.layout.specs.Codec.{noTie, tieSection}
 use Rattle.layout.specs.Records.{tieAt}
 use Rattle.layout.proofs.ReadLaws.{Stands, tied-place, tied-at, section-read, section-ends}
+use Rattle.layout.proofs.SectionLaws.{Bytes}
 use Rattle.passes.specs.Passes.{follows, placeFrom, tieFrom, passed}
 use Rattle.passes.proofs.PassLaws.{follows-of, follows-low, follows-high, Inside, passed-keeps, pulled-follower, pulled-leader, pulled-within, Stable, Growing, place-below, growing-on, growing-end}
 use Rattle.sets.specs.declared.Along.{Along}
@@ -85,13 +86,13 @@ module _ (ts : List TieRecord) where
   by-wait Arrows l j h e = or-right (grouped ts (getD ts j noTie .leader) (getD ts j noTie .follower)) _ (tied-at ts isArrow j h (or-left (isWait (getD ts j noTie .kind)) (isFall (getD ts j noTie .kind)) e))
 
   -- a tie that is gone along
-  pub relation-on : (along : Along) (j : ℕ) → j < length ts → follows (lowKind along) (getD ts j noTie .kind) ≡ true → relation along ts (getD ts j noTie .leader) (getD ts j noTie .follower) ≡ true
+  relation-on : (along : Along) (j : ℕ) → j < length ts → follows (lowKind along) (getD ts j noTie .kind) ≡ true → relation along ts (getD ts j noTie .leader) (getD ts j noTie .follower) ≡ true
   unfolding grouped
   relation-on along j h e = ⊎-elim (λ g. by-group along _ _ (or-left (tied ts isGroup (getD ts j noTie .leader) (getD ts j noTie .follower)) _ (tied-at ts isGroup j h g)))
       (⊎-elim (λ m. by-fall along (m .0) j h (m .1)) (λ m. by-wait along (m .0) j h (m .1))) (kind-cases along (getD ts j noTie .kind) e)
 
   -- a group tie back
-  pub relation-back : (along : Along) (j : ℕ) → j < length ts → isGroup (getD ts j noTie .kind) ≡ true → relation along ts (getD ts j noTie .follower) (getD ts j noTie .leader) ≡ true
+  relation-back : (along : Along) (j : ℕ) → j < length ts → isGroup (getD ts j noTie .kind) ≡ true → relation along ts (getD ts j noTie .follower) (getD ts j noTie .leader) ≡ true
   unfolding grouped
   relation-back along j h e = by-group along _ _ (or-right (tied ts isGroup (getD ts j noTie .follower) (getD ts j noTie .leader)) _ (tied-at ts isGroup j h e))
 
@@ -108,7 +109,7 @@ module _ (ts : List TieRecord) where
   group-step along a b e = ⊎-elim (λ q. inl (on-kind (group-follows along) (tied-place ts isGroup a b q))) (λ q. inr (tied-place ts isGroup b a q)) (or-cases (tied ts isGroup a b) (tied ts isGroup b a) e)
 
   -- each step of the relation is one
-  pub relation-step : (along : Along) (a b : ℕ) → relation along ts a b ≡ true → Step along a b
+  relation-step : (along : Along) (a b : ℕ) → relation along ts a b ≡ true → Step along a b
   unfolding relation falling leading
   relation-step Groups a b e = group-step Groups a b e
   relation-step Falls a b e = ⊎-elim (group-step Falls a b) (λ q. inl (on-kind fall-follows (tied-place ts isFall a b q))) (or-cases (grouped ts a b) (tied ts isFall a b) e)
@@ -130,10 +131,10 @@ module _ (ts : List TieRecord) where
         (λ f e. closure-closed m (relation along ts) seed _ _ (ends j h .1) (ends j h .0) e (relation-back along j h f))
 
     -- so the two are the same set
-    pub stable-closure : (k : ℕ) → r k ≡ closure m (relation along ts) seed k
+    stable-closure : (k : ℕ) → r k ≡ closure m (relation along ts) seed k
     stable-closure k = both-ways (r k) (closure m (relation along ts) seed k)
         (g .least (closure m (relation along ts) seed) stable (closure-holds m (relation along ts) seed) k)
-        (closure-to m (relation along ts) (λ d. r d ≡ true) onward seed (g .holds) k)
+        (closure-to m (relation along ts) (λ d. r d ≡ true) (λ a b h. onward a b) seed (g .holds) k)
 
 -- OVER THE BYTES
 -- ties that are the same add the same
@@ -141,7 +142,7 @@ stable-same : (low n : ℕ) (t v : ℕ → TieRecord) (u : Set) → ((j : ℕ) �
 stable-same low n t v u e z j h k q = z j h k (rw (e j h) q)
 
 -- the least stable set is the closure along the ties that a section holds
-pub section-closure : (along : Along) (bs : List ℕ) (ts : List TieRecord) (n : ℕ) (seed r : Set) → ((i : ℕ) → getD bs i 0 < 256) → 4 * n ≤ length bs → length ts ≡ n → bs ≡ tieSection ts
+pub section-closure : (along : Along) (bs : List ℕ) (ts : List TieRecord) (n : ℕ) (seed r : Set) → Bytes bs → 4 * n ≤ length bs → length ts ≡ n → bs ≡ tieSection ts
     → Growing (lowKind along) (tieAt bs) n seed r → Stable (lowKind along) (tieAt bs) n r → (k : ℕ) → r k ≡ closure 256 (relation along ts) seed k
 section-closure along bs ts n seed r bytes room len e g z = stable-closure ts 256 along (λ j h. section-ends bs ts n room e bytes j (omega arith)) seed r
     (record { holds = g .holds; least = λ u w. g .least u (stable-same (lowKind along) n (λ j. getD ts j noTie) (tieAt bs) u (λ j h. sym (section-read bs ts n room e j h)) (rw len at w)) })
@@ -178,6 +179,6 @@ module _ (low : ℕ) (bs : List ℕ) (n : ℕ) (back : Bool) (s r : Set) (p : r 
   pass-stable h i l = rw (place-again back n i l) at (growing-end low (tieFrom back bs n) n s r (λ k w. rw p w) h (placeFrom back n i) (place-below back n i l))
 
   -- so it has come to the closure
-  pub closed-section : (along : Along) (ts : List TieRecord) (seed : Set) → low ≡ lowKind along → ((i : ℕ) → getD bs i 0 < 256) → 4 * n ≤ length bs → length ts ≡ n → bs ≡ tieSection ts
+  pub closed-section : (along : Along) (ts : List TieRecord) (seed : Set) → low ≡ lowKind along → Bytes bs → 4 * n ≤ length bs → length ts ≡ n → bs ≡ tieSection ts
       → Growing low (tieAt bs) n seed s → ((k : ℕ) → r k ≡ s k) → (k : ℕ) → r k ≡ closure 256 (relation along ts) seed k
   closed-section along ts seed e bytes room len eb g h = section-closure along bs ts n seed r bytes room len eb (rw e at (pass-grows seed g)) (rw e at (pass-stable h))

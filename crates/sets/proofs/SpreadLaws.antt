@@ -2,7 +2,7 @@
 use mathlib.Core.Path.{_≡_, refl, sym, ap₂, _∙_}
 use mathlib.Core.Bool.{Bool, true, false, not, _&&_, _||_, false≢true, and-false}
 use mathlib.Core.List.{List, [], _∷_}
-use mathlib.Core.Logic.{_⊎_, inl, inr, ⊎-elim}
+use mathlib.Core.Logic.{⊎-elim}
 use Prim.Native.Nat.{ℕ, _+_, _-_, _*_, _/_, _%_, _≤_, _<_}
 use native.Mathlib.Decide.{decLt}
 use native.Mathlib.Omega.{arith}
@@ -16,6 +16,7 @@ use Rattle.rules.specs.Ties.{isGroup}
 use Rattle.rules.proofs.BaseLaws.{or-left, or-right, or-cases, and-both, and-left, and-right, eqb-same, no-true, count-le, Within, Same, same, other, same?, any-intro, any-elim}
 use Rattle.layout.specs.Codec.{unpack, tieSection}
 use Rattle.layout.specs.Records.{tieAt}
+use Rattle.layout.proofs.SectionLaws.{Bytes}
 use Rattle.cells.proofs.Digits.{unpack-zero}
 use Rattle.passes.specs.Passes.{follows}
 use Rattle.passes.specs.TieRows.{goneAlong, goneAt, goneIn, rowHas}
@@ -28,11 +29,6 @@ use Rattle.sets.proofs.WalkLaws.{Lowest, lowest-of, rest-without}
 use Rattle.sets.proofs.MemberLaws.{four-words}
 use Rattle.sets.proofs.Words.{ofWords}
 use Rattle.sets.proofs.ClosureLaws.{section-closure}
-
--- a test is true or false
-either : (b : Bool) → (b ≡ true) ⊎ (b ≡ false)
-either true = inl refl
-either false = inr refl
 
 -- ROWS
 -- rows of zeros hold nothing
@@ -107,14 +103,14 @@ module _ (rows : List ℕ) (seed s left : Set) (c : ℕ) (g : Spreading rows see
     where
       after : (a b : ℕ) → s′ a ≡ true → left′ a ≡ false → rowHas rows a b ≡ true → {t : Bool} → Same a c t → s′ b ≡ true
       after a b p q r (same e) = es b ∙ or-right (s b) (row b) (er b ∙ (rw e at r))
-      after a b p q r (other n) = ⊎-elim old (λ m. go (either (s a)) m) (or-cases (s a) (row a) (sym (es a) ∙ p))
+      after a b p q r (other n) = ⊎-elim old (go (s a) refl) (or-cases (s a) (row a) (sym (es a) ∙ p))
         where
           old : s a ≡ true → s′ b ≡ true
           old m = keeps b (g .done a b m (no-true (left a) (λ t. false≢true (sym q ∙ el a ∙ or-left (rest a) (fresh a) (rest-without left c (g .lowest) rest et a ∙ rw (ne-eqb a c n, t))))) r)
 
-          go : (s a ≡ true) ⊎ (s a ≡ false) → row a ≡ true → s′ b ≡ true
-          go (inl m) _ = old m
-          go (inr m) t = absurd (false≢true (sym q ∙ el a ∙ or-right (rest a) (fresh a) (ef a ∙ rw (t, m))))
+          go : (in-s : Bool) → s a ≡ in-s → row a ≡ true → s′ b ≡ true
+          go true m _ = old m
+          go false m t = absurd (false≢true (sym q ∙ el a ∙ or-right (rest a) (fresh a) (ef a ∙ rw (t, m))))
 
   -- and more rows have been taken in, which leaves fewer of the 256
   pub spreading-less : 256 - countBelow 256 (λ k. s′ k && not (left′ k)) < 256 - countBelow 256 (λ k. s k && not (left k))
@@ -153,10 +149,10 @@ module _ (low : ℕ) (bs : List ℕ) (n : ℕ) (rows : List ℕ) (is : (x y : �
       rw (eqb-true y (tieAt bs j .leader) (and-left _ (isGroup (tieAt bs j .kind)) f)) (w j h _ (pulled-leader low (tieAt bs j) u (and-right (eqb y (tieAt bs j .leader)) _ f) (rw (eqb-true x (tieAt bs j .follower) (and-left _ _ a)) at p))))
       (or-cases _ _ q)
 
-  pub spread-grows : Growing low (tieAt bs) n seed r
+  spread-grows : Growing low (tieAt bs) n seed r
   spread-grows = record { holds = z .holds; least = λ u w. z .least u (of-row u w) }
 
-  pub spread-stable : Stable low (tieAt bs) n r
+  spread-stable : Stable low (tieAt bs) n r
   unfolding goneAlong
   spread-stable j h = pulled-within low (tieAt bs j) r r (λ k e. e)
       (λ f e. z .closed l o e (in-row j l o h (or-left (eqb l l && (eqb o o && follows low (tieAt bs j .kind))) _ (and-both (eqb l l) _ (eqb-same l) (and-both (eqb o o) _ (eqb-same o) f)))))
@@ -169,7 +165,7 @@ module _ (low : ℕ) (bs : List ℕ) (n : ℕ) (rows : List ℕ) (is : (x y : �
       o = tieAt bs j .follower
 
 -- what spreads along rows of zeros in which the ties of a section were noted is the closure
-pub spread-section : (along : Along) (low : ℕ) (bs : List ℕ) (ts : List TieRecord) (n : ℕ) (rows : List ℕ) (seed r : Set) → low ≡ lowKind along → ((i : ℕ) → getD bs i 0 < 256) → 4 * n ≤ length bs → length ts ≡ n → bs ≡ tieSection ts
+pub spread-section : (along : Along) (low : ℕ) (bs : List ℕ) (ts : List TieRecord) (n : ℕ) (rows : List ℕ) (seed r : Set) → low ≡ lowKind along → Bytes bs → 4 * n ≤ length bs → length ts ≡ n → bs ≡ tieSection ts
     → ((x y : ℕ) → rowHas rows x y ≡ rowHas (replicate 1024 0) x y || goneIn low bs n x y) → Spread rows seed r → (k : ℕ) → r k ≡ closure 256 (relation along ts) seed k
 spread-section along low bs ts n rows seed r q bytes room len e is z = section-closure along bs ts n seed r bytes room len e (rw q at (spread-grows low bs n rows noted-as seed r z)) (rw q at (spread-stable low bs n rows noted-as seed r z))
   where

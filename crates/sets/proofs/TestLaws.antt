@@ -12,10 +12,9 @@ use lib.Dec.{eqb}
 use lib.ListN.{length, getD}
 use lib.Seq.{ext-getD}
 use Rattle.rules.specs.Base.{anyBelow, allBelow, lowestBelow}
-use Rattle.rules.proofs.BaseLaws.{both-ways, none-below, anyBelow-none}
+use Rattle.rules.proofs.BaseLaws.{both-ways, none-below, anyBelow-none, eqb-iff}
 use Rattle.layout.specs.Codec.{unpack}
 use Rattle.cells.proofs.Digits.{unpack-zero, unpack-ext, trailing-hit}
-use Rattle.words.proofs.BitLaws.{eqb-iff}
 use Rattle.sets.specs.Members.{members, agree}
 use Rattle.sets.specs.declared.ChangeSet.{ChangeSet}
 use Rattle.rules.proofs.BoundLaws.{lowest-is}
@@ -28,6 +27,21 @@ united w = bitOr (bitOr (bitOr (getD w 0 0) (getD w 1 0)) (getD w 2 0)) (getD w 
 
 abbrev apart : List ℕ → List ℕ → ℕ
 apart a b = bitOr (bitOr (bitOr (bitXor (getD a 0 0) (getD b 0 0)) (bitXor (getD a 1 0) (getD b 1 0))) (bitXor (getD a 2 0) (getD b 2 0))) (bitXor (getD a 3 0) (getD b 3 0))
+
+-- where each word is 0 the lowest member is 256, and there is nothing to take away
+module _ (s : ChangeSet) (len : length (s .words) ≡ 4) (z : (i : ℕ) → i < 4 → getD (s .words) i 0 ≡ 0) where
+  pub lowest-nothing : 256 ≡ lowestBelow 256 (members s)
+  lowest-nothing = sym (lowest-is (members s) 256 256 (omega arith) (λ q. absurd (omega arith)) (λ k q. words-none s len z k))
+
+  pub rest-nothing : (k : ℕ) → members s k ≡ not (eqb k (lowestBelow 256 (members s))) && members s k
+  rest-nothing k = rw (words-none s len z k, and-false (not (eqb k (lowestBelow 256 (members s)))))
+
+-- the first word that is not 0 holds the lowest member
+pub lowest-word : (s : ChangeSet) (i r : ℕ) → getD (s .words) i 0 < 2 ^ 64 → i < 4 → 0 < getD (s .words) i 0 → ((j : ℕ) → j < i → getD (s .words) j 0 ≡ 0)
+    → 64 * i + trailingZeros 64 (getD (s .words) i 0) ≡ r → r ≡ lowestBelow 256 (members s)
+lowest-word s i r fits h p z e =
+    let l = low-at s i h fits p z in
+    sym (lowest-is (members s) 256 r (omega (arith, l .0)) (λ q. rw (← e) (l .1)) (λ k q. l .2 k (omega arith)))
 
 module _ (s : ChangeSet) (len : length (s .words) ≡ 4) (fits : (i : ℕ) → getD (s .words) i 0 < 2 ^ 64) where
   -- a set with no member has words that are 0
@@ -42,16 +56,6 @@ module _ (s : ChangeSet) (len : length (s .words) ≡ 4) (fits : (i : ℕ) → g
       rw (none-below 256 (members s) (λ k h q. false≢true (sym (words-none s len (each-of-4 (λ (i : ℕ). getD (s .words) i 0 ≡ 0) (z .0) (z .1) (z .2) (z .3)) k) ∙ q))))
       (λ e. let z = none-zero (not-true _ e) in
       eq-eqb (united (s .words)) 0 (rw (z 0 (omega arith), z 1 (omega arith), z 2 (omega arith), z 3 (omega arith))))
-
-  -- the first word that is not 0 holds the lowest member
-  pub lowest-word : (i r : ℕ) → i < 4 → 0 < getD (s .words) i 0 → ((j : ℕ) → j < i → getD (s .words) j 0 ≡ 0) → 64 * i + trailingZeros 64 (getD (s .words) i 0) ≡ r → r ≡ lowestBelow 256 (members s)
-  lowest-word i r h p z e =
-      let l = low-at s i h (fits i) p z in
-      sym (lowest-is (members s) 256 r (omega (arith, l .0)) (λ q. rw (← e) (l .1)) (λ k q. l .2 k (omega arith)))
-
-  -- where each word is 0 the answer is 256
-  pub lowest-nothing : ((i : ℕ) → i < 4 → getD (s .words) i 0 ≡ 0) → 256 ≡ lowestBelow 256 (members s)
-  lowest-nothing z = sym (lowest-is (members s) 256 256 (omega arith) (λ q. absurd (omega arith)) (λ k q. words-none s len z k))
 
   -- without the lowest bit of the first word that is not 0, the words hold all members but the lowest
   module _ (i v : ℕ) (ws : List ℕ) (h : i < 4) (some : 0 < getD (s .words) i 0) (zeros : (j : ℕ) → j < i → getD (s .words) j 0 ≡ 0)
@@ -68,12 +72,8 @@ module _ (s : ChangeSet) (len : length (s .words) ≡ 4) (fits : (i : ℕ) → g
         go (no n) = rw (elsewhere g hg n, place s g j hj, ne-eqb (64 * g + j) (64 * i + low) (λ q. n (omega (arith, trailing-hit 64 (getD (s .words) i 0) (fits i) some .0))))
 
     pub rest-words : (k : ℕ) → members (ofWords ws) k ≡ not (eqb k (lowestBelow 256 (members s))) && members s k
-    rest-words k = rw (← lowest-word i (64 * i + low) h some zeros refl)
+    rest-words k = rw (← lowest-word s i (64 * i + low) (fits i) h some zeros refl)
         (words-are ws (λ k. not (eqb k (64 * i + low)) && members s k) four (λ k l. rw (members-above s len k l, and-false (not (eqb k (64 * i + low))))) word-but k)
-
-  -- where each word is 0 there is nothing to take away
-  pub rest-nothing : ((i : ℕ) → i < 4 → getD (s .words) i 0 ≡ 0) → (k : ℕ) → members s k ≡ not (eqb k (lowestBelow 256 (members s))) && members s k
-  rest-nothing z k = rw (words-none s len z k, and-false (not (eqb k (lowestBelow 256 (members s)))))
 
 -- the words joined by `^` are all 0 just where the members agree
 pub equal-test : (s t : ChangeSet) → length (s .words) ≡ 4 → length (t .words) ≡ 4 → ((i : ℕ) → getD (s .words) i 0 < 2 ^ 64) → ((i : ℕ) → getD (t .words) i 0 < 2 ^ 64)

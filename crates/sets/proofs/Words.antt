@@ -6,14 +6,14 @@ use Prim.Native.Nat.{ℕ, zero, suc, _+_, _-_, _*_, _/_, _%_, _^_, _<_}
 use native.Mathlib.Decide.{decLt}
 use native.Mathlib.Omega.{arith}
 use borrow.Author.Count.{below-none, below-more}
-use lib.Bits.{bitOr, bitXor, or-add-and, xor-add-and, and-le-l, and-le-r}
+use lib.Bits.{bitOr, bitXor, xor-add-and, and-le-l, and-le-r}
 use lib.Count.{ones, ones-step, ones-le, trailingZeros}
-use lib.Dec.{eqb}
 use lib.ListN.{length, getD}
 use Rattle.rules.specs.Base.{countBelow}
 use Rattle.rules.proofs.BoundLaws.{count-ext, count-add}
 use Rattle.layout.specs.Codec.{bit, unpack}
-use Rattle.cells.proofs.Digits.{Digit, none, one, digit, unpack-first, unpack-next, unpack-zero, trailing-hit, trailing-below}
+use Rattle.cells.proofs.Digits.{digit, digit-bit, unpack-first, unpack-next, unpack-zero, trailing-hit, trailing-below}
+use Rattle.cells.proofs.ZeroLaws.{or-zero}
 use Rattle.words.specs.Members.{wordsHave}
 use Rattle.words.proofs.BitLaws.{words-joined}
 use Rattle.sets.specs.Members.{members}
@@ -54,10 +54,7 @@ pub join-words : (f : ℕ → ℕ → ℕ) (P : Bool → Bool → Bool) → P fa
 unfolding members
 join-words f P nothing s t = words-joined f P nothing (s .words) (t .words)
 
--- `|` and `^` that come to 0
-or-zero : (a b : ℕ) → bitOr a b ≡ 0 → (a ≡ 0) × (b ≡ 0)
-or-zero a b e = (omega (arith, or-add-and a b, and-le-l a b, and-le-r a b), omega (arith, or-add-and a b, and-le-l a b, and-le-r a b))
-
+-- a `^` that comes to 0
 pub xor-zero : (a b : ℕ) → bitXor a b ≡ 0 → a ≡ b
 xor-zero a b e = omega (arith, xor-add-and a b, and-le-l a b, and-le-r a b)
 
@@ -88,11 +85,7 @@ low-at s i h fits p z = (omega (arith, hit .0), place s i (trailingZeros 64 w) (
         let r : k - 64 * i < trailingZeros 64 w = omega arith in
         ap (members s) q ∙ place s i (k - 64 * i) (omega (arith, hit .0)) ∙ trailing-below 64 w (k - 64 * i) r
 
--- the digits that are set, counted in one word and in four
-ones-digit : {d : ℕ} → Digit d → d ≡ bit (eqb d 1)
-ones-digit none = refl
-ones-digit one = refl
-
+-- THE DIGITS THAT ARE SET, counted in one word and in four
 -- how many of the numbers below a bound pass, the first counted apart
 count-first : (p : ℕ → Bool) (n : ℕ) → countBelow (suc n) p ≡ bit (p 0) + countBelow n (λ k. p (suc k))
 unfolding countBelow
@@ -114,7 +107,7 @@ unfolding countBelow
 ones-count zero w h = let e : w ≡ 0 = omega arith in rw e (omega (arith, ones-le 0 0 (omega arith)))
 ones-count (suc n) w h =
     ones-step w
-    ∙ ap₂ (λ (x y : ℕ). x + y) (ones-digit (digit w) ∙ ap bit (sym (unpack-first w)))
+    ∙ ap₂ (λ (x y : ℕ). x + y) (digit-bit (digit w) ∙ ap bit (sym (unpack-first w)))
     (ones-count n (w / 2) (omega arith) ∙ count-ext (unpack (w / 2)) (λ k. unpack w (suc k)) n (λ k l. sym (unpack-next w k)))
     ∙ sym (count-first (unpack w) n)
 

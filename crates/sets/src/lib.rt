@@ -66,6 +66,16 @@ impl ChangeSet {
         ChangeSet::single(c).unite(self)
     }
 
+    // The set, with c where a test passed.
+    pub fn add_if(self, c: u8, test: bool) -> ChangeSet
+        ensures { λ r. ⌜ ((k : ℕ) → members r k ≡ members self k || eqb c k && test) ⌝ }
+    {
+        if test {
+            return self.add(c);
+        }
+        self
+    }
+
     // The set without c.
     pub fn without(self, c: u8) -> ChangeSet
         ensures { λ r. ⌜ ((k : ℕ) → members r k ≡ not (eqb k c) && members self k) ⌝ }

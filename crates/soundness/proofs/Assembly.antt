@@ -4,7 +4,7 @@ use mathlib.Core.Bool.{true, not, _&&_}
 use mathlib.Core.List.{List, [], _∷_, _++_}
 use Prim.Native.Nat.{ℕ, suc}
 use native.Mathlib.Omega.{arith}
-use lib.ListN.{length, take, drop}
+use lib.ListN.{length}
 use borrow.Author.Tests.{lt-ltb, ltb-true}
 use Rattle.rules.specs.Base.{all}
 use Rattle.rules.specs.Window.{limits, Window, live, lives}
@@ -13,12 +13,12 @@ use Rattle.rules.specs.Locks.{clashesPermitted}
 use Rattle.rules.specs.Ties.{acyclic}
 use Rattle.rules.proofs.BaseLaws.{and-both, over-false, within-of}
 use Rattle.rules.proofs.SoundParts.{Sound, ends-below, held-most, held-no-change, fits-all, fit-locks}
-use Rattle.layout.specs.Codec.{headAt, headSize, valuesAt, valuesSize, changesAt, changesSize, lineAt, lineSize, locksAt, locksSize, permitsAt, permitsSize, tiesAt, tiesSize, logAt, logSize, windowSize, figures, headSection, lay, encode, decode}
+use Rattle.layout.specs.Codec.{headAt, headSize, changesAt, changesSize, windowSize, figures, headSection, lay, encode, decode}
 use Rattle.layout.specs.Memory.{soundBytes}
 use Rattle.layout.specs.Records.{endsBelow}
 use Rattle.layout.proofs.SoundCodec.{entries-most, given-most}
-use Rattle.layout.proofs.MemoryLaws.{encode-sound, bytes-sound, part-of}
-use Rattle.layout.proofs.PartLaws.{head-part, values-part, changes-part, line-part, locks-part, permits-part, ties-part, log-part, eight-parts}
+use Rattle.layout.proofs.MemoryLaws.{encode-sound, bytes-sound, head-known as head-bytes, values-known, changes-known as changes-bytes, line-known, locks-known, permits-known, ties-known, log-known}
+use Rattle.layout.proofs.PartLaws.{eight-parts}
 use Rattle.cells.specs.Part.{part}
 use Rattle.locks.specs.Held.{Modes}
 use Rattle.sections.specs.Sections.{HeadSound, ChangesSound}
@@ -53,7 +53,7 @@ module _ (bs : List ℕ) (h : HeadSound (part bs headAt headSize)) (c : ChangesS
       (h .bytes ∙ (λ i. headSection (h .entries ∷ h .given ∷ sym (k .log .size) i ∷ sym (k .permits .size) i ∷ sym (k .ties .size) i ∷ [])))
       (f .values .bytes) (c .bytes) (f .line) (f .locks .bytes) (k .permits .bytes) (k .ties .bytes) (k .log .bytes))
 
-  pub gathered-sound : acyclic (suc (h .given)) (k .ties .ties) ≡ true → clashesPermitted gathered ≡ true → Sound limits gathered
+  gathered-sound : acyclic (suc (h .given)) (k .ties .ties) ≡ true → clashesPermitted gathered ≡ true → Sound limits gathered
   unfolding gathered live limits
   gathered-sound a p = record {
     some = lt-ltb 0 (h .entries) (omega (arith, h .some));
@@ -114,20 +114,15 @@ module _ (bs : List ℕ) (s : soundBytes bs ≡ true) where
   unfolding W
   z = bytes-sound bs s
 
-  -- a part of the bytes is that part of the window's
-  pub at : (p n : ℕ) {x : List ℕ} → take n (drop p (lay (figures W) W)) ≡ x → take n (drop p bs) ≡ x
-  unfolding W
-  at p n e = part-of bs s p n e
-
   unfoldable pub head-known : HeadSound (part bs headAt headSize)
-  unfolding figures limits part
+  unfolding W figures limits part
   head-known = record {
     entries = W .entries;
     given = W .given;
     records = length (W .log);
     permits = length (W .permits);
     ties = length (W .ties);
-    bytes = at headAt headSize (head-part (figures W) W);
+    bytes = head-bytes bs s;
     some = ltb-true 0 (W .entries) (z .some);
     entries-most = entries-most W z;
     given-most = given-most W z;
@@ -137,23 +132,23 @@ module _ (bs : List ℕ) (s : soundBytes bs ≡ true) where
   }
 
   unfoldable pub changes-known : ChangesSound (part bs changesAt changesSize) (W .given)
-  unfolding part
-  changes-known = record { status = W .status; parent = W .parent; bytes = at changesAt changesSize (changes-part (figures W) W); statuses = z .statuses; parents = z .parents }
+  unfolding W part
+  changes-known = record { status = W .status; parent = W .parent; bytes = changes-bytes bs s; statuses = z .statuses; parents = z .parents }
 
   unfoldable pub front-known : FrontSound bs (W .entries) (lives (W .given) (W .status))
-  unfolding live part
+  unfolding W live part
   front-known = record {
-    values = record { value = W .value; bytes = at valuesAt valuesSize (values-part (figures W) W); fine = z .values };
-    line = at lineAt lineSize (line-part (figures W) W);
-    locks = record { held = W .held; bytes = at locksAt locksSize (locks-part (figures W) W); fine = z .helds };
+    values = record { value = W .value; bytes = values-known bs s; fine = z .values };
+    line = line-known bs s;
+    locks = record { held = W .held; bytes = locks-known bs s; fine = z .helds };
   }
 
   pub back-known : BackSound bs (W .entries) (length (W .permits)) (length (W .ties)) (length (W .log)) (lives (W .given) (W .status)) (W .held)
-  unfolding live part
+  unfolding W live part
   back-known = record {
-    permits = record { permits = W .permits; size = refl; bytes = at permitsAt permitsSize (permits-part (figures W) W); fine = z .permits; order = z .permit-order };
-    ties = record { ties = W .ties; size = refl; bytes = at tiesAt tiesSize (ties-part (figures W) W); fine = z .ties; order = z .tie-order };
-    log = record { log = W .log; size = refl; bytes = at logAt logSize (log-part (figures W) W); fine = z .records };
+    permits = record { permits = W .permits; size = refl; bytes = permits-known bs s; fine = z .permits; order = z .permit-order };
+    ties = record { ties = W .ties; size = refl; bytes = ties-known bs s; fine = z .ties; order = z .tie-order };
+    log = record { log = W .log; size = refl; bytes = log-known bs s; fine = z .records };
   }
 
   pub listed-known : Listed bs (W .entries) (length (W .permits)) (length (W .ties)) W

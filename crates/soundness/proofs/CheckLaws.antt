@@ -20,21 +20,18 @@ use Rattle.soundness.specs.declared.Figures.{Figures}
 use Rattle.soundness.proofs.Assembly.{W, head-known, changes-known, front-known, back-known, gathered, gathered-all, gathered-listed, listed-known, relations-known}
 
 -- m is the set of the live changes that bytes of changes say
-abbrev pub Lives : List ℕ → ℕ → Set → Type 0
+abbrev Lives : List ℕ → ℕ → Set → Type 0
 Lives bs given m = (st pa : ℕ → ℕ) → part bs changesAt changesSize ≡ changeSection st pa → (k : ℕ) → m k ≡ lives given st k
 
 -- r decides whether the permits, the ties and the log are sound beside sound locks
-abbrev pub Decided : List ℕ → ℕ → ℕ → ℕ → ℕ → Set → Bool → Type 0
+abbrev Decided : List ℕ → ℕ → ℕ → ℕ → ℕ → Set → Bool → Type 0
 Decided bs entries permits ties records m r = (z : LocksSound (part bs locksAt locksSize) entries m) → (r ≡ true ↔ BackSound bs entries permits ties records m (z .held))
 
 -- r is what the last two tests say
-abbrev pub Says : List ℕ → ℕ → ℕ → ℕ → Bool → Type 0
+abbrev Says : List ℕ → ℕ → ℕ → ℕ → Bool → Type 0
 Says bs entries permits ties r = (w : Window) → Listed bs entries permits ties w → r ≡ acyclic (suc (w .given)) (w .ties) && clashesPermitted w
 
 module _ (bs : List ℕ) where
-  pub header-asked : soundBytes bs ≡ true → HeadSound (part bs headAt headSize)
-  header-asked s = head-known bs s
-
   module _ (f : Figures) (read : (h : HeadSound (part bs headAt headSize)) → AreFigures h f) (s : soundBytes bs ≡ true) where
     figures-known : AreFigures (head-known bs s) f
     figures-known = read (head-known bs s)

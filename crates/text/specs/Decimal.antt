@@ -42,6 +42,6 @@ unfoldable pub digitsBefore : ℕ → ℕ → List ℕ → List ℕ
 digitsBefore zero n after = after
 digitsBefore (suc k) n after = cond (eqb n 0) after (digitsBefore k (n / 10) ((48 + n % 10) ∷ after))
 
--- a number as it is printed in front of other bytes: at least one digit, and no more than it counts
+-- a number as it is printed in front of other bytes: its last digit, and before it those of a tenth of it (n of them are always enough)
 unfoldable pub shownBefore : ℕ → List ℕ → List ℕ
 shownBefore n after = digitsBefore n (n / 10) ((48 + n % 10) ∷ after)

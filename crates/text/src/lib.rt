@@ -14,18 +14,7 @@ pub const NO_NUMBER: u64 = 4294967296;
 pub fn same(a: &[u8], b: &[u8]) -> bool
     ensures { λ r. ⌜ r ≡ sameBytes (now (a .entry)) (now (b .entry)) ⌝ }
 {
-    let n = a.len();
-    if b.len() != n {
-        return false;
-    }
-    let mut i = 0;
-    while i < n {
-        if a[i] != b[i] {
-            return false;
-        }
-        i += 1;
-    }
-    true
+    check::same(a, b)
 }
 
 // What at most ten digits say, or NO_NUMBER where another byte is among them.

@@ -6,23 +6,16 @@ use Prim.Native.Nat.{ℕ, zero, suc, _+_, _-_, _*_, _/_, _%_, _^_, _<_}
 use native.Mathlib.Nat.{mod-eq-of-lt, one-mul}
 use native.Mathlib.Decide.{ℕ-discrete}
 use native.Mathlib.Omega.{arith}
-use borrow.Author.Tests.{eq-eqb, ne-eqb}
+use borrow.Author.Tests.{ne-eqb}
 use lib.Bits.{bitAnd, bitOr}
 use lib.Dec.{eqb}
 use lib.ListN.{length, getD, set, List·getD-eq-default}
 use lib.Pow.{pow-lt}
 use lib.Seq.{getD-set-same, getD-set-other}
+use Rattle.rules.proofs.BaseLaws.{eqb-iff}
 use Rattle.layout.specs.Codec.{unpack}
 use Rattle.cells.proofs.Digits.{unpack-zero, unpack-power, unpack-or, unpack-and, unpack-not}
 use Rattle.words.specs.Members.{wordsHave, FourWords}
-
--- two tests of equations that imply each other agree
-pub eqb-iff : (a b p q : ℕ) → (a ≡ b → p ≡ q) → (p ≡ q → a ≡ b) → eqb a b ≡ eqb p q
-eqb-iff a b p q f g = go (ℕ-discrete a b)
-  where
-    go : Dec (a ≡ b) → eqb a b ≡ eqb p q
-    go (yes e) = eq-eqb a b e ∙ sym (eq-eqb p q (f e))
-    go (no n) = ne-eqb a b n ∙ sym (ne-eqb p q (λ e. n (g e)))
 
 -- two lists of four words joined word by word: P of the two old digits
 pub words-joined : (f : ℕ → ℕ → ℕ) (P : Bool → Bool → Bool) → P false false ≡ false → (a b : List ℕ) → length a ≡ 4 → length b ≡ 4

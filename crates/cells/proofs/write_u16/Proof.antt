@@ -7,13 +7,10 @@ use borrow.Author.Needs.{needs}
 use Rattle.cells.proofs.write_u16.Statement.{statement}
 use Rattle.cells.proofs.write_u16.Tie as tie
 
-slice-write-s-2 : tie.Need-slice-write-s-2
-slice-write-s-2 c = simp length-set (omega arith)
-
 returns : tie.Need-returns
 unfolding le
 returns c = patch2 (c .args .s .now) (c .args .at) _ _ (c .pre)
 
 pub write-u16-spec : {M : Type 1} → statement M
 write-u16-spec =
-    tie.close (tie.spec (λ c. search needs) (λ c. search needs) (λ c. search needs) (λ c. search needs) slice-write-s-2 (λ c. search needs) returns)
+    tie.close (tie.spec (λ c. search needs) (λ c. search needs) (λ c. search needs) (λ c. search needs) (λ c. simp length-set (omega arith)) (λ c. search needs) returns)

@@ -7,15 +7,6 @@ use borrow.Author.Needs.{needs}
 use Rattle.cells.proofs.write_u32.Statement.{statement}
 use Rattle.cells.proofs.write_u32.Tie as tie
 
-slice-write-s-2 : tie.Need-slice-write-s-2
-slice-write-s-2 c = simp length-set (omega arith)
-
-slice-write-s-3 : tie.Need-slice-write-s-3
-slice-write-s-3 c = simp length-set (omega arith)
-
-slice-write-s-4 : tie.Need-slice-write-s-4
-slice-write-s-4 c = simp length-set (omega arith)
-
 returns : tie.Need-returns
 unfolding le
 returns c = patch4 (c .args .s .now) (c .args .at) _ _ _ _ (c .pre)
@@ -28,12 +19,12 @@ write-u32-spec =
     (λ c. search needs)
     (λ c. search needs)
     (λ c. search needs)
-    slice-write-s-2
+    (λ c. simp length-set (omega arith))
     (λ c. search needs)
     (λ c. search needs)
-    slice-write-s-3
+    (λ c. simp length-set (omega arith))
     (λ c. search needs)
     (λ c. search needs)
-    slice-write-s-4
+    (λ c. simp length-set (omega arith))
     (λ c. search needs)
     returns)

@@ -68,7 +68,7 @@ remove-arrows-requires c κs =
     let l = t .before .before .loop in
     let f = t .before .lowest-source in
     let r = room (linked t) in
-    let most = source-most (graphOf (a .ties .now) (a .labels .now)) (a .count) (l .incoming) (wordsHave (l .left)) (wordsHave (l .blocked)) (l .inv .2) (f .result) (f .ensures) (low t) (lists (linked t)) (linked t .link-ties .ensures .1) in (
+    let most = source-most (linked t .link-ties .ensures .1) (f .result) (low t) in (
       p .labels-long,
       record { by-label = r .by-label; by-place = r .by-place; counts = l .inv .0 },
       l .inv .1 .led,

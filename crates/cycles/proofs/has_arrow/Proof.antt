@@ -6,9 +6,9 @@ use native.Mathlib.Omega.{arith}
 use borrow.Author.Needs.{needs}
 use Rattle.rules.specs.Base.{anyBelow}
 use Rattle.rules.proofs.BaseLaws.{any-intro}
+use Rattle.rules.proofs.TurnLaws.{found-next}
 use Rattle.layout.specs.Records.{tieAt}
 use Rattle.cycles.specs.Graph.{arrowAt}
-use Rattle.cycles.proofs.LoopLaws.{any-next}
 use Rattle.cycles.proofs.has_arrow.Statement.{statement}
 use Rattle.cycles.proofs.has_arrow.Tie as tie
 
@@ -30,7 +30,7 @@ loop-again : tie.Need-loop-again Inv-loop μ-loop
 unfolding arrowAt tieAt
 loop-again c =
     let l = c .before .before .before .before .loop in
-    (omega arith, any-next (arrowAt (c .before .before .before .before .before .before .args .ties .now)) (l .place) (l .inv .1) (c .before .is-arrow .result) (c .before .is-arrow .ensures) (c .if1 .left))
+    (omega arith, sym (found-next (arrowAt (c .before .before .before .before .before .before .args .ties .now)) (l .place) false false (sym (l .inv .1)) (sym (c .if1 .left) ∙ c .before .is-arrow .ensures)))
 
 returns-2 : tie.Need-returns-2 Inv-loop μ-loop
 returns-2 c =

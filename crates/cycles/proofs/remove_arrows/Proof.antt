@@ -51,7 +51,7 @@ turn c =
     (l .incoming) (wordsHave (l .blocked)) (l .e) (l .e - 1) (omega arith) (l .inv .1) (t .result) (t .ensures) (omega arith) (g .last .0) (wordsHave (g .last .1 .0)) _ (g .ensures .1 .0) (g .ensures .1 .1) refl
 
 returns : tie.Need-returns Inv-loop μ-loop
-returns c = let s = c .before .before .before .before .before .before .before .before in let l = c .before .loop in (l .inv .0, removing-all _ _ _ _ _ _ (s .pre .5) (l .incoming) (wordsHave (l .blocked)) (l .e) (l .inv .1) (omega arith))
+returns c = let l = c .before .loop in (l .inv .0, removing-all (l .inv .1) (omega arith))
 
 pub remove-arrows-spec : {M : Type 1} → statement M
 remove-arrows-spec =

@@ -3,8 +3,9 @@ use mathlib.Core.Path.{sym}
 use borrow.Author.Needs.{needs}
 use Rattle.layout.specs.Codec.{decode}
 use Rattle.layout.proofs.MemoryLaws.{bytes-again}
+use Rattle.layout.proofs.LentLaws.{log-back}
 use Rattle.sets.specs.Members.{members}
-use Rattle.ended.proofs.BackLaws.{log-fits, log-left}
+use Rattle.ended.proofs.EndLaws.{log-fits}
 use Rattle.ended.proofs.drop_log.Statement.{statement}
 use Rattle.ended.proofs.drop_log.Tie as tie
 
@@ -14,7 +15,7 @@ cast-store-figure c =
     let w = s .args .w .now in
     let count = c .before .before .before .before .before .records in
     let left = c .before .before .before .drop-owned in
-    record { fits = log-fits (decode w) (sym (bytes-again w (s .pre .1))) (members (s .args .ended)) (count .result) (left .result) (count .ensures .0) (count .ensures .1) (left .ensures) }
+    record { fits = log-fits w (s .pre .1) (members (s .args .ended)) (count .result) (left .result) (count .ensures .0) (count .ensures .1) (left .ensures) }
 
 returns : tie.Need-returns
 returns c =
@@ -22,7 +23,7 @@ returns c =
     let w = s .args .w .now in
     let count = c .before .before .before .before .before .before .before .before .records in
     let left = c .before .before .before .before .before .before .drop-owned in
-    log-left (decode w) (sym (bytes-again w (s .pre .1))) (members (s .args .ended)) (count .result) (left .result) (count .ensures .0) (left .ensures) (c .before .before .store-figure .ensures)
+    log-back (decode w) (sym (bytes-again w (s .pre .1))) (left .ensures (decode w .log) (sym (count .ensures .0))) (c .before .before .store-figure .ensures)
 
 pub drop-log-spec : {M : Type 1} → statement M
 drop-log-spec =

@@ -10,9 +10,9 @@ use lib.ListN.{length, getD}
 use Rattle.layout.specs.Records.{permitAt}
 use Rattle.words.specs.Members.{wordsHave}
 use Rattle.sets.specs.Members.{members}
-use Rattle.sets.proofs.WalkLaws.{lowest-of, rest-without}
+use Rattle.sets.proofs.WalkLaws.{lowest-of, rest-without, lowest-rises}
 use Rattle.beside.specs.Beside.{othersFit, entryFits}
-use Rattle.beside.proofs.WriterLaws.{Walked, walk-start, walk-failed, walk-rises, walk-next, walk-done}
+use Rattle.beside.proofs.WriterLaws.{Walked, walk-start, walk-failed, walk-next, walk-done}
 use Rattle.few_permits.proofs.few_permitted.Statement.{statement}
 use Rattle.few_permits.proofs.few_permitted.Tie as tie
 
@@ -48,16 +48,11 @@ returns c =
     walk-failed (members (a .writers)) fits (members (l .left)) (l .writer) (l .inv) (omega arith) (e .result) (e .ensures) (not-true _ (c .if1 .taken))
 
 loop-less : tie.Need-loop-less Inv-loop μ-loop
-unfolding members wordsHave
 loop-less c =
-    let a = c .before .before .before .before .before .before .before .before .before .before .before .before .args in
-    let fits = othersFit (a .count) (permitAt (a .permits .now)) (members (a .readers)) (members (a .writers)) in
     let l = c .before .before .before .before .before .before .before .loop in
-    omega (
-      arith,
-      walk-rises (members (a .writers)) fits (members (l .left)) (l .writer) (l .inv) (omega arith)
-          (members (c .before .rest .result)) (c .lowest2 .result) (rest-without (members (l .left)) (l .writer) (l .inv .lowest) (members (c .before .rest .result)) (c .before .rest .ensures)) (lowest-of (members (c .before .rest .result)) (c .lowest2 .result) (c .lowest2 .ensures)),
-    )
+    let r = c .before .rest in
+    let left = rest-without (members (l .left)) (l .writer) (l .inv .lowest) (members (r .result)) (r .ensures) in
+    omega (arith, lowest-rises (members (l .left)) (l .writer) (l .inv .lowest) (members (r .result)) left (omega arith) (c .lowest2 .result) (lowest-of (members (r .result)) (c .lowest2 .result) (c .lowest2 .ensures)))
 
 loop-again : tie.Need-loop-again Inv-loop μ-loop
 unfolding members wordsHave

@@ -20,7 +20,7 @@ returns c =
     let read = c .before .before .before .contains2 in
     let write = c .before .before .before .before .before .before .before .contains in (
       c .strike-set2 .ensures .0,
-      λ k n. anybody-struck (wordsHave (a .readers .now)) (wordsHave (a .writers .now)) (a .writer) k (byte 1) (byte 2) (getD (a .permits .now) (a .place * 4) 0) (byte 3) n (wordsHave (a .left .now) k) (wordsHave (c .strike-set2 .last .0) k)
+      λ k n. anybody-struck (wordsHave (a .readers .now)) (wordsHave (a .writers .now)) (a .writer) k (byte 1) (byte 2) (getD (a .permits .now) (a .place * 4) 0) (byte 3) (wordsHave (a .left .now) k) (wordsHave (c .strike-set2 .last .0) k) n
           (c .before .before .before .before .before .before .if1 .taken) (c .before .before .before .before .before .if2 .taken) (read .result) (write .result) (wordsHave (r .last .0) k) (read .ensures) (write .ensures) (r .ensures .1 k) (c .strike-set2 .ensures .1 k),
     )
 
@@ -31,7 +31,7 @@ returns-2 c =
     let byte : ℕ → ℕ = λ i. getD (a .permits .now) (a .place * 4 + i) 0 in
     let served = c .before .before .contains-held in (
       c .strike-one .ensures .0,
-      λ k n. taker-struck (wordsHave (a .readers .now)) (wordsHave (a .writers .now)) (a .writer) k (byte 1) (byte 2) (getD (a .permits .now) (a .place * 4) 0) (byte 3) n (wordsHave (a .left .now) k) (wordsHave (c .strike-one .last .0) k)
+      λ k n. taker-struck (wordsHave (a .readers .now)) (wordsHave (a .writers .now)) (a .writer) k (byte 1) (byte 2) (getD (a .permits .now) (a .place * 4) 0) (byte 3) (wordsHave (a .left .now) k) (wordsHave (c .strike-one .last .0) k) n
           (c .before .before .before .before .before .before .if1 .taken) (c .before .before .before .before .before .if2 .left) (served .result) (served .ensures ∙ ap₂ (containsHeld (byte 3)) (c .before .before .before .before .among .ensures) (c .before .before .before .among2 .ensures)) (c .strike-one .ensures .1 k),
     )
 
@@ -42,7 +42,7 @@ returns-3 c =
     let byte : ℕ → ℕ = λ i. getD (a .permits .now) (a .place * 4 + i) 0 in
     let write = c .before .before .before .contains in (
       c .strike-one2 .ensures .0,
-      λ k n. giver-struck (wordsHave (a .readers .now)) (wordsHave (a .writers .now)) (a .writer) k (byte 1) (byte 2) (getD (a .permits .now) (a .place * 4) 0) (byte 3) n (wordsHave (a .left .now) k) (wordsHave (c .strike-one2 .last .0) k)
+      λ k _. giver-struck (wordsHave (a .readers .now)) (wordsHave (a .writers .now)) (a .writer) k (byte 1) (byte 2) (getD (a .permits .now) (a .place * 4) 0) (byte 3) (wordsHave (a .left .now) k) (wordsHave (c .strike-one2 .last .0) k)
           (c .before .before .if1 .left) (write .result) (write .ensures) (c .strike-one2 .ensures .1 k),
     )
 

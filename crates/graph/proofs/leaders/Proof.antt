@@ -5,9 +5,10 @@ use native.Mathlib.Omega.{arith}
 use borrow.Author.Needs.{needs}
 use Rattle.rules.specs.Base.{anyBelow}
 use Rattle.rules.specs.Effects.{leadsTo}
+use Rattle.rules.proofs.TurnLaws.{found-next}
 use Rattle.layout.specs.Records.{tieAt}
 use Rattle.sets.specs.Members.{members}
-use Rattle.graph.proofs.ReachLaws.{leaders-next, leaders-of}
+use Rattle.graph.proofs.ReachLaws.{leaders-of}
 use Rattle.graph.proofs.leaders.Statement.{statement}
 use Rattle.graph.proofs.leaders.Tie as tie
 
@@ -26,7 +27,7 @@ unfolding tieAt
 loop-again c =
     let a = c .before .before .before .before .before .before .before .before .args in
     let l = c .before .before .before .before .before .loop in
-    (omega arith, leaders-next (tieAt (a .ties .now)) (members (a .followers)) (members (l .s)) (members (c .with-leader .result)) (l .j) (l .inv .1) (c .with-leader .ensures))
+    (omega arith, λ k. found-next (λ i. leadsTo (members (a .followers)) k (tieAt (a .ties .now) i)) (l .j) (members (l .s) k) (members (c .with-leader .result) k) (l .inv .1 k) (c .with-leader .ensures k))
 
 returns : tie.Need-returns Inv-loop μ-loop
 returns c =

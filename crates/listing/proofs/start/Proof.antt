@@ -12,7 +12,7 @@ returns : tie.Need-returns
 unfolding header ascii
 returns c =
     let s = c .before .before .before .before .before .before in
-    (omega arith, (omega arith, (refl, λ line. started line (s .args .out .now) _ (s .pre) (c .before .before .copy-in .ensures))))
+    (omega arith, (omega arith, (refl, λ line. started line (s .args .out .now) _ (c .before .before .copy-in .ensures))))
 
 pub start-spec : {M : Type 1} → statement M
 start-spec = tie.close (tie.spec (λ c. search needs) (λ c κs. search needs) (λ c. search needs) returns)

@@ -8,12 +8,6 @@ use borrow.Author.Needs.{needs}
 use Rattle.log.proofs.append.Statement.{statement}
 use Rattle.log.proofs.append.Tie as tie
 
-slice-write-log-2 : tie.Need-slice-write-log-2
-slice-write-log-2 c = simp length-set (omega arith)
-
-write-u32-requires : tie.Need-write-u32-requires
-write-u32-requires c κs = simp length-set (omega arith)
-
 same-length : tie.Need-same-length
 same-length c = c .before .before .write-u32 .kept .0 ∙ simp length-set
 
@@ -30,8 +24,8 @@ append-spec =
     (λ c. search needs)
     (λ c. search needs)
     (λ c. search needs)
-    slice-write-log-2
+    (λ c. simp length-set (omega arith))
     (λ c. search needs)
-    write-u32-requires
+    (λ c κs. simp length-set (omega arith))
     same-length
     returns)

@@ -12,7 +12,7 @@ returns c =
 returns-2 : tie.Need-returns-2
 returns-2 c =
     let s = c .before .before .before in let a = s .args in
-    λ l t e. hand-no (a .log .now) l (a .i) (a .from) (a .to) (a .every) (a .entry) e (s .pre .1) t (c .if1 .left)
+    λ l t e. hand-no (a .log .now) l (a .i) (a .from) (a .to) (a .every) (a .entry) e (s .pre .1) (c .if1 .left)
 
 pub hand-record-spec : {M : Type 1} → statement M
 hand-record-spec =

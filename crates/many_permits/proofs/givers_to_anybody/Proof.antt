@@ -3,11 +3,12 @@ use mathlib.Core.Path.{_≡_, _∙_, ap}
 use Prim.Native.Nat.{ℕ, _≤_, _-_}
 use native.Mathlib.Omega.{arith}
 use borrow.Author.Needs.{needs}
+use Rattle.rules.proofs.TurnLaws.{found-next}
 use Rattle.layout.specs.Records.{permitAt}
 use Rattle.sets.specs.Members.{members}
 use Rattle.beside.specs.Permits.{anyOf}
 use Rattle.many_permits.specs.Named.{permitsAnybody}
-use Rattle.many_permits.proofs.BlockLaws.{any-none, any-next}
+use Rattle.many_permits.proofs.BlockLaws.{any-none}
 use Rattle.many_permits.proofs.givers_to_anybody.Statement.{statement}
 use Rattle.many_permits.proofs.givers_to_anybody.Tie as tie
 
@@ -21,10 +22,11 @@ loop-holds : tie.Need-loop-holds Inv-loop μ-loop
 loop-holds c = (omega arith, λ k. c .empty .ensures k ∙ any-none (permitAt (c .before .before .args .permits .now)) (permitsAnybody (c .before .before .args .mode) k))
 
 loop-again : tie.Need-loop-again Inv-loop μ-loop
+unfolding anyOf
 loop-again c =
     let a = c .before .before .before .before .before .args in
     let l = c .before .before .loop in
-    (omega arith, λ k. any-next (permitAt (a .permits .now)) (permitsAnybody (a .mode) k) (l .j) (members (l .s) k) (members (c .add-giver .result) k) (l .inv .1 k) (c .add-giver .ensures k))
+    (omega arith, λ k. found-next (λ i. permitsAnybody (a .mode) k (permitAt (a .permits .now) i)) (l .j) (members (l .s) k) (members (c .add-giver .result) k) (l .inv .1 k) (c .add-giver .ensures k))
 
 returns : tie.Need-returns Inv-loop μ-loop
 returns c k =

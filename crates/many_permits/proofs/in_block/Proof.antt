@@ -4,8 +4,8 @@ use Prim.Native.Nat.{_≤_, _-_}
 use native.Mathlib.Omega.{arith}
 use borrow.Author.Needs.{needs}
 use Rattle.rules.specs.Base.{anyBelow}
+use Rattle.rules.proofs.TurnLaws.{found-next}
 use Rattle.cells.specs.Part.{byteIs}
-use Rattle.many_permits.proofs.BlockLaws.{byte-next}
 use Rattle.many_permits.proofs.in_block.Statement.{statement}
 use Rattle.many_permits.proofs.in_block.Tie as tie
 
@@ -20,10 +20,11 @@ unfolding anyBelow
 loop-holds c = (omega arith, refl)
 
 loop-again : tie.Need-loop-again Inv-loop μ-loop
+unfolding byteIs
 loop-again c =
     let l = c .before .before .loop in
     let a = c .before .before .before .args in
-    (omega arith, byte-next (a .permits .now) (a .at) (a .byte) (l .i) (l .found) (l .inv .1))
+    (omega arith, found-next (byteIs (a .permits .now) (a .at) (a .byte)) (l .i) (l .found) _ (l .inv .1) refl)
 
 returns : tie.Need-returns Inv-loop μ-loop
 returns c =

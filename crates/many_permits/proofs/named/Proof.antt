@@ -5,11 +5,12 @@ use Prim.Native.Nat.{ℕ, _≤_, _-_, _+_}
 use native.Mathlib.Omega.{arith}
 use borrow.Author.Needs.{needs}
 use Rattle.rules.specs.Window.{PermitRecord}
+use Rattle.rules.proofs.TurnLaws.{found-next}
 use Rattle.layout.specs.Records.{permitAt}
 use Rattle.sets.specs.Members.{members}
 use Rattle.beside.specs.Permits.{anyOf}
 use Rattle.many_permits.specs.Named.{names}
-use Rattle.many_permits.proofs.BlockLaws.{any-none, any-next, any-skipped}
+use Rattle.many_permits.proofs.BlockLaws.{any-none, any-skipped}
 use Rattle.many_permits.proofs.NamedLaws.{names-none}
 use Rattle.many_permits.proofs.named.Statement.{statement}
 use Rattle.many_permits.proofs.named.Tie as tie
@@ -35,6 +36,7 @@ loop-less : tie.Need-loop-less Inv-loop μ-loop
 loop-less c = omega (arith, c .next-involving2 .ensures .before .from)
 
 loop-again : tie.Need-loop-again Inv-loop μ-loop
+unfolding anyOf
 loop-again c =
     let a = c .before .before .before .before .before .before .before .args in
     let l = c .before .before .before .loop in
@@ -42,7 +44,7 @@ loop-again c =
     let p : ℕ → PermitRecord → Bool = names (members (a .readers)) (members (a .writers)) (a .writer) in
     let next = c .next-involving2 in (
       next .ensures .before .to,
-      λ k. any-next t (p k) (l .j) (members (l .s) k) (members (c .before .add-named .result) k) (l .inv .1 k) (c .before .add-named .ensures k)
+      λ k. found-next (λ i. p k (t i)) (l .j) (members (l .s) k) (members (c .before .add-named .result) k) (l .inv .1 k) (c .before .add-named .ensures k)
           ∙ any-skipped t (p k) (l .j + 1) (next .result) (next .ensures .before .from) (λ i h m. names-none (members (a .readers)) (members (a .writers)) (a .writer) k (t i) (next .ensures .before .skipped i h m)),
     )
 

@@ -1,8 +1,7 @@
 -- `many_permits::unite_if` meets its contract: with the other set where the test passed, as it was where it failed. Assumes nothing.
 use borrow.Author.Needs.{needs}
 use Rattle.sets.specs.Members.{members}
-use Rattle.sets.proofs.MemberLaws.{nothing-added}
-use Rattle.many_permits.proofs.NamedLaws.{unite-passed}
+use Rattle.sets.proofs.MemberLaws.{unite-passed, nothing-added}
 use Rattle.many_permits.proofs.unite_if.Statement.{statement}
 use Rattle.many_permits.proofs.unite_if.Tie as tie
 

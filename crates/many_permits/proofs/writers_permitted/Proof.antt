@@ -5,8 +5,8 @@ use borrow.Author.Needs.{needs}
 use borrow.Author.Tests.{not-true, not-false}
 use Rattle.layout.specs.Records.{permitAt}
 use Rattle.sets.specs.Members.{members}
-use Rattle.sets.proofs.WalkLaws.{lowest-of, rest-without}
-use Rattle.beside.proofs.WriterLaws.{Walked, walk-start, walk-failed, walk-rises, walk-next, walk-done}
+use Rattle.sets.proofs.WalkLaws.{lowest-of, rest-without, lowest-rises}
+use Rattle.beside.proofs.WriterLaws.{Walked, walk-start, walk-failed, walk-next, walk-done}
 use Rattle.many_permits.specs.Named.{writerFits, writersFit}
 use Rattle.many_permits.proofs.writers_permitted.Statement.{statement}
 use Rattle.many_permits.proofs.writers_permitted.Tie as tie
@@ -33,14 +33,10 @@ returns c =
 
 loop-less : tie.Need-loop-less Inv-loop μ-loop
 loop-less c =
-    let a = c .before .before .before .before .before .before .before .before .args in
-    let fits = writerFits (a .count) (permitAt (a .permits .now)) (members (a .readers)) (members (a .writers)) (members (a .reading)) (members (a .writing)) in
     let l = c .before .before .before .before .before .loop in
-    omega (
-      arith,
-      walk-rises (members (a .writers)) fits (members (l .left)) (l .writer) (l .inv) (omega arith)
-          (members (c .before .rest .result)) (c .lowest2 .result) (rest-without (members (l .left)) (l .writer) (l .inv .lowest) (members (c .before .rest .result)) (c .before .rest .ensures)) (lowest-of (members (c .before .rest .result)) (c .lowest2 .result) (c .lowest2 .ensures)),
-    )
+    let r = c .before .rest in
+    let left = rest-without (members (l .left)) (l .writer) (l .inv .lowest) (members (r .result)) (r .ensures) in
+    omega (arith, lowest-rises (members (l .left)) (l .writer) (l .inv .lowest) (members (r .result)) left (omega arith) (c .lowest2 .result) (lowest-of (members (r .result)) (c .lowest2 .result) (c .lowest2 .ensures)))
 
 loop-again : tie.Need-loop-again Inv-loop μ-loop
 loop-again c =

@@ -6,7 +6,7 @@ use Rattle.rules.specs.Refusals.{_if_, checks}
 use Rattle.layout.specs.Codec.{decode}
 use borrow.Author.Needs.{needs}
 use Rattle.refusals.proofs.RefusalLaws.{all-passed, fails, passes}
-use Rattle.pair_refusals.proofs.PairLaws.{stopped, depend-numbers, depend-rest, neither, returning, not-returning, no-room, has-room}
+use Rattle.pair_refusals.proofs.PairLaws.{stopped, depend-numbers, depend-rest, neither, no-room, has-room}
 use Rattle.pair_refusals.proofs.depend.Statement.{statement}
 use Rattle.pair_refusals.proofs.depend.Tie as tie
 
@@ -46,7 +46,7 @@ returns-3 c =
     let a = c1 .before .before .before .args in
     depend-rest (decode (a .w .now)) (a .kind) (a .leader) (a .follower) _ (c1 .before .depend-numbers .ensures) (c1 .if1 .left)
     (passes (neither (c2 .before .before .is-live .ensures) (c2 .before .is-live2 .ensures)) (c2 .if2 .left)
-    (returning (decode (a .w .now)) (a .kind) (a .leader) (a .follower) _ (c .before .tie-returns .ensures) (c .if3 .taken)))
+    (fails (c .before .tie-returns .ensures) (c .if3 .taken)))
 
 returns-4 : tie.Need-returns-4
 unfolding checks _if_
@@ -57,7 +57,7 @@ returns-4 c =
     let a = c1 .before .before .before .args in
     depend-rest (decode (a .w .now)) (a .kind) (a .leader) (a .follower) _ (c1 .before .depend-numbers .ensures) (c1 .if1 .left)
     (passes (neither (c2 .before .before .is-live .ensures) (c2 .before .is-live2 .ensures)) (c2 .if2 .left)
-    (not-returning (decode (a .w .now)) (a .kind) (a .leader) (a .follower) _ (c3 .before .tie-returns .ensures) (c3 .if3 .left)
+    (passes (c3 .before .tie-returns .ensures) (c3 .if3 .left)
     (fails refl (no-room (c .before .tie-fits .ensures) (c .if4 .taken)))))
 
 returns-5 : tie.Need-returns-5
@@ -69,7 +69,7 @@ returns-5 c =
     let a = c1 .before .before .before .args in
     depend-rest (decode (a .w .now)) (a .kind) (a .leader) (a .follower) _ (c1 .before .depend-numbers .ensures) (c1 .if1 .left)
     (passes (neither (c2 .before .before .is-live .ensures) (c2 .before .is-live2 .ensures)) (c2 .if2 .left)
-    (not-returning (decode (a .w .now)) (a .kind) (a .leader) (a .follower) _ (c3 .before .tie-returns .ensures) (c3 .if3 .left)
+    (passes (c3 .before .tie-returns .ensures) (c3 .if3 .left)
     (passes refl (has-room (c .before .tie-fits .ensures) (c .if4 .left)) all-passed)))
 
 pub depend-spec : {M : Type 1} → statement M

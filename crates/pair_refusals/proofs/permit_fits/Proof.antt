@@ -3,8 +3,7 @@ use mathlib.Core.Path.{sym}
 use native.Mathlib.Omega.{arith}
 use borrow.Author.Needs.{needs}
 use Rattle.layout.proofs.SoundCodec.{entries-most, given-most}
-use Rattle.layout.proofs.MemoryLaws.{bytes-sound}
-use Rattle.reads.proofs.ReadLaws.{permits-known}
+use Rattle.layout.proofs.MemoryLaws.{bytes-sound, permits-known}
 use Rattle.pair_refusals.proofs.permit_fits.Statement.{statement}
 use Rattle.pair_refusals.proofs.permit_fits.Tie as tie
 

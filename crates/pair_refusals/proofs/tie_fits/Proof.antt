@@ -4,8 +4,7 @@ use native.Mathlib.Omega.{arith}
 use borrow.Author.Needs.{needs}
 use Rattle.rules.proofs.SoundParts.{inside-of}
 use Rattle.layout.proofs.SoundCodec.{given-most}
-use Rattle.layout.proofs.MemoryLaws.{bytes-sound}
-use Rattle.reads.proofs.ReadLaws.{ties-known}
+use Rattle.layout.proofs.MemoryLaws.{bytes-sound, ties-known}
 use Rattle.pair_refusals.proofs.tie_fits.Statement.{statement}
 use Rattle.pair_refusals.proofs.tie_fits.Tie as tie
 

@@ -5,8 +5,7 @@ use borrow.Author.Needs.{needs}
 use Rattle.rules.proofs.SoundParts.{ends-below, inside-of}
 use Rattle.layout.specs.Records.{endsBelow}
 use Rattle.layout.proofs.SoundCodec.{given-most}
-use Rattle.layout.proofs.MemoryLaws.{bytes-sound}
-use Rattle.reads.proofs.ReadLaws.{ties-known}
+use Rattle.layout.proofs.MemoryLaws.{bytes-sound, ties-known}
 use Rattle.pair_refusals.proofs.tie_returns.Statement.{statement}
 use Rattle.pair_refusals.proofs.tie_returns.Tie as tie
 

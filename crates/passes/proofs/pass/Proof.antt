@@ -25,24 +25,6 @@ loop-holds c = (omega arith, c .before .pre .0, refl)
 within : (c : tie.After-place Inv-loop μ-loop) → c .place .result < c .before .before .before .before .args .count
 within c = rw (c .place .ensures) (place-below (c .before .before .before .before .args .back) _ (c .before .before .loop .j) (omega arith))
 
-mul-at : tie.Need-mul-at Inv-loop μ-loop
-mul-at c = omega (arith, within c)
-
-shared-slice-read-pull : tie.Need-shared-slice-read-pull Inv-loop μ-loop
-shared-slice-read-pull c = omega (arith, within (c .before .before))
-
-add-pull : tie.Need-add-pull Inv-loop μ-loop
-add-pull c = omega (arith, within (c .before .before))
-
-shared-slice-read-pull-2 : tie.Need-shared-slice-read-pull-2 Inv-loop μ-loop
-shared-slice-read-pull-2 c = omega (arith, within (c .before .before .before))
-
-add-pull-2 : tie.Need-add-pull-2 Inv-loop μ-loop
-add-pull-2 c = omega (arith, within (c .before .before .before))
-
-shared-slice-read-pull-3 : tie.Need-shared-slice-read-pull-3 Inv-loop μ-loop
-shared-slice-read-pull-3 c = omega (arith, within (c .before .before .before .before))
-
 loop-again : tie.Need-loop-again Inv-loop μ-loop
 unfolding tieAt tieFrom
 loop-again c =
@@ -66,12 +48,12 @@ pass-spec =
     μ-loop
     loop-holds
     (λ c κs. search needs)
-    mul-at
-    shared-slice-read-pull
-    add-pull
-    shared-slice-read-pull-2
-    add-pull-2
-    shared-slice-read-pull-3
+    (λ c. omega (arith, within c))
+    (λ c. omega (arith, within (c .before .before)))
+    (λ c. omega (arith, within (c .before .before)))
+    (λ c. omega (arith, within (c .before .before .before)))
+    (λ c. omega (arith, within (c .before .before .before)))
+    (λ c. omega (arith, within (c .before .before .before .before)))
     (λ c κs. search needs)
     (λ c. search needs)
     (λ c. search needs)

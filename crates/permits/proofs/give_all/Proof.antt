@@ -35,8 +35,8 @@ loop-again c =
       g .kept .0 ∙ l .inv .2,
       λ rise fits.
           let was : Stored (given (rows (a .n) (a .s .now)) (a .moved .now) (a .m) (a .to) (l .i - 1 + 1)) (a .s .now) (l .count) (l .s) = rw e at (l .inv .3 rise fits) in
-          give-next (a .s .now) (a .n) (a .moved .now) (a .m) (a .to) rise (l .s) (l .count) (l .i - 1) was 1024 fits (omega arith) (g .result) (g .last .0)
-          (g .ensures .1 (give-rising (a .s .now) (a .n) (a .moved .now) (a .m) (a .to) rise (l .s) (l .count) (l .i - 1) was)),
+          give-next (a .s .now) (a .n) (a .moved .now) (a .m) (a .to) (l .s) (l .count) (l .i - 1) was 1024 fits (omega arith) (g .result) (g .last .0)
+          (g .ensures .1 (give-rising (a .s .now) (a .n) (a .moved .now) (a .m) (a .to) (l .s) (l .count) (l .i - 1) was rise)),
     )
 
 returns : tie.Need-returns Inv-loop μ-loop

@@ -27,8 +27,8 @@ loop-holds c =
     let b : Bytes (a .permits .now) = λ j. c .before .before .shared-slice-known .given j .fits in (
       f .ensures .0,
       λ rise. (
-        walk-entry (a .permits .now) (a .count) b (a .taker) (a .entry) (a .mode) (f .result) (f .ensures .1 rise),
-        λ k. ap (λ (x : Bool). x || ahead (a .permits .now) (a .count) (a .taker) (a .entry) (a .mode) (f .result) k) (c .before .empty .ensures k) ∙ walk-from (a .permits .now) (a .count) b (a .taker) (a .entry) (a .mode) (f .result) (f .ensures .0) (f .ensures .1 rise) k,
+        walk-entry (a .permits .now) (a .count) (a .taker) (a .entry) (a .mode) b (f .result) (f .ensures .1 rise),
+        λ k. ap (λ (x : Bool). x || ahead (a .permits .now) (a .count) (a .taker) (a .entry) (a .mode) (f .result) k) (c .before .empty .ensures k) ∙ walk-from (a .permits .now) (a .count) (a .taker) (a .entry) (a .mode) (f .result) (f .ensures .0) (f .ensures .1 rise) k,
       ),
     )
 
@@ -40,7 +40,7 @@ returns c ps len is rise k =
     let l = c .before .before .before .loop in
     let up = permits-rising ps (a .count) (a .permits .now) len is (s .pre .1) rise in
     givers-permitted ps (a .count) (a .permits .now) len is (s .pre .1) k (a .taker) (a .entry) (a .mode) (members (l .set) k)
-    (walk-stop (a .permits .now) (a .count) (λ j. c .before .shared-slice-known2 .given j .fits) (a .taker) (a .entry) (a .mode) up (l .i) (c .before .before .loop-test .taken) (l .inv .1 up .0) (c .if1 .taken) k (members (l .set) k) _ (l .inv .1 up .1 k))
+    (walk-stop (a .permits .now) (a .count) (a .taker) (a .entry) (a .mode) (λ j. c .before .shared-slice-known2 .given j .fits) up (l .i) (c .before .before .loop-test .taken) (l .inv .1 up .0) (c .if1 .taken) k (members (l .set) k) _ (l .inv .1 up .1 k))
 
 loop-again : tie.Need-loop-again Inv-loop μ-loop
 unfolding rowAt
@@ -50,7 +50,7 @@ loop-again c =
       omega arith,
       λ rise. (
         λ j h g. l .inv .1 rise .0 j (omega arith) g,
-        λ k. walk-next (a .permits .now) (a .count) (λ j. c .before .before .shared-slice-known2 .given j .fits) (a .taker) (a .entry) (a .mode) (l .i) (c .before .before .before .loop-test .taken) (c .before .if1 .left) k (members (l .set) k) (members (c .note .result) k) _ (l .inv .1 rise .1 k) (c .note .ensures k),
+        λ k. walk-next (a .permits .now) (a .count) (a .taker) (a .entry) (a .mode) (l .i) (c .before .before .before .loop-test .taken) (c .before .if1 .left) k (members (l .set) k) (members (c .note .result) k) _ (l .inv .1 rise .1 k) (c .note .ensures k),
       ),
     )
 
@@ -61,7 +61,7 @@ returns-2 c ps len is rise k =
     let l = c .before .loop in
     let up = permits-rising ps (a .count) (a .permits .now) len is (s .pre .1) rise in
     givers-permitted ps (a .count) (a .permits .now) len is (s .pre .1) k (a .taker) (a .entry) (a .mode) (members (l .set) k)
-    (walk-end (a .permits .now) (a .count) (λ j. c .before .before .before .before .shared-slice-known .given j .fits) (a .taker) (a .entry) (a .mode) (l .i) (omega arith) k (members (l .set) k) _ (l .inv .1 up .1 k))
+    (walk-end (a .permits .now) (a .count) (a .taker) (a .entry) (a .mode) (l .i) (omega arith) k (members (l .set) k) _ (l .inv .1 up .1 k))
 
 pub givers-spec : {M : Type 1} → statement M
 givers-spec =

@@ -2,10 +2,11 @@
 use mathlib.Core.Bool.{true, false}
 use native.Mathlib.Omega.{arith}
 use borrow.Author.Needs.{needs}
+use Rattle.cells.proofs.PartLaws.{copied}
 use Rattle.sets.specs.Entries.{onEntries}
 use Rattle.rows.proofs.CloseLaws.{closed-few}
 use Rattle.permits.specs.PermitRows.{handed}
-use Rattle.permits.proofs.HandLaws.{copied, Parted, hand-fits, hand-rising, hand-over}
+use Rattle.permits.proofs.HandLaws.{Parted, hand-fits, hand-rising, hand-over}
 use Rattle.permits.proofs.hand_over.Statement.{statement}
 use Rattle.permits.proofs.hand_over.Tie as tie
 

@@ -7,8 +7,8 @@ use borrow.Author.Needs.{needs}
 use Rattle.rules.specs.Sets.{putAll}
 use Rattle.layout.specs.Codec.{changeSection}
 use Rattle.sets.specs.Members.{members}
-use Rattle.sets.proofs.WalkLaws.{lowest-of, rest-without}
-use Rattle.places.proofs.StatusLaws.{passed, Walk, statuses-none, walk-rises, walk-next, statuses-turn, statuses-all}
+use Rattle.sets.proofs.WalkLaws.{lowest-of, rest-without, lowest-rises}
+use Rattle.places.proofs.StatusLaws.{passed, Walk, statuses-none, walk-next, statuses-turn, statuses-all}
 use Rattle.places.proofs.set_statuses.Statement.{statement}
 use Rattle.places.proofs.set_statuses.Tie as tie
 
@@ -30,11 +30,10 @@ loop-holds c =
 
 loop-less : tie.Need-loop-less Inv-loop μ-loop
 loop-less c =
-    let a = c .before .before .before .before .before .before .before .before .before .before .args in
     let l = c .before .before .before .before .before .before .before .loop in
     let w = c .before .rest in
     let left = rest-without (members (l .left)) (l .member) (l .inv .1 .lowest) (members (w .result)) (w .ensures) in
-    omega (arith, walk-rises (members (a .ended)) (members (l .left)) (l .member) (l .inv .1) (omega arith) (members (w .result)) left (c .lowest2 .result) (lowest-of (members (w .result)) (c .lowest2 .result) (c .lowest2 .ensures)))
+    omega (arith, lowest-rises (members (l .left)) (l .member) (l .inv .1 .lowest) (members (w .result)) left (omega arith) (c .lowest2 .result) (lowest-of (members (w .result)) (c .lowest2 .result) (c .lowest2 .ensures)))
 
 loop-again : tie.Need-loop-again Inv-loop μ-loop
 loop-again c =

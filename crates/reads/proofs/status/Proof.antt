@@ -1,11 +1,15 @@
 -- `reads::status` meets its contract. Assumes nothing.
-use Rattle.reads.proofs.ReadLaws.{changes-known, no-status}
+use mathlib.Core.Path.{sym}
+use Rattle.rules.specs.Window.{limits}
+use Rattle.layout.proofs.MemoryLaws.{changes-known}
+use Rattle.layout.proofs.SoundCodec.{decode-blank}
 use borrow.Author.Needs.{needs}
 use Rattle.reads.proofs.status.Statement.{statement}
 use Rattle.reads.proofs.status.Tie as tie
 
 returns : tie.Need-returns
-returns c = no-status (c .before .before .args .w .now) (c .before .before .args .c) (c .if1 .taken)
+unfolding limits
+returns c = sym (decode-blank (c .before .before .args .w .now) .status (c .before .before .args .c) (c .if1 .taken))
 
 returns-2 : tie.Need-returns-2
 returns-2 c = c .status .ensures _ _ (changes-known (c .before .before .before .before .args .w .now) (c .before .before .before .before .pre .1))

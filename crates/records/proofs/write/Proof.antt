@@ -1,6 +1,7 @@
 -- `records::write` meets its contract. Assumes nothing.
+use native.Mathlib.Omega.{arith}
 use lib.Dec.{lit≤}
-use Rattle.records.proofs.ArgumentLaws.{write-known, room-counted}
+use Rattle.records.proofs.ArgumentLaws.{write-known}
 use Rattle.records.proofs.RecordLaws.{write-given}
 use borrow.Author.Needs.{needs}
 use Rattle.records.proofs.write.Statement.{statement}
@@ -16,7 +17,7 @@ log-record-requires : tie.Need-log-record-requires
 log-record-requires c κs =
     let d = c .before .before .before .before .before .before in
     let n = c .before .before .before .records in
-    (d .pre .0, (d .pre .1 .0, (n .ensures .0, room-counted (n .ensures .0) (write-known (d .args .w .now) (d .pre .1 .0) (d .args .change) (d .args .entry) (d .args .value) (d .pre .1 .1) .2))))
+    (d .pre .0, (d .pre .1 .0, (n .ensures .0, omega (arith, n .ensures .0, write-known (d .args .w .now) (d .pre .1 .0) (d .args .change) (d .args .entry) (d .args .value) (d .pre .1 .1) .2))))
 
 cast-store-value : tie.Need-cast-store-value
 cast-store-value c = let d = c .before .before .before .before .before .before .before .before .before .before in record { fits = write-known (d .args .w .now) (d .pre .1 .0) (d .args .change) (d .args .entry) (d .args .value) (d .pre .1 .1) .1 }

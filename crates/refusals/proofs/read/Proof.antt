@@ -1,68 +1,23 @@
--- `refusals::read` meets its contract: each return has the checks before it passed, and its own failed. Assumes nothing.
-use mathlib.Core.Path.{refl, ap}
-use mathlib.Core.Bool.{not}
-use Rattle.rules.specs.Refusals.{_if_, checks}
+-- `refusals::read` meets its contract: the first checks decide, or the last. Assumes nothing.
+use mathlib.Core.Path.{refl}
 use borrow.Author.Needs.{needs}
-use Rattle.refusals.proofs.RefusalLaws.{all-passed, fails, passes, first, reads-same, reads-other}
+use Rattle.rules.specs.Refusals.{_if_, checks}
+use Rattle.refusals.specs.Shared.{onEntry}
+use Rattle.refusals.proofs.RefusalLaws.{decided, undecided, all-passed, fails, passes, reads-same, reads-other}
 use Rattle.refusals.proofs.read.Statement.{statement}
 use Rattle.refusals.proofs.read.Tie as tie
 
 returns : tie.Need-returns
-unfolding checks _if_
-returns c = first (fails (c .before .no-change .ensures) (c .if1 .taken))
+unfolding checks onEntry
+returns c = decided _ (c .before .on-entry .ensures _) (c .if1 .taken)
 
 returns-2 : tie.Need-returns-2
-unfolding checks _if_
-returns-2 c =
-    let c1 = c .before .before in
-    first
-    (passes (c1 .before .no-change .ensures) (c1 .if1 .left)
-    (fails (c .before .no-entry .ensures) (c .if2 .taken)))
+unfolding checks _if_ onEntry
+returns-2 c = let c1 = c .before .before in undecided (c1 .before .on-entry .ensures _) (c1 .if1 .left) (fails refl (reads-same (c .before .held .ensures) 0 (c .if2 .taken)))
 
 returns-3 : tie.Need-returns-3
-unfolding checks _if_
-returns-3 c =
-    let c2 = c .before .before in
-    let c1 = c2 .before .before in
-    first
-    (passes (c1 .before .no-change .ensures) (c1 .if1 .left)
-    (passes (c2 .before .no-entry .ensures) (c2 .if2 .left)
-    (fails (ap not (c .before .is-running .ensures)) (c .if3 .taken))))
-
-returns-4 : tie.Need-returns-4
-unfolding checks _if_
-returns-4 c =
-    let c3 = c .before .before in
-    let c2 = c3 .before .before in
-    let c1 = c2 .before .before in
-    first
-    (passes (c1 .before .no-change .ensures) (c1 .if1 .left)
-    (passes (c2 .before .no-entry .ensures) (c2 .if2 .left)
-    (passes (ap not (c3 .before .is-running .ensures)) (c3 .if3 .left)
-    (fails refl (reads-same (c .before .held .ensures) 0 (c .if4 .taken))))))
-
-returns-5 : tie.Need-returns-5
-unfolding checks _if_
-returns-5 c =
-    let c3 = c .before .before in
-    let c2 = c3 .before .before in
-    let c1 = c2 .before .before in
-    first
-    (passes (c1 .before .no-change .ensures) (c1 .if1 .left)
-    (passes (c2 .before .no-entry .ensures) (c2 .if2 .left)
-    (passes (ap not (c3 .before .is-running .ensures)) (c3 .if3 .left)
-    (passes refl (reads-other (c .before .held .ensures) 0 (c .if4 .left)) all-passed))))
+unfolding checks _if_ onEntry
+returns-3 c = let c1 = c .before .before in undecided (c1 .before .on-entry .ensures _) (c1 .if1 .left) (passes refl (reads-other (c .before .held .ensures) 0 (c .if2 .left)) all-passed)
 
 pub read-spec : {M : Type 1} → statement M
-read-spec =
-    tie.close
-    (tie.spec
-    (λ c κs. search needs)
-    returns
-    (λ c κs. search needs)
-    returns-2
-    (λ c κs. search needs)
-    returns-3
-    (λ c κs. search needs)
-    returns-4
-    returns-5)
+read-spec = tie.close (tie.spec (λ c κs. search needs) returns (λ c κs. search needs) returns-2 returns-3)

@@ -1,87 +1,41 @@
--- `refusals::write` meets its contract: each return has the checks before it passed, and its own failed. Assumes nothing.
+-- `refusals::write` meets its contract: the first checks decide, or one of the others. Assumes nothing.
 use mathlib.Core.Path.{refl, ap}
 use mathlib.Core.Bool.{not}
 use Rattle.rules.specs.Window.{limits}
 use Rattle.rules.specs.Refusals.{_if_, checks}
 use borrow.Author.Needs.{needs}
-use Rattle.refusals.proofs.RefusalLaws.{all-passed, fails, passes, first, reads-same, reads-other, full, room}
+use Rattle.refusals.specs.Shared.{onEntry}
+use Rattle.refusals.proofs.RefusalLaws.{decided, undecided, all-passed, fails, passes, reads-same, reads-other, full, room}
 use Rattle.refusals.proofs.write.Statement.{statement}
 use Rattle.refusals.proofs.write.Tie as tie
 
 returns : tie.Need-returns
-unfolding checks _if_
-returns c = λ v. first (fails (c .before .no-change .ensures) (c .if1 .taken))
+unfolding checks onEntry
+returns c = λ v. decided _ (c .before .on-entry .ensures _) (c .if1 .taken)
 
 returns-2 : tie.Need-returns-2
-unfolding checks _if_
+unfolding checks _if_ onEntry
 returns-2 c =
     let c1 = c .before .before in
-    λ v. first
-    (passes (c1 .before .no-change .ensures) (c1 .if1 .left)
-    (fails (c .before .no-entry .ensures) (c .if2 .taken)))
+    λ v. undecided (c1 .before .on-entry .ensures _) (c1 .if1 .left) (fails refl (ap not (reads-other (c .before .held .ensures) 2 (c .if2 .taken))))
 
 returns-3 : tie.Need-returns-3
-unfolding checks _if_
+unfolding checks _if_ onEntry limits
 returns-3 c =
     let c2 = c .before .before in
     let c1 = c2 .before .before in
-    λ v. first
-    (passes (c1 .before .no-change .ensures) (c1 .if1 .left)
-    (passes (c2 .before .no-entry .ensures) (c2 .if2 .left)
-    (fails (ap not (c .before .is-running .ensures)) (c .if3 .taken))))
+    λ v. undecided (c1 .before .on-entry .ensures _) (c1 .if1 .left)
+    (passes refl (ap not (reads-same (c2 .before .held .ensures) 2 (c2 .if2 .left)))
+    (fails refl (full (c .before .records .ensures .0) _ (c .if3 .taken))))
 
 returns-4 : tie.Need-returns-4
-unfolding checks _if_
+unfolding checks _if_ onEntry limits
 returns-4 c =
-    let c3 = c .before .before in
-    let c2 = c3 .before .before in
+    let c2 = c .before .before in
     let c1 = c2 .before .before in
-    λ v. first
-    (passes (c1 .before .no-change .ensures) (c1 .if1 .left)
-    (passes (c2 .before .no-entry .ensures) (c2 .if2 .left)
-    (passes (ap not (c3 .before .is-running .ensures)) (c3 .if3 .left)
-    (fails refl (ap not (reads-other (c .before .held .ensures) 2 (c .if4 .taken)))))))
-
-returns-5 : tie.Need-returns-5
-unfolding checks _if_ limits
-returns-5 c =
-    let c4 = c .before .before in
-    let c3 = c4 .before .before in
-    let c2 = c3 .before .before in
-    let c1 = c2 .before .before in
-    λ v. first
-    (passes (c1 .before .no-change .ensures) (c1 .if1 .left)
-    (passes (c2 .before .no-entry .ensures) (c2 .if2 .left)
-    (passes (ap not (c3 .before .is-running .ensures)) (c3 .if3 .left)
-    (passes refl (ap not (reads-same (c4 .before .held .ensures) 2 (c4 .if4 .left)))
-    (fails refl (full (c .before .records .ensures .0) _ (c .if5 .taken)))))))
-
-returns-6 : tie.Need-returns-6
-unfolding checks _if_ limits
-returns-6 c =
-    let c4 = c .before .before in
-    let c3 = c4 .before .before in
-    let c2 = c3 .before .before in
-    let c1 = c2 .before .before in
-    λ v. first
-    (passes (c1 .before .no-change .ensures) (c1 .if1 .left)
-    (passes (c2 .before .no-entry .ensures) (c2 .if2 .left)
-    (passes (ap not (c3 .before .is-running .ensures)) (c3 .if3 .left)
-    (passes refl (ap not (reads-same (c4 .before .held .ensures) 2 (c4 .if4 .left)))
-    (passes refl (room (c .before .records .ensures .0) _ (c .if5 .left)) all-passed)))))
+    λ v. undecided (c1 .before .on-entry .ensures _) (c1 .if1 .left)
+    (passes refl (ap not (reads-same (c2 .before .held .ensures) 2 (c2 .if2 .left)))
+    (passes refl (room (c .before .records .ensures .0) _ (c .if3 .left)) all-passed))
 
 pub write-spec : {M : Type 1} → statement M
-write-spec =
-    tie.close
-    (tie.spec
-    (λ c κs. search needs)
-    returns
-    (λ c κs. search needs)
-    returns-2
-    (λ c κs. search needs)
-    returns-3
-    (λ c κs. search needs)
-    returns-4
-    (λ c κs. search needs)
-    returns-5
-    returns-6)
+write-spec = tie.close (tie.spec (λ c κs. search needs) returns (λ c κs. search needs) returns-2 (λ c κs. search needs) returns-3 returns-4)

@@ -34,7 +34,7 @@ loop-again-2 c =
     let a = s .args in
     let l = c .before .before .before .loop in
     let mid : ℕ = l .low + (l .high - l .low) / 2 in
-    (omega arith, omega arith, λ e. (l .inv .2 e .0, half-higher (a .s .now) (a .n) (λ j. c .before .before .before .before .before .shared-slice-known .given j .fits) e (rankOf (a .a) (a .b) (a .c)) mid (omega arith) (omega arith)))
+    (omega arith, omega arith, λ e. (l .inv .2 e .0, half-higher (a .s .now) (a .n) (λ j. c .before .before .before .before .before .shared-slice-known .given j .fits) e (rankOf (a .a) (a .b) (a .c)) mid (omega arith)))
 
 returns : tie.Need-returns Inv-loop μ-loop
 returns c =

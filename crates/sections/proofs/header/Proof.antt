@@ -3,51 +3,52 @@ use mathlib.Core.Path.{_∙_, sym}
 use native.Mathlib.Omega.{arith}
 use borrow.Author.Needs.{needs}
 use Rattle.rules.proofs.TurnLaws.{refused}
-use Rattle.sections.proofs.HeadLaws.{figure-num, entries-again, given-again, records-again, permits-again, ties-again, head-zeros, head-sound}
+use Rattle.places.proofs.TableLaws.{figure-read}
+use Rattle.sections.proofs.HeadLaws.{head-zeros, head-sound}
 use Rattle.sections.proofs.header.Statement.{statement}
 use Rattle.sections.proofs.header.Tie as tie
 
 returns : tie.Need-returns
 returns c =
     let bs = c .before .before .before .args .head .now in
-    refused (λ s. omega (arith, c .before .read-u16 .ensures, figure-num bs 0 (omega (arith, c .before .before .before .pre)), entries-again bs (c .before .before .before .pre) s, s .some))
+    refused (λ s. omega (arith, c .before .read-u16 .ensures, figure-read bs _ 0 (s .bytes) (omega arith) (omega (arith, s .entries-most)), s .some))
 
 returns-2 : tie.Need-returns-2
 returns-2 c =
     let bs = c .before .before .before .before .args .head .now in
-    refused (λ s. omega (arith, c .before .before .read-u16 .ensures, figure-num bs 0 (omega (arith, c .before .before .before .before .pre)), entries-again bs (c .before .before .before .before .pre) s, s .entries-most))
+    refused (λ s. omega (arith, c .before .before .read-u16 .ensures, figure-read bs _ 0 (s .bytes) (omega arith) (omega (arith, s .entries-most)), s .entries-most))
 
 returns-3 : tie.Need-returns-3
 returns-3 c =
     let bs = c .before .before .before .before .before .before .args .head .now in
-    refused (λ s. omega (arith, c .before .read-u162 .ensures, figure-num bs 1 (omega (arith, c .before .before .before .before .before .before .pre)), given-again bs (c .before .before .before .before .before .before .pre) s, s .given-most))
+    refused (λ s. omega (arith, c .before .read-u162 .ensures, figure-read bs _ 1 (s .bytes) (omega arith) (omega (arith, s .given-most)), s .given-most))
 
 returns-4 : tie.Need-returns-4
 returns-4 c =
     let bs = c .before .before .before .before .before .before .before .before .args .head .now in
-    refused (λ s. omega (arith, c .before .read-u163 .ensures, figure-num bs 2 (omega (arith, c .before .before .before .before .before .before .before .before .pre)), records-again bs (c .before .before .before .before .before .before .before .before .pre) s, s .records-most))
+    refused (λ s. omega (arith, c .before .read-u163 .ensures, figure-read bs _ 2 (s .bytes) (omega arith) (omega (arith, s .records-most)), s .records-most))
 
 returns-5 : tie.Need-returns-5
 returns-5 c =
     let bs = c .before .before .before .before .before .before .before .before .before .before .args .head .now in
-    refused (λ s. omega (arith, c .before .read-u164 .ensures, figure-num bs 3 (omega (arith, c .before .before .before .before .before .before .before .before .before .before .pre)), permits-again bs (c .before .before .before .before .before .before .before .before .before .before .pre) s, s .permits-most))
+    refused (λ s. omega (arith, c .before .read-u164 .ensures, figure-read bs _ 3 (s .bytes) (omega arith) (omega (arith, s .permits-most)), s .permits-most))
 
 returns-6 : tie.Need-returns-6
 returns-6 c =
     let bs = c .before .before .before .before .before .before .before .before .before .before .before .before .args .head .now in
-    refused (λ s. omega (arith, c .before .read-u165 .ensures, figure-num bs 4 (omega (arith, c .before .before .before .before .before .before .before .before .before .before .before .before .pre)), ties-again bs (c .before .before .before .before .before .before .before .before .before .before .before .before .pre) s, s .ties-most))
+    refused (λ s. omega (arith, c .before .read-u165 .ensures, figure-read bs _ 4 (s .bytes) (omega arith) (omega (arith, s .ties-most)), s .ties-most))
 
 returns-7 : tie.Need-returns-7
 returns-7 c =
     let bs = c .before .before .before .before .before .before .before .before .before .before .before .before .before .args .head .now in
     let size = c .before .before .before .before .before .before .before .before .before .before .before .before .before .pre in (
       λ e. head-sound bs size (λ i. c .before .before .before .before .before .before .before .before .before .before .before .before .shared-slice-known .given i .fits) (sym (c .all-zero .ensures) ∙ e)
-          (omega (arith, c .before .before .before .before .before .before .before .before .before .before .before .read-u16 .ensures, figure-num bs 0 (omega (arith, size)), c .before .before .before .before .before .before .before .before .before .before .if1 .left))
-          (omega (arith, c .before .before .before .before .before .before .before .before .before .before .before .read-u16 .ensures, figure-num bs 0 (omega (arith, size)), c .before .before .before .before .before .before .before .before .before .if2 .left))
-          (omega (arith, c .before .before .before .before .before .before .before .before .read-u162 .ensures, figure-num bs 1 (omega (arith, size)), c .before .before .before .before .before .before .before .if3 .left))
-          (omega (arith, c .before .before .before .before .before .before .read-u163 .ensures, figure-num bs 2 (omega (arith, size)), c .before .before .before .before .before .if4 .left))
-          (omega (arith, c .before .before .before .before .read-u164 .ensures, figure-num bs 3 (omega (arith, size)), c .before .before .before .if5 .left))
-          (omega (arith, c .before .before .read-u165 .ensures, figure-num bs 4 (omega (arith, size)), c .before .if6 .left)),
+          (omega (arith, c .before .before .before .before .before .before .before .before .before .before .before .read-u16 .ensures, c .before .before .before .before .before .before .before .before .before .before .if1 .left))
+          (omega (arith, c .before .before .before .before .before .before .before .before .before .before .before .read-u16 .ensures, c .before .before .before .before .before .before .before .before .before .if2 .left))
+          (omega (arith, c .before .before .before .before .before .before .before .before .read-u162 .ensures, c .before .before .before .before .before .before .before .if3 .left))
+          (omega (arith, c .before .before .before .before .before .before .read-u163 .ensures, c .before .before .before .before .before .if4 .left))
+          (omega (arith, c .before .before .before .before .read-u164 .ensures, c .before .before .before .if5 .left))
+          (omega (arith, c .before .before .read-u165 .ensures, c .before .if6 .left)),
       λ s. c .all-zero .ensures ∙ head-zeros bs size s,
     )
 

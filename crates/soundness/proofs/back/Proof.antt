@@ -3,8 +3,7 @@ use native.Mathlib.Omega.{arith}
 use Rattle.layout.specs.Codec.{locksAt, locksSize, logAt, logSize}
 use Rattle.cells.specs.Part.{part}
 use Rattle.cells.proofs.PartLaws.{length-part}
-use Rattle.rules.proofs.TurnLaws.{refused}
-use Rattle.soundness.proofs.TestLaws.{fails, passes}
+use Rattle.rules.proofs.TurnLaws.{fails, passes, refused}
 use borrow.Author.Needs.{needs}
 use Rattle.soundness.proofs.back.Statement.{statement}
 use Rattle.soundness.proofs.back.Tie as tie

@@ -1,7 +1,6 @@
 -- `soundness::front` meets its contract. Assumes nothing.
 use Rattle.cells.specs.Part.{part}
-use Rattle.rules.proofs.TurnLaws.{refused}
-use Rattle.soundness.proofs.TestLaws.{fails, passes}
+use Rattle.rules.proofs.TurnLaws.{fails, passes, refused}
 use borrow.Author.Needs.{needs}
 use Rattle.soundness.proofs.front.Statement.{statement}
 use Rattle.soundness.proofs.front.Tie as tie

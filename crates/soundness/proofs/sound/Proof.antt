@@ -2,13 +2,14 @@
 use mathlib.Core.Path.{sym, _∙_}
 use mathlib.Core.Bool.{false≢true}
 use native.Mathlib.Omega.{arith}
+use Rattle.rules.proofs.TurnLaws.{fails, passes}
 use Rattle.rules.proofs.BaseLaws.{no-true, both-ways}
 use Rattle.layout.specs.Codec.{changesAt, changesSize}
 use Rattle.cells.specs.Part.{part}
 use Rattle.cells.proofs.PartLaws.{length-part}
 use Rattle.sets.specs.Members.{members}
-use Rattle.soundness.proofs.CheckLaws.{header-asked, changes-asked, front-asked, back-asked, related-asked, passed}
-use Rattle.soundness.proofs.TestLaws.{fails, passes}
+use Rattle.soundness.proofs.Assembly.{head-known}
+use Rattle.soundness.proofs.CheckLaws.{changes-asked, front-asked, back-asked, related-asked, passed}
 use borrow.Author.Needs.{needs}
 use borrow.Author.Tests.{not-true, not-false}
 use Rattle.soundness.proofs.sound.Statement.{statement}
@@ -16,7 +17,7 @@ use Rattle.soundness.proofs.sound.Tie as tie
 
 returns : tie.Need-returns
 unfolding part
-returns c = sym (no-true _ (λ s. fails (c .before .header .ensures) (c .if1 .taken) (header-asked (c .before .before .before .before .args .w .now) s)))
+returns c = sym (no-true _ (λ s. fails (c .before .header .ensures) (c .if1 .taken) (head-known (c .before .before .before .before .args .w .now) s)))
 
 changes-requires : tie.Need-changes-requires
 unfolding part

@@ -1,6 +1,6 @@
 -- `soundness::sound_memory` meets its contract. Assumes nothing.
 use mathlib.Core.Path.{_∙_}
-use Rattle.soundness.proofs.TestLaws.{memory-short, memory-long}
+use Rattle.soundness.proofs.MemoryLaws.{memory-short, memory-long}
 use borrow.Author.Needs.{needs}
 use Rattle.soundness.proofs.sound_memory.Statement.{statement}
 use Rattle.soundness.proofs.sound_memory.Tie as tie

@@ -26,7 +26,7 @@ Zero c i = getD (c .args .self .words) i 0 ≡ 0
 -- a word that is not 0, with words that are 0 before it
 found : (c : tie.Start) (i r : ℕ) → i < 4 → 0 < getD (c .args .self .words) i 0 → ((j : ℕ) → j < i → Zero c j)
     → 64 * i + trailingZeros 64 (getD (c .args .self .words) i 0) ≡ r → r ≡ lowestBelow 256 (members (c .args .self))
-found c = let len : length (c .args .self .words) ≡ 4 = search needs in lowest-word (c .args .self) len (λ i. small c i .fits)
+found c i r = lowest-word (c .args .self) i r (small c i .fits)
 
 returns : tie.Need-returns
 returns c = let s = c .before .before in found s 0 _ (omega arith) (omega arith) (below-none (Zero s)) (omega arith)
@@ -53,7 +53,7 @@ returns-5 : tie.Need-returns-5
 returns-5 c =
     let s = c .before .before .before .before .before in
     let len : length (s .args .self .words) ≡ 4 = search needs in
-    lowest-nothing (s .args .self) len (λ i. small s i .fits) (each-of-4 (Zero s) (omega arith) (omega arith) (omega arith) (omega arith))
+    lowest-nothing (s .args .self) len (each-of-4 (Zero s) (omega arith) (omega arith) (omega arith) (omega arith))
 
 pub lowest-spec : {M : Type 1} → statement M
 lowest-spec =

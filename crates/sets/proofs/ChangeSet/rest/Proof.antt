@@ -64,7 +64,7 @@ returns-5 : tie.Need-returns-5
 returns-5 c =
     let s = c .before .before .before .before .before in
     let len : length (s .args .self .words) ≡ 4 = search needs in
-    rest-nothing (s .args .self) len (λ i. small s i .fits) (each-of-4 (Zero s) (omega arith) (omega arith) (omega arith) (omega arith))
+    rest-nothing (s .args .self) len (each-of-4 (Zero s) (omega arith) (omega arith) (omega arith) (omega arith))
 
 pub rest-spec : {M : Type 1} → statement M
 rest-spec =
