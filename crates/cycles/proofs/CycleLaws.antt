@@ -5,10 +5,10 @@ use mathlib.Core.Logic.{_↔_}
 use mathlib.Core.List.{List}
 use Prim.Native.Nat.{ℕ, _<_}
 use lib.Dec.{eqb}
-use borrow.Author.Tests.{not-true, eqb-true}
+use borrow.Author.Tests.{not-true}
 use Rattle.rules.specs.Base.{allBelow, anyBelow}
 use Rattle.rules.specs.Sets.{Set, reach}
-use Rattle.rules.proofs.BaseLaws.{and-left, and-right, any-intro, any-elim, anyBelow-none, allBelow-intro, allBelow-at, both-ways, no-true, eqb-same, Same, same, other, same?}
+use Rattle.rules.proofs.BaseLaws.{and-eqs, any-intro, any-elim, anyBelow-none, allBelow-intro, allBelow-at, both-ways, no-true, eqb-same, Same, same, other, same?}
 use Rattle.rules.proofs.PathLaws.{Way, stay, on, way-join, Bounded, reach-ways}
 use Rattle.rules.proofs.SourceLaws.{source}
 use Rattle.layout.proofs.SectionLaws.{Bytes}
@@ -36,15 +36,7 @@ module _ (G : Graph) (m : ℕ) where
   -- the place of an arrow
   pub edge-place : (a b : ℕ) → edge G m a b ≡ true → (j : ℕ) × (j < m) × (G .arrow j ≡ true) × (G .from j ≡ a) × (G .to j ≡ b)
   unfolding edge
-  edge-place a b e =
-      let w = any-elim m (λ i. G.arrow i && eqb (G.from i) a && eqb (G.to i) b) e in
-      let u = and-left (G.arrow (w .0) && eqb (G.from (w .0)) a) (eqb (G.to (w .0)) b) (w .2) in (
-        w .0,
-        w .1,
-        and-left (G.arrow (w .0)) (eqb (G.from (w .0)) a) u,
-        eqb-true (G.from (w .0)) a (and-right (G.arrow (w .0)) (eqb (G.from (w .0)) a) u),
-        eqb-true (G.to (w .0)) b (and-right (G.arrow (w .0) && eqb (G.from (w .0)) a) (eqb (G.to (w .0)) b) (w .2)),
-      )
+  edge-place a b e = let w = any-elim m (λ i. G.arrow i && eqb (G.from i) a && eqb (G.to i) b) e in let q = and-eqs (G.arrow (w .0)) (G.from (w .0)) a (G.to (w .0)) b (w .2) in (w .0, w .1, q .0, q .1, q .2)
 
   module _ (small : Small G m) where
     -- arrows between numbers below 256

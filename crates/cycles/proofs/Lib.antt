@@ -1,5 +1,5 @@
 -- What is proved of arrows between groups.
--- a list filled from the front, a search that goes on
+-- a list filled from the front, a list of which each element is changed
 pub mod LoopLaws
 -- two changes have one label just where they are of one group
 pub mod LabelLaws

@@ -1,4 +1,4 @@
--- What loops do: fill a list from the front, and search on. Assumes nothing.
+-- What loops do: fill a list from the front, and change each element. Assumes nothing.
 use mathlib.Core.Path.{_≡_, refl, sym, _∙_}
 use mathlib.Core.Bool.{Bool}
 use mathlib.Core.List.{List, [], _∷_, map}

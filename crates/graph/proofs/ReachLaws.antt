@@ -1,8 +1,8 @@
 -- What is reached along the ties of a section, for any bound on their ends; and the leaders of ties to a set. Assumes nothing.
-use mathlib.Core.Path.{_≡_, refl, sym, ap, fun-ext, _∙_}
-use mathlib.Core.Bool.{Bool, true, false, _&&_, _||_, or-false}
+use mathlib.Core.Path.{_≡_, sym, ap, fun-ext, _∙_}
+use mathlib.Core.Bool.{Bool, true, false, _&&_, _||_, or-false, and-assoc, and-comm}
 use mathlib.Core.List.{List}
-use Prim.Native.Nat.{ℕ, _*_, _≤_, _<_}
+use Prim.Native.Nat.{ℕ, _*_, _≤_}
 use native.Mathlib.Omega.{arith}
 use lib.Dec.{ltb, eqb}
 use lib.ListN.{length, getD}
@@ -10,9 +10,9 @@ use borrow.Author.Tests.{lt-ltb}
 use Rattle.rules.specs.Base.{anyBelow}
 use Rattle.rules.specs.Sets.{Set, only, closure, reach}
 use Rattle.rules.specs.Window.{TieRecord}
-use Rattle.rules.specs.Ties.{isWait, isFall, isArrow}
+use Rattle.rules.specs.Ties.{isArrow}
 use Rattle.rules.specs.Effects.{leadsTo, leadersOf}
-use Rattle.rules.proofs.BaseLaws.{and-both, both-ways, any-intro, any-elim, Same, same, other, same?}
+use Rattle.rules.proofs.BaseLaws.{and-both, both-ways, any-intro, any-elim}
 use Rattle.rules.proofs.ListLaws.{all-places, any-at, any-place}
 use Rattle.rules.proofs.PathLaws.{Bounded, closure-bound, grouped-bounded, falling-bounded, leading-bounded}
 use Rattle.layout.specs.Codec.{noTie, tieSection}
@@ -22,7 +22,6 @@ use Rattle.layout.proofs.SectionLaws.{Bytes}
 use Rattle.sets.specs.declared.Along.{Along}
 use Rattle.sets.specs.declared.Along.the-variants.{Groups, Falls, Arrows}
 use Rattle.sets.specs.Closure.{relation}
-use Rattle.sets.proofs.MemberLaws.{add-passed}
 
 -- the ends of ties in bytes are below 256
 section-below : (bs : List ℕ) (ts : List TieRecord) (m : ℕ) → Bytes bs → 4 * m ≤ length bs → length ts ≡ m → bs ≡ tieSection ts → endsBelow 256 ts ≡ true
@@ -60,26 +59,7 @@ leaders-of bs ts m s k room len e = both-ways _ _
     (λ q. let a = any-place (leadsTo s k) noTie ts q in
     any-intro m (λ j. leadsTo s k (tieAt bs j)) (a .0) (omega (arith, a .1)) (rw (section-read bs ts m room e (a .0) (omega (arith, a .1))) (a .2)))
 
--- a tie of another kind, or to no member, adds nothing
-pub leader-none : (t : TieRecord) (f s : Set) → isArrow t.kind && f t.follower ≡ false → (k : ℕ) → s k ≡ s k || leadsTo f k t
+-- a tie's leader, where it is an arrow to a member
+pub leads-where : (t : TieRecord) (f : Set) (k : ℕ) → eqb t.leader k && (isArrow t.kind && f t.follower) ≡ leadsTo f k t
 unfolding leadsTo
-leader-none t f s h k = sym (ap (λ (b : Bool). s k || b) (go (isArrow t.kind) (eqb t.leader k) (f t.follower) h) ∙ or-false (s k))
-  where
-    go : (a b c : Bool) → a && c ≡ false → a && b && c ≡ false
-    go true true c e = e
-    go true false c e = refl
-    go false b c e = refl
-
--- an arrow to a member adds its leader
-pub leader-more : (t : TieRecord) (f s : Set) → isArrow t.kind ≡ true → f t.follower ≡ true → (k : ℕ) → eqb k t.leader || s k ≡ s k || leadsTo f k t
-unfolding leadsTo
-leader-more t f s a h k = rw a (add-passed t.leader k (s k) _ (f t.follower) h refl)
-
--- the kinds of arrows
-pub arrow-of : (k : ℕ) → 0 < k → k ≤ 2 → isArrow k ≡ true
-unfolding isArrow isWait isFall
-arrow-of k h l = go (same? k 1)
-  where
-    go : {b : Bool} → Same k 1 b → eqb k 1 || eqb k 2 ≡ true
-    go (same e) = rw e
-    go (other u) = let e : k ≡ 2 = omega arith in rw e
+leads-where t f k = sym (and-assoc (eqb t.leader k) (isArrow t.kind) (f t.follower)) ∙ ap (λ b. b && f t.follower) (and-comm (eqb t.leader k) (isArrow t.kind))

@@ -7,19 +7,18 @@ use mathlib.Core.Logic.{_⊎_, inl, inr, ⊎-elim}
 use Prim.Native.Nat.{ℕ, _<_, min, max}
 use native.Mathlib.Omega.{arith}
 use lib.Dec.{ltb, eqb}
-use borrow.Author.Tests.{eqb-true, ne-eqb, lt-ltb}
+use borrow.Author.Tests.{ne-eqb, lt-ltb}
 use Rattle.rules.specs.Base.{outside}
 use Rattle.rules.specs.Sets.{reach}
 use Rattle.rules.specs.Window.{TieRecord, tieKey}
 use Rattle.rules.specs.Ties.{isGroup, isArrow, makeTie, addTie, tied, grouped, leading, acyclic}
-use Rattle.rules.proofs.BaseLaws.{or-left, or-right, or-cases, or-map, and-both, and-left, and-right, no-true, Below, under, over, below}
+use Rattle.rules.proofs.BaseLaws.{and-eqs, or-left, or-right, or-cases, or-map, and-both, no-true, Below, under, over, below}
 use Rattle.rules.proofs.SoundParts.{inside-of}
 use Rattle.rules.proofs.SortLaws.{all-insert, any-inserted}
-use Rattle.rules.proofs.TieLaws.{arrow-not-group}
+use Rattle.rules.proofs.TieLaws.{arrow-of, arrow-not-group}
 use Rattle.rules.proofs.PathLaws.{Way, stay, on, way-join, way-map, by-arrow, NoReturn, acyclic-clear, clear-acyclic}
 use Rattle.rules.proofs.DemandEnds.{tie-old, tie-new}
 use Rattle.layout.specs.Records.{endsBelow}
-use Rattle.graph.proofs.ReachLaws.{arrow-of}
 use Rattle.graph.proofs.WayLaws.{reached, unreached, Round, around, back-or-arrow}
 
 -- ONE TIE MORE
@@ -27,9 +26,7 @@ module _ (t : TieRecord) (ts : List TieRecord) where
   -- a tie of the longer list is an old one or the new one
   tied-added : (k : ℕ → Bool) (a b : ℕ) → tied (addTie t ts) k a b ≡ true → (tied ts k a b ≡ true) ⊎ ((k t.kind ≡ true) × (t .leader ≡ a) × (t .follower ≡ b))
   unfolding tied addTie
-  tied-added k a b e = ⊎-elim (λ q. let u = and-left (k t.kind && eqb t.leader a) (eqb t.follower b) q in
-      inr (and-left (k t.kind) (eqb t.leader a) u, eqb-true t.leader a (and-right (k t.kind) (eqb t.leader a) u), eqb-true t.follower b (and-right (k t.kind && eqb t.leader a) (eqb t.follower b) q)))
-      inl (any-inserted tieKey (λ u. k u.kind && eqb u.leader a && eqb u.follower b) t ts e)
+  tied-added k a b e = ⊎-elim (λ q. inr (and-eqs (k t.kind) t.leader a t.follower b q)) inl (any-inserted tieKey (λ u. k u.kind && eqb u.leader a && eqb u.follower b) t ts e)
 
   -- the old steps are there
   leading-old : (a b : ℕ) → leading ts a b ≡ true → leading (addTie t ts) a b ≡ true

@@ -81,8 +81,5 @@ pub fn leaders(ties: &[u8], count: usize, followers: ChangeSet) -> ChangeSet
 fn with_leader(s: ChangeSet, followers: ChangeSet, kind: u8, leader: u8, follower: u8) -> ChangeSet
     ensures { λ r. ⌜ ((k : ℕ) → members r k ≡ members s k || leadsTo (members followers) k (tieOf kind leader follower)) ⌝ }
 {
-    if is_arrow(kind) & followers.has(follower) {
-        return s.add(leader);
-    }
-    s
+    s.add_if(leader, is_arrow(kind) & followers.has(follower))
 }

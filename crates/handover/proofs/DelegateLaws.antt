@@ -2,13 +2,14 @@
 use mathlib.Core.Path.{_≡_, refl, sym, _∙_, ap}
 use mathlib.Core.Logic.{_≢_}
 use mathlib.Core.Bool.{Bool, true, false, not, cond}
-use mathlib.Core.List.{List}
+use mathlib.Core.List.{List, [], _∷_}
 use Prim.Native.Nat.{ℕ, _<_, _%_}
 use native.Mathlib.Omega.{arith}
 use native.Mathlib.Nat.{mod-eq-of-lt}
 use lib.Dec.{eqb}
 use lib.ListN.{take}
 use borrow.Author.Tests.{not-false}
+use Rattle.rules.specs.Base.{all}
 use Rattle.rules.specs.Window.{limits, Window, live}
 use Rattle.rules.specs.Locks.{clashesPermitted}
 use Rattle.rules.specs.Calls.{Delegate}
@@ -25,17 +26,18 @@ use Rattle.replies.specs.declared.Reply.{Reply}
 use Rattle.replies.specs.Gives.{Gives, written}
 use Rattle.replies.proofs.GiveLaws.{turned-back, let-through, given-done}
 use Rattle.reads.proofs.ReadLaws.{change-fits, entry-fits}
-use Rattle.pair_refusals.proofs.PairLaws.{stopped, went-on, delegate-passed}
+use Rattle.refusals.proofs.RefusalLaws.{Checked, all-passed, fails, passes, stopped, went-on}
+use Rattle.pair_refusals.proofs.PairLaws.{delegate-passed}
 
 module _ (W : Window) (f t e : ℕ) (none : firstFailed (take 5 (checks limits W (Delegate f t e))) ≡ 0) where
   -- WHAT IS LEFT is the last check
   fails-last : (b : Bool) → b ≡ clashesPermitted (handOver W f t (entriesNamed e)) → cond b 0 10 ≡ firstFailed (checks limits W (Delegate f t e))
-  unfolding firstFailed checks _if_
-  fails-last b q = went-on 5 (checks limits W (Delegate f t e)) (cond b 0 10) (delegate-passed W f t e none) (go b q)
+  unfolding checks all _if_
+  fails-last b q = went-on 5 (checks limits W (Delegate f t e)) refl (sym none) refl (go b q)
     where
-      go : (b : Bool) {x : Bool} → b ≡ x → _≡_ {A = ℕ} (cond b 0 10) (cond (not x) 10 0)
-      go true q = rw (sym q)
-      go false q = rw (sym q)
+      go : (b : Bool) {x : Bool} → b ≡ x → Checked (10 if not x ∷ []) (cond b 0 10)
+      go true q = passes (ap not q) refl all-passed
+      go false q = fails (ap not q) refl
 
   -- who receives is live
   pub to-live : live W t ≡ true

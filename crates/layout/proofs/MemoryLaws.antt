@@ -1,4 +1,4 @@
--- The calls on lent memory: what each does to sound memory, to other memory, and to what lies past the window. Assumes nothing.
+-- Sound bytes and their sections; the calls on lent memory: what each does to sound memory, to other memory, and to what lies past the window. Assumes nothing.
 use mathlib.Core.Path.{_≡_, refl, sym, _∙_, ap}
 use mathlib.Core.Logic.{_≢_, _↔_}
 use mathlib.Core.Bool.{Bool, true, false, not, cond, false≢true, and-false}

@@ -1,4 +1,4 @@
--- Records read by their places: the bytes of a record are the record, and what is read from a section is what it holds. Assumes nothing.
+-- Permits and ties read from a section by their places; a tie that stands, by its place. Assumes nothing.
 use mathlib.Core.Path.{_≡_, _∙_, ap}
 use mathlib.Core.Bool.{Bool, true, _&&_}
 use mathlib.Core.List.{List}
@@ -6,10 +6,9 @@ use Prim.Native.Nat.{ℕ, _+_, _*_, _≤_, _<_}
 use native.Mathlib.Omega.{arith}
 use lib.Dec.{eqb}
 use lib.ListN.{length, getD}
-use borrow.Author.Tests.{eqb-true}
 use Rattle.rules.specs.Window.{PermitRecord, TieRecord}
 use Rattle.rules.specs.Ties.{tied}
-use Rattle.rules.proofs.BaseLaws.{and-left, and-right, eqb-same}
+use Rattle.rules.proofs.BaseLaws.{and-eqs, eqb-same}
 use Rattle.rules.proofs.ListLaws.{any-at, any-place}
 use Rattle.layout.specs.Codec.{noPermit, permitBytes, permitByte, permitSection, noTie, tieBytes, tieByte, tieSection}
 use Rattle.layout.specs.Records.{permitAt, tieAt}
@@ -50,19 +49,8 @@ pub record Stands (ts : List TieRecord) (kind : ℕ → Bool) (a b : ℕ) : Type
 module _ (ts : List TieRecord) (kind : ℕ → Bool) where
   pub tied-place : (a b : ℕ) → tied ts kind a b ≡ true → Stands ts kind a b
   unfolding tied
-  tied-place a b e = let m = any-place (λ t. kind t.kind && eqb t.leader a && eqb t.follower b) noTie ts e in go (m .0) (m .1) (m .2)
-    where
-      go : (j : ℕ) → j < length ts → kind (getD ts j noTie .kind) && eqb (getD ts j noTie .leader) a && eqb (getD ts j noTie .follower) b ≡ true → Stands ts kind a b
-      go j h q =
-          let t = getD ts j noTie in
-          let r = and-left (kind (t .kind) && eqb (t .leader) a) (eqb (t .follower) b) q in
-          record {
-            place = j;
-            below = h;
-            has = and-left (kind (t .kind)) (eqb (t .leader) a) r;
-            leads = eqb-true (t .leader) a (and-right (kind (t .kind)) (eqb (t .leader) a) r);
-            follow = eqb-true (t .follower) b (and-right (kind (t .kind) && eqb (t .leader) a) (eqb (t .follower) b) q);
-          }
+  tied-place a b e = let m = any-place (λ t. kind t.kind && eqb t.leader a && eqb t.follower b) noTie ts e in let t = getD ts (m .0) noTie in
+      let q = and-eqs (kind (t .kind)) (t .leader) a (t .follower) b (m .2) in record { place = m .0; below = m .1; has = q .0; leads = q .1; follow = q .2 }
 
   -- a tie at a place ties its leader to its follower
   pub tied-at : (j : ℕ) → j < length ts → kind (getD ts j noTie .kind) ≡ true → tied ts kind (getD ts j noTie .leader) (getD ts j noTie .follower) ≡ true

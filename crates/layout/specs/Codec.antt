@@ -100,7 +100,7 @@ headByte figures i = byte (i % 2) (getD figures (i / 2) 0)
 unfoldable pub valueByte : (ℕ → ℕ) → ℕ → ℕ
 valueByte value i = byte (i % 4) (value (i / 4))
 
--- changes: status, parent, and two bytes reserved
+-- changes: status, parent, a byte reserved and one that is 0
 unfoldable pub changeByte : (ℕ → ℕ) → (ℕ → ℕ) → ℕ → ℕ
 changeByte status parent i = getD (status (i / 4) ∷ parent (i / 4) ∷ []) (i % 4) 0
 

@@ -1,9 +1,7 @@
 -- The first checks of a call that names two changes, and the others after them. Assumes nothing.
 use mathlib.Core.Path.{_≡_, refl, sym, _∙_}
-use mathlib.Core.Logic.{_≢_}
-use mathlib.Core.Bool.{Bool, true, false, not, cond, _&&_}
-use mathlib.Core.List.{List, [], _∷_}
-use Prim.Native.Nat.{ℕ, zero, suc, _≤_, _<_}
+use mathlib.Core.Bool.{Bool, true, false, not, _&&_}
+use Prim.Native.Nat.{ℕ, _≤_, _<_}
 use lib.Dec.{eqb}
 use lib.ListN.{take, drop}
 use borrow.Author.Tests.{ltb-false, leb-false, not-true, not-false}
@@ -11,10 +9,10 @@ use Rattle.rules.specs.Base.{outside, all}
 use Rattle.rules.specs.Window.{limits, Window, noEntry}
 use Rattle.rules.specs.Calls.{Permit, Delegate, Depend}
 use Rattle.rules.specs.Effects.{every}
-use Rattle.rules.specs.Refusals.{Check, _if_, checks, firstFailed}
+use Rattle.rules.specs.Refusals.{_if_, checks, firstFailed}
 use Rattle.rules.proofs.SoundStep.{Passed, passed}
 use Rattle.rules.proofs.SoundParts.{numbered}
-use Rattle.refusals.proofs.RefusalLaws.{Checked, first}
+use Rattle.refusals.proofs.RefusalLaws.{Checked, went-on}
 
 -- a test of an entry x that may be every entry
 pub unless-every : (x : ℕ) {t b : Bool} → t ≡ b → not (eqb x 65535) && t ≡ not (eqb x every) && b
@@ -33,25 +31,6 @@ module _ {t b : Bool} (e : t ≡ not b) where
   pub has-room : not t ≡ false → b ≡ false
   has-room h = not-true b (sym e ∙ not-false t h)
 
--- THE FIRST n CHECKS OF A LIST
--- one of them fails
-pub stopped : (n : ℕ) (l : List Check) (r : ℕ) → r ≡ firstFailed (take n l) → r ≢ 0 → r ≡ firstFailed l
-unfolding firstFailed
-stopped zero l r e h = absurd (h e)
-stopped (suc n) [] r e h = e
-stopped (suc n) (k ∷ l) r e h = go (k .fails) e (λ q. stopped n l r q h)
-  where
-    go : (b : Bool) → r ≡ cond b k.code (firstFailed (take n l)) → (r ≡ firstFailed (take n l) → r ≡ firstFailed l) → r ≡ cond b k.code (firstFailed l)
-    go true q f = q
-    go false q f = f q
-
--- none does, and the others decide
-pub went-on : (n : ℕ) (l : List Check) (r : ℕ) → Passed (take n l) → r ≡ firstFailed (drop n l) → r ≡ firstFailed l
-unfolding firstFailed
-went-on zero l r p q = q
-went-on (suc n) [] r p q = q
-went-on (suc n) (k ∷ l) r p q = rw (p .0) (went-on n l r (p .1) q)
-
 -- PERMIT, DELEGATE AND DEPEND
 -- no number of a permit is refused
 module _ (W : Window) (g t e o r : ℕ) (q : r ≡ firstFailed (take 5 (checks limits W (Permit g t e o)))) (z : r ≡ 0) where
@@ -64,7 +43,8 @@ module _ (W : Window) (g t e o r : ℕ) (q : r ≡ firstFailed (take 5 (checks l
   permit-numbers = let p = permit-passed in (numbered W g (p .0), ltb-false (W .given) t (p .1 .0), leb-false (W .entries) e (p .1 .1 .0))
 
   pub permit-rest : {s : ℕ} → Checked (drop 5 (checks limits W (Permit g t e o))) s → s ≡ firstFailed (checks limits W (Permit g t e o))
-  permit-rest k = went-on 5 (checks limits W (Permit g t e o)) _ permit-passed (first k)
+  unfolding checks all _if_
+  permit-rest = went-on 5 (checks limits W (Permit g t e o)) refl q z
 
 -- no check of a delegate before the last fails
 pub delegate-passed : (W : Window) (f t e : ℕ) → firstFailed (take 5 (checks limits W (Delegate f t e))) ≡ 0 → Passed (take 5 (checks limits W (Delegate f t e)))
@@ -82,4 +62,5 @@ module _ (W : Window) (k l f r : ℕ) (q : r ≡ firstFailed (take 4 (checks lim
   depend-numbers = let p = depend-passed in (p .1 .1 .0, numbered W l (p .0), numbered W f (p .1 .0))
 
   pub depend-rest : {s : ℕ} → Checked (drop 4 (checks limits W (Depend k l f))) s → s ≡ firstFailed (checks limits W (Depend k l f))
-  depend-rest m = went-on 4 (checks limits W (Depend k l f)) _ depend-passed (first m)
+  unfolding checks all _if_
+  depend-rest = went-on 4 (checks limits W (Depend k l f)) refl q z

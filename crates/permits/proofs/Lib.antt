@@ -1,4 +1,4 @@
--- What is proved of the table of permits. Other crates cite a file X here as Rattle.permits.proofs.X.
+-- What is proved of the table of permits.
 -- permits as rows; the permits left are the rules'
 pub mod PermitLaws
 -- the hand-over: rows given one after the other, and what that makes of the permits

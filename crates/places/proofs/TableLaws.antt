@@ -37,7 +37,7 @@ pub value-places : (v : ℕ → ℕ) → valueSection v ≡ table 1024 0 (placed
 unfolding valueSection valueByte placed
 value-places v = ap (table 1024 0) (fun-ext (λ i. sym (le-byte 4 (i % 4) (v (i / 4)) (mod-lt i (omega arith)))))
 
--- the two bytes that are reserved
+-- the two bytes that are 0
 past : (a b j : ℕ) → getD (a ∷ b ∷ []) j 0 ≡ getD (a ∷ b ∷ 0 ∷ 0 ∷ []) j 0
 past a b zero = refl
 past a b (suc zero) = refl

@@ -1,4 +1,4 @@
--- What the sections of sound bytes say of the window that they are: its figures, places and tests. Assumes nothing.
+-- What is known of the window of sound bytes: numbers that fit, locks in their range, figures as they are read; a number that is read, against another. Assumes nothing.
 use mathlib.Core.Path.{_≡_, sym, _∙_}
 use mathlib.Core.Logic.{_≢_}
 use mathlib.Core.Bool.{Bool, true, false, not, _&&_}

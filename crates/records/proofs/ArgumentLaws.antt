@@ -1,4 +1,4 @@
--- What is known of the arguments of write, permit and depend that are not refused: each but write's value fits a byte. Assumes nothing.
+-- What is known of write, permit and depend that are not refused: each argument but write's value fits a byte, and there is room; and of where a part ends. Assumes nothing.
 use mathlib.Core.Path.{_≡_, ap}
 use mathlib.Core.Bool.{true, false, not}
 use mathlib.Core.List.{List}

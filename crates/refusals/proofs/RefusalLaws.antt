@@ -3,15 +3,16 @@ use mathlib.Core.Path.{_≡_, refl, sym, _∙_}
 use mathlib.Core.Logic.{_≢_}
 use mathlib.Core.Bool.{Bool, true, false, not, cond, _||_}
 use mathlib.Core.List.{List, [], _∷_}
-use Prim.Native.Nat.{ℕ, suc, _≤_, _<_}
+use Prim.Native.Nat.{ℕ, zero, suc, _≤_, _<_}
 use native.Mathlib.Omega.{arith}
 use lib.Dec.{ltb, eqb}
-use borrow.Author.Tests.{ne-eqb, lt-ltb, le-ltb}
-use Rattle.rules.specs.Base.{exceeds}
+use lib.ListN.{take, drop}
+use borrow.Author.Tests.{lt-ltb, le-ltb}
+use Rattle.rules.specs.Base.{exceeds, all}
 use Rattle.rules.specs.Window.{Window, noChange}
 use Rattle.rules.specs.Refusals.{Check, _if_, checks, firstFailed}
 use Rattle.rules.proofs.BaseLaws.{over-false, over-true}
-pub use Rattle.reads.proofs.ReadLaws.{reads-same, reads-other}
+use Rattle.rules.proofs.SoundStep.{Passed, passed}
 use Rattle.refusals.specs.Shared.{ChangeRefusal}
 
 -- checks made in order give a number: t is the code's test
@@ -27,12 +28,27 @@ first all-passed = refl
 first (fails e h) = rw (sym e, h)
 first (passes e h q) = rw (sym e, h) (first q)
 
--- what the first checks of a list give, r, decides, or those after them, l
-pub decided : (l : List Check) {r n : ℕ} → cond (eqb r 0) (firstFailed l) r ≡ n → r ≢ 0 → r ≡ n
-decided l {r} e h = rw (ne-eqb r 0 h) at e
+-- THE FIRST n CHECKS OF A LIST
+-- one of them fails
+pub stopped : (n : ℕ) (l : List Check) (r : ℕ) → r ≡ firstFailed (take n l) → r ≢ 0 → r ≡ firstFailed l
+unfolding firstFailed
+stopped zero l r e h = absurd (h e)
+stopped (suc n) [] r e h = e
+stopped (suc n) (k ∷ l) r e h = go (k .fails) e (λ q. stopped n l r q h)
+  where
+    go : (b : Bool) → r ≡ cond b k.code (firstFailed (take n l)) → (r ≡ firstFailed (take n l) → r ≡ firstFailed l) → r ≡ cond b k.code (firstFailed l)
+    go true q f = q
+    go false q f = f q
 
-pub undecided : {l : List Check} {r s n : ℕ} → cond (eqb r 0) (firstFailed l) r ≡ n → r ≡ 0 → Checked l s → s ≡ n
-undecided e z q = first q ∙ (rw z at e)
+-- none does, and the others decide
+rest-decides : (n : ℕ) (l : List Check) (s : ℕ) → Passed (take n l) → s ≡ firstFailed (drop n l) → s ≡ firstFailed l
+unfolding firstFailed
+rest-decides zero l s p q = q
+rest-decides (suc n) [] s p q = q
+rest-decides (suc n) (k ∷ l) s p q = rw (p .0) (rest-decides n l s (p .1) q)
+
+pub went-on : (n : ℕ) (l : List Check) {r s : ℕ} → all (λ k. ltb 0 k.code) (take n l) ≡ true → r ≡ firstFailed (take n l) → r ≡ 0 → Checked (drop n l) s → s ≡ firstFailed l
+went-on n l c e z q = rest-decides n l _ (passed (take n l) c (sym e ∙ z)) (first q)
 
 -- the four calls that only ask that there is the change have the same checks
 pub change-refusal : {W : Window} {c r : ℕ} → Checked (3 if noChange W c ∷ []) r → ChangeRefusal W c r

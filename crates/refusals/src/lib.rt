@@ -8,17 +8,15 @@ use reads::no_change;
 use reads::no_entry;
 use reads::outside;
 ghost use mathlib.Core.Path.{_≡_};
-ghost use mathlib.Core.Bool.{true, cond};
-ghost use mathlib.Core.List.{List};
+ghost use mathlib.Core.Bool.{true};
 ghost use Prim.Native.Nat.{ℕ};
-ghost use lib.Dec.{eqb};
-ghost use lib.ListN.{length};
+ghost use lib.ListN.{length, take};
 ghost use Rattle.rules.specs.Window.{limits};
 ghost use Rattle.rules.specs.Calls.{Initiate, Begin, Complete, Lock, Read, Write, Value};
-ghost use Rattle.rules.specs.Refusals.{Check, checks, firstFailed};
+ghost use Rattle.rules.specs.Refusals.{checks, firstFailed};
 ghost use Rattle.layout.specs.Codec.{windowSize, decode};
 ghost use Rattle.layout.specs.Memory.{soundBytes};
-ghost use Rattle.refusals.specs.Shared.{ChangeRefusal, onEntry};
+ghost use Rattle.refusals.specs.Shared.{ChangeRefusal};
 
 // Commit, abort, status and parent.
 pub fn change(w: &[u8], change: u32) -> u32
@@ -118,7 +116,7 @@ pub fn lock(w: &[u8], change: u32, entry: u32, mode: u32) -> u32
 fn on_entry(w: &[u8], change: u32, entry: u32) -> u32
     requires { ⌜ length (now w) ≡ windowSize ⌝ }
     requires { ⌜ soundBytes (now w) ≡ true ⌝ }
-    ensures { λ r. ⌜ ((l : List Check) → cond (eqb r 0) (firstFailed l) r ≡ firstFailed (onEntry (decode (now (w .entry))) change entry l)) ⌝ }
+    ensures { λ r. ⌜ r ≡ firstFailed (take 3 (checks limits (decode (now (w .entry))) (Read change entry))) ⌝ }
 {
     if no_change(w, change) {
         return 3;

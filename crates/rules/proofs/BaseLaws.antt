@@ -38,6 +38,9 @@ or-map a b c d f g e = ⊎-elim (λ x. or-left c d (f x)) (λ x. or-right c d (g
 pub and-map : (a b c d : Bool) → (a ≡ true → c ≡ true) → (b ≡ true → d ≡ true) → a && b ≡ true → c && d ≡ true
 and-map a b c d f g e = and-both c d (f (and-left a b e)) (g (and-right a b e))
 
+pub and-eqs : (p : Bool) (x a y b : ℕ) → p && eqb x a && eqb y b ≡ true → (p ≡ true) × (x ≡ a) × (y ≡ b)
+and-eqs p x a y b e = let u = and-left (p && eqb x a) (eqb y b) e in (and-left p (eqb x a) u, eqb-true x a (and-right p (eqb x a) u), eqb-true y b (and-right (p && eqb x a) (eqb y b) e))
+
 pub and-four : (a b c d : Bool) → a && b && c && d ≡ true → (a ≡ true) × (b ≡ true) × (c ≡ true) × (d ≡ true)
 and-four a b c d e = let f = and-left (a && b && c) d e in let g = and-left (a && b) c f in (and-left a b g, and-right a b g, and-right (a && b) c f, and-right (a && b && c) d e)
 

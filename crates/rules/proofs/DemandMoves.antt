@@ -40,6 +40,7 @@ pub record Calm (W X : Window) : Type 0 where
   pub permits : X .permits ≡ W .permits
   pub ties : X .ties ≡ W .ties
 
+-- what a call comes to: its action where it is answered 0, its second number and the window that it leaves
 pub data Move (W : Window) : Action → ℕ → Window → Type 0 where
   opened : (n k : ℕ) → Move W opening k (fresh n)
   started : (p : ℕ) → Move W initiating (suc (W .given)) (addChange W p)

@@ -34,6 +34,7 @@ pub data Led (W : Window) (p : List Event) (k l f : ℕ) : Type 0 where
   fell : shownStatus W f ≡ 5 → Led W p k l f
   led : passes k (shownStatus W l) ≡ true → (isEnded (shownStatus W f) ≡ false) ⊎ (endedAt p l < endedAt p f) → Led W p k l f
 
+-- what every call keeps of statuses, ends and made ties
 pub record TieHistory (W : Window) (p : List Event) : Type 0 where
   pub shown : (c : ℕ) → status p c ≡ shownStatus W c
   pub past : (c : ℕ) → isEnded (shownStatus W c) ≡ true → (0 < endedAt p c) × (endedAt p c ≤ length p)

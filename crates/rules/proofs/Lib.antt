@@ -27,7 +27,7 @@ pub mod SoundDelegate
 pub mod SoundDepend
 pub mod SoundEnd
 pub mod SoundStep
--- demand 2's sentences: when a lock is granted, when a change commits, what a withdrawal puts back
+-- groups, the set that an abort ends and arrows, by paths; demand 2: when a lock is granted, when a change commits, what a withdrawal puts back
 pub mod Promises
 -- demand 3 of the rules (Demand.rules-kept); DemandAlike carries it to whatever answers alike
 pub mod DemandMoves

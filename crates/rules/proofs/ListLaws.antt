@@ -1,7 +1,7 @@
 -- Tests of all or some of a list, of which a part is kept, of which each is changed, to which one is added. Assumes nothing.
 use mathlib.Core.Path.{_≡_, refl, ap}
 use mathlib.Core.Logic.{⊎-elim}
-use mathlib.Core.Bool.{Bool, true, false, not, cond, _&&_, _||_, false≢true}
+use mathlib.Core.Bool.{Bool, true, false, not, cond, _||_, false≢true}
 use mathlib.Core.List.{List, [], _∷_, _++_, map, List·Memᴰ, List·Memᴰ·head, List·Memᴰ·tail}
 use Prim.Native.Nat.{ℕ, zero, suc, _+_, _≤_, _<_}
 use native.Mathlib.Nat.{not-suc-le-zero, le-of-suc-le-suc}
@@ -34,12 +34,6 @@ module _ {ℓ} {A : Type ℓ} where
       go : (b : Bool) → q x ≡ b → all r (keep q l) ≡ true → all r (cond b (x ∷ keep q l) (keep q l)) ≡ true
       go true h ih = and-both (r x) (all r (keep q l)) (f x (and-left (p x) (all p l) e) h) ih
       go false h ih = ih
-
-  all-and : (p q : A → Bool) (l : List A) → all p l ≡ true → all q l ≡ true → all (λ x. p x && q x) l ≡ true
-  unfolding all
-  all-and p q [] d e = refl
-  all-and p q (x ∷ l) d e = and-both (p x && q x) (all (λ y. p y && q y) l) (and-both (p x) (q x) (and-left (p x) (all p l) d) (and-left (q x) (all q l) e))
-      (all-and p q l (and-right (p x) (all p l) d) (and-right (q x) (all q l) e))
 
   pub any-keep-up : (p q : A → Bool) → ((x : A) → p x ≡ true → q x ≡ true) → (l : List A) → any p l ≡ true → any p (keep q l) ≡ true
   unfolding any keep

@@ -6,12 +6,12 @@ use mathlib.Core.List.{List, List·Memᴰ}
 use Prim.Native.Nat.{ℕ, suc, _<_}
 use native.Mathlib.Omega.{arith}
 use lib.Dec.{ltb, eqb}
-use borrow.Author.Tests.{ltb-true, lt-ltb, eqb-true}
+use borrow.Author.Tests.{ltb-true, lt-ltb}
 use Rattle.rules.specs.Base.{all, keep}
 use Rattle.rules.specs.Sets.{Set, Rel, only, closure, reach}
 use Rattle.rules.specs.Window.{TieRecord}
 use Rattle.rules.specs.Ties.{isArrow, tied, grouped, falling, leading, acyclic}
-use Rattle.rules.proofs.BaseLaws.{or-left, or-right, or-cases, or-map, and-left, and-right, and-map, eqb-same, both-ways, no-true}
+use Rattle.rules.proofs.BaseLaws.{and-eqs, or-left, or-right, or-cases, or-map, and-map, eqb-same, both-ways, no-true}
 use Rattle.rules.proofs.ListLaws.{all-weaken, all-keep, all-members, any-keep, find}
 use Rattle.rules.proofs.SetLaws.{closure-to, closure-holds, closure-closed, reach-to}
 use Rattle.rules.proofs.TieLaws.{grouped-ends, falling-ends, leading-ends, stands-tied}
@@ -143,10 +143,7 @@ module _ (ts : List TieRecord) where
     acyclic-clear h l f e p = let m = find _ (λ t. not (isArrow t.kind) || not (reach n (leading ts) t.follower t.leader)) ts e h in go (m .0) (m .1) (m .2)
       where
         go : (t : TieRecord) → isArrow t.kind && eqb t.leader l && eqb t.follower f ≡ true → not (isArrow t.kind) || not (reach n (leading ts) t.follower t.leader) ≡ true → ⊥
-        go t x y =
-            let u = and-left (isArrow t.kind && eqb t.leader l) (eqb t.follower f) x in
-            let z = rw (and-left (isArrow t.kind) (eqb t.leader l) u, eqb-true t.leader l (and-right (isArrow t.kind) (eqb t.leader l) u), eqb-true t.follower f (and-right (isArrow t.kind && eqb t.leader l) (eqb t.follower f) x)) at y in
-            false≢true (rw (reach-ways n (leading ts) leading-bounded f l .1 p) at z)
+        go t x y = let q = and-eqs (isArrow t.kind) t.leader l t.follower f x in false≢true (rw (q .0, q .1, q .2, reach-ways n (leading ts) leading-bounded f l .1 p) at y)
 
     -- and where none returns they are acyclic
     pub clear-acyclic : NoReturn ts → acyclic n ts ≡ true

@@ -1,16 +1,17 @@
 -- Ties: their kinds, who is at their ends, and groups. Assumes nothing.
 use mathlib.Core.Path.{_≡_, _∙_}
 use mathlib.Core.Logic.{⊎-elim}
-use mathlib.Core.Bool.{Bool, true, false, _&&_, false≢true, or-comm}
+use mathlib.Core.Bool.{Bool, true, false, _&&_, _||_, false≢true, or-comm}
 use mathlib.Core.List.{List, List·Memᴰ}
-use Prim.Native.Nat.{ℕ, suc}
+use Prim.Native.Nat.{ℕ, suc, _≤_, _<_}
+use native.Mathlib.Omega.{arith}
 use lib.Dec.{eqb}
 use borrow.Author.Tests.{eqb-true, ne-eqb}
 use Rattle.rules.specs.Base.{all}
 use Rattle.rules.specs.Sets.{Set}
 use Rattle.rules.specs.Window.{TieRecord, Window}
 use Rattle.rules.specs.Ties.{isGroup, isArrow, isWait, isFall, tied, grouped, falling, leading, groupOf}
-use Rattle.rules.proofs.BaseLaws.{or-cases, and-left, and-right, and-map, eqb-same}
+use Rattle.rules.proofs.BaseLaws.{and-eqs, Same, same, other, same?, or-cases, and-left, and-right, and-map, eqb-same}
 use Rattle.rules.proofs.ListLaws.{any-member, any-weaken, find}
 use Rattle.rules.proofs.SetLaws.{reach-seed}
 
@@ -18,6 +19,15 @@ use Rattle.rules.proofs.SetLaws.{reach-seed}
 pub arrow-not-group : (k : ℕ) → isArrow k ≡ true → isGroup k ≡ false
 unfolding isArrow isWait isFall isGroup
 arrow-not-group k e = ne-eqb k 3 (λ q. false≢true (rw q at e))
+
+-- kinds 1 and 2 are arrows
+pub arrow-of : (k : ℕ) → 0 < k → k ≤ 2 → isArrow k ≡ true
+unfolding isArrow isWait isFall
+arrow-of k h l = go (same? k 1)
+  where
+    go : {b : Bool} → Same k 1 b → eqb k 1 || eqb k 2 ≡ true
+    go (same e) = rw e
+    go (other u) = let e : k ≡ 2 = omega arith in rw e
 
 -- kind 3 is the group's
 pub group-is : (k : ℕ) → k ≡ 3 → isGroup k ≡ true
@@ -45,10 +55,7 @@ module _ (p : Set) (ts : List TieRecord) (ends : all (λ t. p t.leader && p t.fo
   tied-ends k a b e = let m = find _ (λ t. p t.leader && p t.follower) ts e ends in go (m .0) (m .1) (m .2)
     where
       go : (t : TieRecord) → k t.kind && eqb t.leader a && eqb t.follower b ≡ true → p t.leader && p t.follower ≡ true → (p a ≡ true) × (p b ≡ true)
-      go t x y =
-          let l : t .leader ≡ a = eqb-true t.leader a (and-right (k t.kind) (eqb t.leader a) (and-left _ (eqb t.follower b) x)) in
-          let f : t .follower ≡ b = eqb-true t.follower b (and-right (k t.kind && eqb t.leader a) (eqb t.follower b) x) in
-          (rw l at (and-left (p t.leader) (p t.follower) y), rw f at (and-right (p t.leader) (p t.follower) y))
+      go t x y = let q = and-eqs (k t.kind) t.leader a t.follower b x in (rw (q .1) at (and-left (p t.leader) (p t.follower) y), rw (q .2) at (and-right (p t.leader) (p t.follower) y))
 
   pub grouped-ends : (a b : ℕ) → grouped ts a b ≡ true → (p a ≡ true) × (p b ≡ true)
   unfolding grouped

@@ -1,4 +1,4 @@
--- What callers want of sets of four words: nothing past 255, and words that are settled by the members. Assumes nothing.
+-- What callers want of sets of four words: nothing past 255, words that are settled by the members, and one or several more where a test passed. Assumes nothing.
 use mathlib.Core.Path.{_≡_, refl, sym, ap, _∙_}
 use mathlib.Core.Bool.{Bool, Bool·beq, true, false, _&&_, _||_, and-true, and-false, or-false, or-comm}
 use mathlib.Core.List.{List, [], _∷_}

@@ -5,8 +5,8 @@ use Rattle.rules.specs.Calls.{Depend}
 use Rattle.rules.specs.Refusals.{_if_, checks}
 use Rattle.layout.specs.Codec.{decode}
 use borrow.Author.Needs.{needs}
-use Rattle.refusals.proofs.RefusalLaws.{all-passed, fails, passes}
-use Rattle.pair_refusals.proofs.PairLaws.{stopped, depend-numbers, depend-rest, neither, no-room, has-room}
+use Rattle.refusals.proofs.RefusalLaws.{stopped, all-passed, fails, passes}
+use Rattle.pair_refusals.proofs.PairLaws.{depend-numbers, depend-rest, neither, no-room, has-room}
 use Rattle.pair_refusals.proofs.depend.Statement.{statement}
 use Rattle.pair_refusals.proofs.depend.Tie as tie
 

@@ -2,7 +2,8 @@
 use mathlib.Core.Path.{refl}
 use Rattle.rules.specs.Refusals.{_if_, checks}
 use borrow.Author.Needs.{needs}
-use Rattle.refusals.proofs.RefusalLaws.{all-passed, fails, passes, first, reads-same, reads-other}
+use Rattle.reads.proofs.ReadLaws.{reads-same, reads-other}
+use Rattle.refusals.proofs.RefusalLaws.{all-passed, fails, passes, first}
 use Rattle.pair_refusals.proofs.depend_numbers.Statement.{statement}
 use Rattle.pair_refusals.proofs.depend_numbers.Tie as tie
 

@@ -6,8 +6,8 @@ use Rattle.rules.specs.Calls.{Permit}
 use Rattle.rules.specs.Refusals.{_if_, checks}
 use Rattle.layout.specs.Codec.{decode}
 use borrow.Author.Needs.{needs}
-use Rattle.refusals.proofs.RefusalLaws.{all-passed, fails, passes, unless-none}
-use Rattle.pair_refusals.proofs.PairLaws.{stopped, permit-numbers, permit-rest, no-room, has-room}
+use Rattle.refusals.proofs.RefusalLaws.{stopped, all-passed, fails, passes, unless-none}
+use Rattle.pair_refusals.proofs.PairLaws.{permit-numbers, permit-rest, no-room, has-room}
 use Rattle.pair_refusals.proofs.permit.Statement.{statement}
 use Rattle.pair_refusals.proofs.permit.Tie as tie
 

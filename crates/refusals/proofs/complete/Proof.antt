@@ -4,7 +4,8 @@ use mathlib.Core.Bool.{not}
 use Rattle.rules.specs.Window.{running}
 use Rattle.rules.specs.Refusals.{_if_, checks}
 use borrow.Author.Needs.{needs}
-use Rattle.refusals.proofs.RefusalLaws.{all-passed, fails, passes, first, reads-same, reads-other}
+use Rattle.reads.proofs.ReadLaws.{reads-same, reads-other}
+use Rattle.refusals.proofs.RefusalLaws.{all-passed, fails, passes, first}
 use Rattle.refusals.proofs.complete.Statement.{statement}
 use Rattle.refusals.proofs.complete.Tie as tie
 

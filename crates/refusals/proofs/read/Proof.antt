@@ -1,23 +1,23 @@
 -- `refusals::read` meets its contract: the first checks decide, or the last. Assumes nothing.
 use mathlib.Core.Path.{refl}
 use borrow.Author.Needs.{needs}
+use Rattle.rules.specs.Base.{all}
 use Rattle.rules.specs.Refusals.{_if_, checks}
-use Rattle.refusals.specs.Shared.{onEntry}
-use Rattle.refusals.proofs.RefusalLaws.{decided, undecided, all-passed, fails, passes, reads-same, reads-other}
+use Rattle.reads.proofs.ReadLaws.{reads-same, reads-other}
+use Rattle.refusals.proofs.RefusalLaws.{stopped, went-on, all-passed, fails, passes}
 use Rattle.refusals.proofs.read.Statement.{statement}
 use Rattle.refusals.proofs.read.Tie as tie
 
 returns : tie.Need-returns
-unfolding checks onEntry
-returns c = decided _ (c .before .on-entry .ensures _) (c .if1 .taken)
+returns c = stopped 3 _ _ (c .before .on-entry .ensures) (c .if1 .taken)
 
 returns-2 : tie.Need-returns-2
-unfolding checks _if_ onEntry
-returns-2 c = let c1 = c .before .before in undecided (c1 .before .on-entry .ensures _) (c1 .if1 .left) (fails refl (reads-same (c .before .held .ensures) 0 (c .if2 .taken)))
+unfolding checks all _if_
+returns-2 c = let c1 = c .before .before in went-on 3 _ refl (c1 .before .on-entry .ensures) (c1 .if1 .left) (fails refl (reads-same (c .before .held .ensures) 0 (c .if2 .taken)))
 
 returns-3 : tie.Need-returns-3
-unfolding checks _if_ onEntry
-returns-3 c = let c1 = c .before .before in undecided (c1 .before .on-entry .ensures _) (c1 .if1 .left) (passes refl (reads-other (c .before .held .ensures) 0 (c .if2 .left)) all-passed)
+unfolding checks all _if_
+returns-3 c = let c1 = c .before .before in went-on 3 _ refl (c1 .before .on-entry .ensures) (c1 .if1 .left) (passes refl (reads-other (c .before .held .ensures) 0 (c .if2 .left)) all-passed)
 
 pub read-spec : {M : Type 1} → statement M
 read-spec = tie.close (tie.spec (λ c κs. search needs) returns (λ c κs. search needs) returns-2 returns-3)
