@@ -3,8 +3,8 @@ use mathlib.Core.Path.{_≡_}
 use mathlib.Core.Bool.{Bool, true, false}
 use mathlib.Core.List.{List}
 use Prim.Native.Nat.{ℕ, _+_, _≤_, _<_}
+use native.Mathlib.Decide.{decLt}
 use native.Mathlib.Omega.{arith}
-use borrow.Author.Count.{below-more}
 use Rattle.rules.specs.Window.{PermitRecord}
 use Rattle.layout.specs.Records.{permitAt}
 use Rattle.rules.proofs.BoundLaws.{any-ext}
@@ -24,8 +24,15 @@ module _ (p : PermitRecord → Bool) (bs : List ℕ) (start : ℕ) where
   pub skipped-none : Skipped start
   skipped-none k h l = absurd (omega arith)
 
+  pub skipped-run : (j n : ℕ) → Skipped j → ((k : ℕ) → j ≤ k → k < j + n → p (permitAt bs k) ≡ false) → Skipped (j + n)
+  skipped-run j n before none k h l = go (decLt k j)
+    where
+      go : Dec (k < j) → p (permitAt bs k) ≡ false
+      go (yes m) = before k h m
+      go (no m) = none k (omega arith) l
+
   pub skipped-more : (j : ℕ) → Skipped j → p (permitAt bs j) ≡ false → Skipped (j + 1)
-  skipped-more j before e k h l = below-more (λ (i : ℕ). start ≤ i → p (permitAt bs i) ≡ false) j (λ i m s. before i s m) (λ _. e) k l h
+  skipped-more j before e = skipped-run j 1 before (λ k h l. let here : k ≡ j = omega arith in rw here e)
 
   pub none-before : (count j : ℕ) → start ≤ j → j ≤ count → Skipped j → NoneBefore p bs count start j
   none-before count j h l before = record { from = h; to = l; skipped = before }

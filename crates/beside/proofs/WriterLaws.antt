@@ -8,13 +8,9 @@ use lib.Dec.{eqb}
 use borrow.Author.Tests.{ne-eqb}
 use Rattle.rules.specs.Base.{allBelow}
 use Rattle.rules.specs.Sets.{Set}
-use Rattle.rules.proofs.BaseLaws.{or-right, Same, same, other, same?, allBelow-intro, allBelow-at}
+use Rattle.rules.proofs.BaseLaws.{or-left, or-right, Same, same, other, same?, allBelow-intro, allBelow-at}
 use Rattle.rules.proofs.TurnLaws.{turn-failed, turns-done}
 use Rattle.sets.proofs.WalkLaws.{Lowest, lowest-rises}
-
--- who is no writer passes a test of every writer
-cell-none : (x q : Bool) → x ≡ false → not x || q ≡ true
-cell-none x q e = rw e
 
 -- a walk over the writers x with the test q: `left` are those not yet looked at, a the lowest of them
 pub record Walked (x : Set) (q : ℕ → Bool) (left : Set) (a : ℕ) : Type 0 where
@@ -26,7 +22,7 @@ pub record Walked (x : Set) (q : ℕ → Bool) (left : Set) (a : ℕ) : Type 0 w
 
 module _ (x : Set) (q : ℕ → Bool) where
   pub walk-start : (a : ℕ) → Lowest x a → Walked x q x a
-  walk-start a l = record { lowest = l; later = λ k h. refl; passed = allBelow-intro a _ (λ k h. cell-none (x k) (q k) (l .before k h)) }
+  walk-start a l = record { lowest = l; later = λ k h. refl; passed = allBelow-intro a _ (λ k h. or-left (not (x k)) (q k) (ap not (l .before k h))) }
 
   module _ (left : Set) (a : ℕ) (w : Walked x q left a) (ha : a < 256) where
     -- the writer at hand fails
@@ -46,7 +42,7 @@ module _ (x : Set) (q : ℕ → Bool) where
           go : (k : ℕ) → k < a′ → Dec (k < a) → {b : Bool} → Same k a b → not (x k) || q k ≡ true
           go k h (yes l) s = allBelow-at a _ (w .passed) k l
           go k h (no l) (same p) = or-right (not (x k)) (q k) (rw p (sym e ∙ f))
-          go k h (no l) (other n) = cell-none (x k) (q k) (sym (kept k (omega arith)) ∙ next .before k h)
+          go k h (no l) (other n) = or-left (not (x k)) (q k) (ap not (sym (kept k (omega arith)) ∙ next .before k h))
 
   -- no writer is left
   pub walk-done : (left : Set) (a : ℕ) → Walked x q left a → 256 ≤ a → true ≡ allBelow 256 (λ k. not (x k) || q k)

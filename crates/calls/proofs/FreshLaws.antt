@@ -1,11 +1,11 @@
 -- The bytes of a fresh window: zeros, but for the number of entries. Assumes nothing.
 use mathlib.Core.Path.{_≡_, refl, sym, _∙_, ap}
 use mathlib.Core.Bool.{true}
-use mathlib.Core.List.{List, [], _∷_, _++_, append-nil}
+use mathlib.Core.List.{List, [], _∷_, _++_}
 use Prim.Native.Nat.{ℕ, suc, _-_, _/_, _%_}
 use native.Mathlib.Omega.{arith}
 use lib.Dec.{eqb}
-use lib.ListN.{length, getD, replicate, length-replicate, replicate-append-replicate, drop-of-length-le}
+use lib.ListN.{length, getD, replicate, length-replicate, replicate-append-replicate}
 use borrow.Author.Tests.{eqb-true, ne-eqb}
 use Rattle.rules.specs.Base.{all}
 use Rattle.rules.specs.Window.{fresh}
@@ -16,6 +16,7 @@ use Rattle.layout.proofs.SectionLaws.{Section, section, sections, layOut, total
 use Rattle.layout.proofs.RecordLaws.{table-zeros}
 use Rattle.layout.proofs.LentLaws.{headLaid, FigureStored, figure-stored}
 use Rattle.cells.specs.Part.{patch}
+use Rattle.cells.proofs.PartLaws.{patch-whole}
 
 -- sections of zeros
 abbrev AllZero : List Section → Type 0
@@ -25,7 +26,7 @@ AllZero (s ∷ l) = ((i : ℕ) → s .content i ≡ 0) × AllZero l
 layOut-zero : (l : List Section) → AllZero l → layOut l ≡ replicate (total l) 0
 unfolding layOut
 layOut-zero [] z = refl
-layOut-zero (s ∷ l) z = (λ j. table-zeros (s .size) 0 (s .content) (z .0) j ++ layOut-zero l (z .1) j) ∙ replicate-append-replicate (s .size) (total l) 0
+layOut-zero (s ∷ l) z = (λ j. table-zeros (s .size) (s .content) (z .0) j ++ layOut-zero l (z .1) j) ∙ replicate-append-replicate (s .size) (total l) 0
 
 -- nothing in any place
 none : (l : List ℕ) → all (λ x. eqb x 0) l ≡ true → (i : ℕ) → getD l i 0 ≡ 0
@@ -71,8 +72,8 @@ blank n e = ap (λ k. replicate k 0) e ∙ sym (encode-sections (fresh 0) ∙ la
 -- cleared, and the number of entries stored
 pub made-fresh : (bs : List ℕ) → length bs ≡ windowSize → (n : ℕ) (cleared head : List ℕ) → cleared ≡ patch bs 0 (replicate (length bs - 0) 0)
     → FigureStored cleared 0 n head → headLaid cleared head ≡ encode (fresh n)
-unfolding patch encode lay figures fresh
+unfolding encode lay figures fresh
 made-fresh bs size n cleared head e f = figure-stored (fresh 0) (fresh n) whole 0 n (omega arith) f refl
   where
     whole : cleared ≡ encode (fresh 0)
-    whole = e ∙ ap (λ l. replicate (length bs - 0) 0 ++ l) (drop-of-length-le bs {i = length (replicate (length bs - 0) 0)} (omega (arith, length-replicate {A = ℕ} (length bs - 0) 0))) ∙ append-nil (replicate (length bs - 0) 0) ∙ blank (length bs - 0) (omega arith)
+    whole = e ∙ patch-whole bs (replicate (length bs - 0) 0) (omega (arith, length-replicate {A = ℕ} (length bs - 0) 0)) ∙ blank (length bs - 0) (omega arith)

@@ -21,11 +21,8 @@ module _ (mem : List ℕ) (h : soundMemory mem ≡ true) where
   unfolding long
   lent-room = leb-true windowSize (length mem) (sound-long mem h)
 
-  pub lent-size : length (take windowSize mem) ≡ windowSize
-  lent-size = length-take-le windowSize mem lent-room
-
-  pub lent-sound : soundBytes (take windowSize mem) ≡ true
-  lent-sound = sound-front mem h
+  pub lent-window : (length (take windowSize mem) ≡ windowSize) × (soundBytes (take windowSize mem) ≡ true)
+  lent-window = (length-take-le windowSize mem lent-room, sound-front mem h)
 
 -- the window lent to be looked at alone
 pub looked-at : (mem : List ℕ) (call : Call) → soundMemory mem ≡ true → (r : Reply) → Gives (written (step limits (windowOf mem) call)) r (take windowSize mem) → Gives (perform mem call) r mem

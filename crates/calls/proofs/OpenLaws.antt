@@ -1,6 +1,6 @@
 -- What open does on lent memory. Assumes nothing.
-use mathlib.Core.Path.{_≡_, refl, sym, _∙_, ap}
-use mathlib.Core.Bool.{Bool, true, false, cond, _||_}
+use mathlib.Core.Path.{_≡_, sym, _∙_, ap}
+use mathlib.Core.Bool.{true, false, cond, _||_}
 use mathlib.Core.List.{List, _++_}
 use Prim.Native.Nat.{ℕ, _<_, _≤_}
 use native.Mathlib.Omega.{arith}
@@ -9,10 +9,9 @@ use lib.ListN.{length, take, drop}
 use borrow.Author.Tests.{le-leb, lt-leb}
 use Rattle.rules.specs.Base.{outside}
 use Rattle.rules.specs.Window.{limits, fresh}
-use Rattle.rules.specs.Calls.{Open, done, unchanged}
-use Rattle.rules.specs.Effects.{effect}
-use Rattle.rules.specs.Refusals.{_if_, checks, firstFailed, settle, step}
+use Rattle.rules.specs.Calls.{Open}
 use Rattle.rules.proofs.BaseLaws.{exceeds-ltb}
+use Rattle.rules.proofs.RuleLaws.{open-is}
 use Rattle.layout.specs.Codec.{windowSize, encode}
 use Rattle.layout.specs.Memory.{long, perform}
 use Rattle.layout.proofs.MemoryLaws.{perform-short, perform-still, open-answered, open-numbered, opened-bytes}
@@ -21,15 +20,6 @@ use Rattle.replies.specs.Gives.{Gives}
 use Rattle.replies.proofs.GiveLaws.{handed-back}
 
 module _ (mem : List ℕ) (n : ℕ) where
-  -- what the rules answer
-  ruled : step limits (fresh 0) (Open n) .answer ≡ cond (outside 1 256 n) 2 0
-  unfolding step checks _if_ firstFailed settle effect done unchanged outside limits
-  ruled = rw (exceeds-ltb n 256) (go (ltb n 1 || ltb 256 n))
-    where
-      go : (b : Bool) → settle (cond b 2 0) (fresh 0) (done 0 (fresh n)) .answer ≡ cond b 2 0
-      go true = refl
-      go false = refl
-
   pub open-short : length mem < windowSize → (r : Reply) → (r .answer ≡ 1) × (r .number ≡ 0) → Gives (perform mem (Open n)) r mem
   unfolding long
   open-short h r e = rw (perform-short mem (Open n) (lt-leb windowSize (length mem) h)) (handed-back mem 1 r e)
@@ -40,7 +30,8 @@ module _ (mem : List ℕ) (n : ℕ) where
     is-long = le-leb windowSize (length mem) room
 
     answered : perform mem (Open n) .answer ≡ cond (outside 1 256 n) 2 0
-    answered = open-answered mem (fresh 0) n is-long ∙ ruled
+    unfolding outside limits
+    answered = open-answered mem (fresh 0) n is-long ∙ open-is limits (fresh 0) n ∙ ap (λ b. cond (ltb n 1 || b) 2 0) (exceeds-ltb n 256)
 
     pub open-refused : outside 1 256 n ≡ true → (r : Reply) → (r .answer ≡ 2) × (r .number ≡ 0) → Gives (perform mem (Open n)) r mem
     open-refused o r e = let a : perform mem (Open n) .answer ≡ 2 = answered ∙ ap (λ b. cond b 2 0) o in

@@ -2,7 +2,7 @@
 use mathlib.Core.Path.{_≡_, refl, sym, ap, _∙_}
 use mathlib.Core.Bool.{true, false, not, _&&_, _||_, true≢false, false≢true}
 use Prim.Native.Nat.{ℕ, zero, suc, _+_, _-_, _*_, _/_, _%_, _^_, _≤_, _<_, min, max}
-use native.Mathlib.Nat.{div-div-eq-div-mul, div-one, pow-succ', mod-lt, zero-lt-suc, div-eq-of-lt}
+use native.Mathlib.Nat.{div-div-eq-div-mul, div-one, pow-succ', mod-lt, zero-lt-suc, div-eq-of-lt, one-mul}
 use native.Mathlib.Omega.{arith}
 use lib.Dec.{eqb, eqb·zero-suc, eqb·suc-zero, eqb·suc-suc}
 use lib.Pow.{pow-mono, shl-shr, shr-shr, field, mod-mod-pow}
@@ -39,11 +39,6 @@ pub unpack-next : (w k : ℕ) → unpack w (suc k) ≡ unpack (w / 2) k
 unfolding unpack
 unpack-next w k = ap (λ (x : ℕ). eqb (x % 2) 1) (ap (λ (x : ℕ). w / x) (pow-succ' 2 k) ∙ sym (div-div-eq-div-mul w 2 (2 ^ k)))
 
--- 0 has none
-pub unpack-zero : (k : ℕ) → unpack 0 k ≡ false
-unpack-zero zero = unpack-first 0
-unpack-zero (suc k) = unpack-next 0 k ∙ unpack-zero k
-
 -- a number of n digits has none from n on
 pub unpack-above : (w n k : ℕ) → w < 2 ^ n → n ≤ k → unpack w k ≡ false
 unfolding unpack
@@ -51,8 +46,12 @@ unpack-above w n k h l =
     let q : w < 2 ^ k = omega (arith, pow-mono l) in
     ap (λ (x : ℕ). eqb (x % 2) 1) (div-eq-of-lt q)
 
+-- 0 has none
+pub unpack-zero : (k : ℕ) → unpack 0 k ≡ false
+unpack-zero k = unpack-above 0 0 k (omega arith) (omega arith)
+
 -- a power of 2 has one
-pub unpack-power : (j k : ℕ) → unpack (2 ^ j) k ≡ eqb k j
+unpack-power : (j k : ℕ) → unpack (2 ^ j) k ≡ eqb k j
 unpack-power zero zero = unpack-first 1
 unpack-power zero (suc k) = unpack-next 1 k ∙ unpack-zero k ∙ sym (eqb·suc-zero k)
 unpack-power (suc j) zero =
@@ -129,6 +128,10 @@ unpack-mod n x k l =
     let e : n - k + k ≡ n = omega arith in
     let f : n - k - 1 + 1 ≡ n - k = omega arith in
     ap (λ (y : ℕ). eqb (y % 2) 1) (rw e at (field x (n - k) k)) ∙ ap (λ (y : ℕ). eqb y 1) (rw f at (mod-mod-pow (x / 2 ^ k) (n - k - 1) 1))
+
+-- `1 << t` has digit t alone
+pub unpack-one : (t k : ℕ) → k < 64 → unpack ((1 * 2 ^ t) % 2 ^ 64) k ≡ eqb k t
+unpack-one t k l = unpack-mod 64 (1 * 2 ^ t) k l ∙ ap (λ (x : ℕ). unpack x k) (one-mul (2 ^ t)) ∙ unpack-power t k
 
 -- `>>` moves the digits down
 pub unpack-shr : (s w k : ℕ) → unpack (w / 2 ^ s) k ≡ unpack w (s + k)

@@ -5,7 +5,7 @@ use Prim.Native.Nat.{ℕ, zero, suc, _+_, _-_, _≤_, _<_}
 use native.Mathlib.Nat.{le-of-suc-le-suc, not-suc-le-zero, suc-add, zero-add, add-zero}
 use native.Mathlib.Omega.{arith}
 use lib.ListN.{length, take, drop, getD, set, replicate, length-append, length-take, length-drop, take-append-drop, length-set, length-replicate, drop-of-length-le}
-use lib.Seq.{sets, take-at, drop-at, take-append-le, drop-append-add, getD-take, getD-drop, take-take, drop-drop, length-take-le, drop-cons}
+use lib.Seq.{sets, sets-eq, take-set-le, take-set-lt, drop-set-lt, drop-set-add, take-at, drop-at, take-append-le, drop-append-add, getD-take, getD-drop, take-take, drop-drop, length-take-le, drop-cons}
 use Rattle.cells.specs.Part.{part, patch}
 
 -- LENGTHS: of a part
@@ -99,10 +99,8 @@ patch-cons (y ∷ l) (suc at) x xs h = ap (λ (r : List ℕ). y ∷ r) (patch-co
 
 -- all
 pub sets-patch : (l : List ℕ) (at : ℕ) (xs : List ℕ) → at + length xs ≤ length l → sets l at xs ≡ patch l at xs
-sets-patch l at [] h = sym (patch-nil l at)
-sets-patch l at (x ∷ xs) h =
-    let h′ : at + suc (length xs) ≤ length l = h in
-    sets-patch (set l at x) (suc at) xs (simp length-set (omega (arith, suc-add at (length xs)))) ∙ patch-cons l at x xs (omega arith)
+unfolding patch
+sets-patch l at xs h = sets-eq xs l at h ∙ append-assoc (take at l) xs (drop (at + length xs) l) ∙ ap (λ (r : List ℕ). take at l ++ (xs ++ r)) (sym (drop-drop (length xs) at l))
 
 -- a patch right after another is one
 pub patch-append : (l : List ℕ) (at : ℕ) (xs ys : List ℕ) (m : ℕ) → at + length xs ≡ m → m + length ys ≤ length l → patch (patch l at xs) m ys ≡ patch l at (xs ++ ys)
@@ -119,10 +117,22 @@ patch-append l at xs ys m e h =
 pub patch-next : (l : List ℕ) (at : ℕ) (xs : List ℕ) (v m : ℕ) → at + length xs ≡ m → m < length l → set (patch l at xs) m v ≡ patch l at (xs ++ (v ∷ []))
 patch-next l at xs v m e h = sets-patch (patch l at xs) m (v ∷ []) (omega (arith, length-patch l at xs (omega arith))) ∙ patch-append l at xs (v ∷ []) m e (omega arith)
 
+-- a store within a part is a patch of that part
+pub set-part : (l : List ℕ) (at n j v : ℕ) → at + n ≤ length l → j < n → set l (at + j) v ≡ patch l at (set (part l at n) j v)
+unfolding part patch
+set-part l at n j v h k =
+    sym (take-append-drop at (set l (at + j) v))
+    ∙ ap₂ _++_ (take-set-le at l (at + j) v (omega arith)) (drop-set-add at l j v ∙ sym (take-append-drop n (set (drop at l) j v))
+    ∙ ap₂ _++_ (take-set-lt n (drop at l) j v k) (drop-set-lt n (drop at l) j v k ∙ ap (λ (m : ℕ). drop m (drop at l)) (sym (length-set (part l at n) j v ∙ length-part l at n h))))
+
+-- nothing is left of a list that is no longer than the patch at its front
+pub patch-whole : (l xs : List ℕ) → length l ≤ length xs → patch l 0 xs ≡ xs
+unfolding patch
+patch-whole l xs h = ap (λ (t : List ℕ). xs ++ t) (drop-of-length-le l h) ∙ append-nil xs
+
 -- a copy in a fresh array of the same size
 pub copied : (size : ℕ) (s c : List ℕ) → length s ≡ size → c ≡ patch (replicate size 0) 0 s → c ≡ s
-unfolding patch
-copied size s c h e = e ∙ ap (λ (t : List ℕ). s ++ t) (drop-of-length-le (replicate size 0) {i = length s} (omega (arith, length-replicate {A = ℕ} size 0))) ∙ append-nil s
+copied size s c h e = e ∙ patch-whole (replicate size 0) s (omega (arith, length-replicate {A = ℕ} size 0))
 
 -- ONE ELEMENT MORE, at the front
 pub part-cons : (l : List ℕ) (at n : ℕ) → at < length l → part l at (suc n) ≡ getD l at 0 ∷ part l (suc at) n

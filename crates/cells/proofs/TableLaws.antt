@@ -1,4 +1,4 @@
--- Tables: equal place by place, and a part of one replaced. Assumes nothing.
+-- A part of a table replaced. Assumes nothing.
 use mathlib.Core.Path.{_≡_, sym, _∙_, ap}
 use Prim.Native.Nat.{ℕ, _+_, _-_, _≤_, _<_}
 use native.Mathlib.Decide.{decLt}
@@ -6,14 +6,9 @@ use native.Mathlib.Omega.{arith}
 use lib.ListN.{length, getD}
 use lib.Seq.{ext-getD}
 use Rattle.rules.specs.Base.{table}
-use Rattle.layout.proofs.SectionLaws.{length-table, getD-table, getD-table0}
+use Rattle.layout.proofs.SectionLaws.{length-table, getD-table0}
 use Rattle.cells.specs.Part.{patch}
 use Rattle.cells.proofs.PartLaws.{length-patch, getD-patch, getD-patch-before, getD-patch-after}
-
--- the same at each place, wherever each begins
-pub table-same : (n i j : ℕ) (f g : ℕ → ℕ) → ((k : ℕ) → k < n → f (i + k) ≡ g (j + k)) → table n i f ≡ table n j g
-table-same n i j f g h = ext-getD 0 (table n i f) (table n j g) (length-table n i f ∙ sym (length-table n j g))
-    (λ k l. let m : k < n = rw length-table at l in getD-table n i f k 0 m ∙ h k m ∙ sym (getD-table n j g k 0 m))
 
 -- a table with a part replaced is the table of a function that agrees with both
 pub patch-table : (size at n : ℕ) (f g h : ℕ → ℕ) → at + n ≤ size → ((i : ℕ) → i < n → g i ≡ h (at + i)) → ((i : ℕ) → i < size → (at ≤ i → i < at + n → ⊥) → f i ≡ h i)

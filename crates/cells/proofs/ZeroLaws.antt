@@ -1,5 +1,6 @@
--- A range of bytes that is zero. Assumes nothing.
+-- A range of bytes that is zero, and one that is zero past a table. Assumes nothing.
 use mathlib.Core.Path.{_≡_, sym, _∙_}
+use mathlib.Core.Logic.{_↔_}
 use mathlib.Core.Bool.{Bool, true, false, not, _&&_}
 use mathlib.Core.List.{List}
 use Prim.Native.Nat.{ℕ, _+_, _-_, _≤_, _<_}
@@ -11,7 +12,7 @@ use lib.Bits.{bitOr, or-add-and, and-le-l, and-le-r}
 use borrow.Author.Tests.{eq-eqb, eqb-true}
 use Rattle.rules.specs.Base.{allBelow}
 use Rattle.rules.proofs.BaseLaws.{and-both, and-left, and-right, no-true, both-ways, Below, under, over, below, allBelow-intro, allBelow-at}
-use Rattle.rules.proofs.TurnLaws.{failed, held}
+use Rattle.rules.proofs.TurnLaws.{failed, held, refused}
 use Rattle.cells.specs.Part.{byteIs}
 
 -- of an or that is zero both are
@@ -42,9 +43,9 @@ unfolding byteIs
 zeros-all l from to f = allBelow-intro (to - from) (byteIs l from 0) (λ i h. eq-eqb (getD l (from + i) 0) 0 (f (from + i) (omega arith) (omega arith)))
 
 -- after bytes that are zero up to mid: the test from a byte that is not past mid says what the whole one says
-zeros-rest : (l : List ℕ) (from last mid to : ℕ) → from ≤ last → last ≤ mid → mid ≤ to → allBelow (mid - from) (byteIs l from 0) ≡ true
+zeros-rest : (l : List ℕ) (from last mid to : ℕ) → from ≤ last → last ≤ mid → allBelow (mid - from) (byteIs l from 0) ≡ true
     → allBelow (to - last) (byteIs l last 0) ≡ allBelow (to - from) (byteIs l from 0)
-zeros-rest l from last mid to h k m e =
+zeros-rest l from last mid to h k e =
     both-ways _ _ (λ r. zeros-all l from to (λ i x y. go r i x y (below i mid))) (λ r. zeros-all l last to (λ i x y. zeros-at l from to r i (omega arith) y))
   where
     go : allBelow (to - last) (byteIs l last 0) ≡ true → (i : ℕ) → from ≤ i → i < to → {b : Bool} → Below i mid b → getD l i 0 ≡ 0
@@ -58,7 +59,7 @@ block l at n r f = let size : at + n - at ≡ n = omega arith in rw size f
 -- a block that passes
 pub block-passed : (l : List ℕ) (from mid n : ℕ) (r : Bool) → from ≤ mid → allBelow (mid - from) (byteIs l from 0) ≡ true
     → r ≡ allBelow n (byteIs l mid 0) → not r ≡ false → allBelow (mid + n - from) (byteIs l from 0) ≡ true
-block-passed l from mid n r h e f t = sym (zeros-rest l from mid mid (mid + n) h (omega arith) (omega arith) e) ∙ held (block l mid n r f) t
+block-passed l from mid n r h e f t = sym (zeros-rest l from mid mid (mid + n) h (omega arith) e) ∙ held (block l mid n r f) t
 
 -- one that does not
 pub block-failed : (l : List ℕ) (from mid n to : ℕ) (r : Bool) → from ≤ mid → mid + n ≤ to
@@ -67,8 +68,21 @@ block-failed l from mid n to r h k f t =
     sym (no-true (allBelow (to - from) (byteIs l from 0)) (λ a. failed (block l mid n r f) t (zeros-all l mid (mid + n) (λ i x y. zeros-at l from to a i (omega arith) (omega arith)))))
 
 -- the last one, which may begin among the bytes that are zero
-pub block-last : (l : List ℕ) (from mid n to : ℕ) (r : Bool) → from + n ≤ to → to ≤ mid + n → mid ≤ to → allBelow (mid - from) (byteIs l from 0) ≡ true
+pub block-last : (l : List ℕ) (from mid n to : ℕ) (r : Bool) → from + n ≤ to → to ≤ mid + n → allBelow (mid - from) (byteIs l from 0) ≡ true
     → r ≡ allBelow n (byteIs l (to - n) 0) → r ≡ allBelow (to - from) (byteIs l from 0)
-block-last l from mid n to r h k m e f =
+block-last l from mid n to r h k e f =
     let ends : to - n + n ≡ to = omega arith in
-    rw ends at (block l (to - n) n r f) ∙ zeros-rest l from (to - n) mid to (omega arith) (omega arith) m e
+    rw ends at (block l (to - n) n r f) ∙ zeros-rest l from (to - n) mid to (omega arith) (omega arith) e
+
+-- a table of n places that each pass a test, and zeros past it
+pub record Tested (n : ℕ) (p : ℕ → Bool) (l : List ℕ) (from to : ℕ) : Type 0 where
+  pub fine : allBelow n p ≡ true
+  pub rest : allBelow (to - from) (byteIs l from 0) ≡ true
+
+-- where that decides A: a place that fails refuses A, and else the zeros decide it. r is what the code found of the places, z of the zeros
+module _ {A : Type 0} {n : ℕ} {p : ℕ → Bool} {l : List ℕ} {from to : ℕ} (d : Tested n p l from to ↔ A) {r : Bool} (e : r ≡ allBelow n p) where
+  pub places-failed : not r ≡ true → false ≡ true ↔ A
+  places-failed t = refused (λ a. failed e t (d .1 a .fine))
+
+  pub places-passed : not r ≡ false → {z : Bool} → z ≡ allBelow (to - from) (byteIs l from 0) → z ≡ true ↔ A
+  places-passed t f = (λ q. d .0 (record { fine = held e t; rest = sym f ∙ q }), λ a. f ∙ d .1 a .rest)

@@ -3,7 +3,7 @@ use mathlib.Core.Path.{_≡_, refl, sym, _∙_, ap, ap₂, fun-ext}
 use mathlib.Core.Logic.{_≢_}
 use mathlib.Core.Bool.{Bool, true, false, not, _&&_, _||_, or-false, or-comm}
 use mathlib.Core.List.{List}
-use Prim.Native.Nat.{ℕ, zero, suc, _+_, _-_, _*_, _≤_, _<_}
+use Prim.Native.Nat.{ℕ, suc, _+_, _-_, _*_, _≤_, _<_}
 use native.Mathlib.Decide.{decLt}
 use native.Mathlib.Omega.{arith}
 use lib.Dec.{ltb, eqb}
@@ -13,10 +13,11 @@ use Rattle.rules.specs.Base.{allBelow, anyBelow, any, rising}
 use Rattle.rules.specs.Sets.{Set}
 use Rattle.rules.specs.Window.{PermitRecord, Window, permitKey}
 use Rattle.rules.specs.Locks.{clash, contains, permitted, pairPermitted, clashesPermitted}
-use Rattle.rules.proofs.BaseLaws.{both-ways, and-both, and-left, and-right, any-intro, any-elim, allBelow-intro, allBelow-at, Same, same, other, same?, eqb-same}
+use Rattle.rules.proofs.BaseLaws.{both-ways, and-both, and-left, and-right, any-intro, any-elim, allBelow-intro, allBelow-at, Below, under, over, below, Same, same, other, same?, eqb-same}
 use Rattle.rules.proofs.ListLaws.{any-at, any-place}
 use Rattle.layout.specs.Codec.{noPermit, lockSection, permitSection}
 use Rattle.layout.specs.Records.{permitAt}
+use Rattle.layout.proofs.CodecLaws.{each-mode}
 use Rattle.layout.proofs.ReadLaws.{permit-read}
 use Rattle.rules.proofs.BoundLaws.{any-or, all-ext}
 use Rattle.locks.specs.Held.{Modes, inMode, holding}
@@ -43,24 +44,23 @@ and-mid true false false c = refl
 and-mid false b true c = refl
 and-mid false b false c = refl
 
--- before a place stand those of lower entries: so up to the first of e, and up to the first past e
+-- before the place where a search for e begins stand those of lower entries: so before the place that it finds
+lower-before : (bs : List ℕ) (count e next at : ℕ) → ((j : ℕ) → j < next → permitAt bs j .entry < e) → FirstOf (fromEntry e) bs count next at → (j : ℕ) → j < at → permitAt bs j .entry < e
+unfolding fromEntry
+lower-before bs count e next at lower first j h = go (decLt j next)
+  where
+    go : Dec (j < next) → permitAt bs j .entry < e
+    go (yes l) = lower j l
+    go (no l) = leb-false e (permitAt bs j .entry) (first .before .skipped j (omega arith) h)
+
+-- so before the first of e, and before the first past e
 module _ (bs : List ℕ) (count e next from to : ℕ) (lower : (j : ℕ) → j < next → permitAt bs j .entry < e)
     (first : FirstOf (fromEntry e) bs count next from) (last : FirstOf (fromEntry (e + 1)) bs count from to) where
   lower-first : (j : ℕ) → j < from → permitAt bs j .entry < e
-  unfolding fromEntry
-  lower-first j h = go (decLt j next)
-    where
-      go : Dec (j < next) → permitAt bs j .entry < e
-      go (yes l) = lower j l
-      go (no l) = leb-false e (permitAt bs j .entry) (first .before .skipped j (omega arith) h)
+  lower-first = lower-before bs count e next from lower first
 
   pub lower-last : (j : ℕ) → j < to → permitAt bs j .entry < e + 1
-  unfolding fromEntry
-  lower-last j h = go (decLt j from)
-    where
-      go : Dec (j < from) → permitAt bs j .entry < e + 1
-      go (yes l) = omega (arith, lower-first j l)
-      go (no l) = leb-false (e + 1) (permitAt bs j .entry) (last .before .skipped j (omega arith) h)
+  lower-last = lower-before bs count (e + 1) from to (λ j l. omega (arith, lower-first j l)) last
 
   -- in order, those of e are the ones between
   module _ (order : (i j : ℕ) → i ≤ j → j < count → permitAt bs i .entry ≤ permitAt bs j .entry) where
@@ -130,18 +130,16 @@ unfolding clashesPermitted entryPermitted
 by-entries W = refl
 
 -- two modes that clash: one is write, and the other is held
-pair-cases : (m k : ℕ) → m ≤ 2 → k ≤ 2 → (u v : Bool) → (m ≡ 2 → 0 < k → u || v ≡ true) → (k ≡ 2 → 0 < m → u || v ≡ true) → not (clash m k) || u || v ≡ true
+pair-cases : (m k : ℕ) (u v : Bool) → (m ≡ 2 → 0 < k → u || v ≡ true) → (k ≡ 2 → 0 < m → u || v ≡ true) → not (clash m k) || u || v ≡ true
 unfolding clash
-pair-cases zero k hm hk u v f g = refl
-pair-cases (suc zero) zero hm hk u v f g = refl
-pair-cases (suc zero) (suc zero) hm hk u v f g = refl
-pair-cases (suc zero) (suc (suc zero)) hm hk u v f g = g refl (omega arith)
-pair-cases (suc (suc zero)) zero hm hk u v f g = refl
-pair-cases (suc (suc zero)) (suc zero) hm hk u v f g = f refl (omega arith)
-pair-cases (suc (suc zero)) (suc (suc zero)) hm hk u v f g = f refl (omega arith)
-pair-cases (suc (suc (suc m))) k hm hk u v f g = absurd (omega arith)
-pair-cases (suc zero) (suc (suc (suc k))) hm hk u v f g = absurd (omega arith)
-pair-cases (suc (suc zero)) (suc (suc (suc k))) hm hk u v f g = absurd (omega arith)
+pair-cases m k u v f g = go (below 0 m) (below 0 k) (same? m 2) (same? k 2)
+  where
+    go : {p q r s : Bool} → Below 0 m p → Below 0 k q → Same m 2 r → Same k 2 s → not (p && q && (r || s)) || u || v ≡ true
+    go (over h) y r s = refl
+    go (under h) (over l) r s = refl
+    go (under h) (under l) (same e) s = f e l
+    go (under h) (under l) (other n) (same e) = g e h
+    go (under h) (under l) (other n) (other o) = refl
 
 clash-write : (k : ℕ) → 0 < k → clash 2 k ≡ true
 unfolding clash
@@ -150,10 +148,7 @@ clash-write k h = rw (lt-ltb 0 k h)
 -- operations contain a mode that is held
 contains-mode : (o m : ℕ) → 0 < m → m ≤ 2 → containsHeld o (eqb m 1) (eqb m 2) ≡ contains o m
 unfolding containsHeld
-contains-mode o zero h l = absurd (omega arith)
-contains-mode o (suc zero) h l = or-false (contains o 1)
-contains-mode o (suc (suc zero)) h l = refl
-contains-mode o (suc (suc (suc m))) h l = absurd (omega arith)
+contains-mode o m h l = each-mode (λ (x : ℕ). 0 < x → containsHeld o (eqb x 1) (eqb x 2) ≡ contains o x) (λ z. absurd (omega arith)) (λ z. or-false (contains o 1)) (λ z. refl) m l h
 
 clear : (x n u v : Bool) → x ≡ false → n ≡ false → x || n || u || v ≡ true → u || v ≡ true
 clear x n u v p q e = rw (p, q) at e
@@ -199,7 +194,7 @@ module _ (W : Window) (modes : Modes W.held) (given : W.given < 256) (none-above
 
       go : (a b : ℕ) → a < 256 → b < 256 → {x : Bool} → Same a b x → x || not (clash (row a) (row b)) || permitted W.permits a b e (row b) || permitted W.permits b a e (row a) ≡ true
       go a b ha hb (same q) = refl
-      go a b ha hb (other n) = pair-cases (row a) (row b) (row-most a) (row-most b) (permitted W.permits a b e (row b)) (permitted W.permits b a e (row a))
+      go a b ha hb (other n) = pair-cases (row a) (row b) (permitted W.permits a b e (row b)) (permitted W.permits b a e (row a))
           (λ m h. rw m (found a b ha hb n m h)) (λ m h. rw m (or-comm (permitted W.permits a b e 2) (permitted W.permits b a e (row a)) ∙ found b a hb ha (λ q. n (sym q)) m h))
 
   -- nothing is asked where no writer has another holder beside it

@@ -1,6 +1,6 @@
 -- Labels taken away one at a time, each with no arrow to it from what is left. Assumes nothing.
 use mathlib.Core.Path.{_≡_, refl, sym, _∙_}
-use mathlib.Core.Bool.{Bool, true, false, not, _&&_, false≢true}
+use mathlib.Core.Bool.{Bool, true, false, not, _&&_, false≢true, and-true}
 use mathlib.Core.List.{List}
 use Prim.Native.Nat.{ℕ, _≤_, _<_}
 use native.Mathlib.Omega.{arith}
@@ -58,11 +58,7 @@ module _ (G : Graph) (m : ℕ) (incoming : List ℕ) (left blocked : Set) (p : E
       let w = edge-place G m u v q in
       let z : comes G left m v ≡ 0 = sym (p .counted v h) ∙ eqb-true (getD incoming v 0) 0 (not-false _ (sym (p .shown .counted v h) ∙ e)) in
       let n : G .arrow (w .0) && left (G .from (w .0)) && eqb (G .to (w .0)) v ≡ false = count-none m _ z (w .0) (w .1) in
-      go (left u) (rw (w .2, w .3, w .4, eqb-same v) at n)
-    where
-      go : (b : Bool) → b && true ≡ false → b ≡ false
-      go true e = e
-      go false e = refl
+      sym (and-true (left u)) ∙ (rw (w .2, w .3, w .4, eqb-same v) at n)
 
   -- to a blocked one an arrow comes from what is left
   blocked-by : (v : ℕ) → v < 256 → blocked v ≡ true → (y : ℕ) × (left y ≡ true) × (edge G m y v ≡ true)
@@ -77,11 +73,7 @@ module _ (G : Graph) (m : ℕ) (incoming : List ℕ) (left blocked : Set) (p : E
   -- where each that is left is blocked, whether any is left decides
   pub eliminating-end : Small G m → (r : ℕ) → r ≡ lowestBelow 256 (sources left blocked) → 256 ≤ r → (b : Bool) → b ≡ not (anyBelow 256 left) → b ≡ noCycle G m
   unfolding sources
-  eliminating-end small r e l b d = d ∙ decided G m small left (p .clear) (λ x h q. blocked-by x h (go (blocked x) q (lowest-below (λ k. left k && not (blocked k)) 256 x (omega (arith, e)))))
-    where
-      go : (b : Bool) {a : Bool} → a ≡ true → a && not b ≡ false → b ≡ true
-      go true q z = refl
-      go false q z = absurd (false≢true (sym (rw q at z)))
+  eliminating-end small r e l b d = d ∙ decided G m small left (p .clear) (λ x h q. blocked-by x h (not-false (blocked x) (rw q at (lowest-below (λ k. left k && not (blocked k)) 256 x (omega (arith, e))))))
 
   -- the lowest source
   module _ (v : ℕ) (e : v ≡ lowestBelow 256 (sources left blocked)) (h : v < 256) where

@@ -1,7 +1,7 @@
 -- Labels of groups: after all ties two changes have one label just where group ties lead from one to the other. Assumes nothing.
-use mathlib.Core.Path.{_≡_, refl, sym, ap, _∙_}
+use mathlib.Core.Path.{_≡_, refl, sym, ap, fun-ext, _∙_}
 use mathlib.Core.Bool.{Bool, true, false, cond, false≢true}
-use mathlib.Core.List.{List, [], _∷_, map}
+use mathlib.Core.List.{List, [], _∷_, map, map-id}
 use Prim.Native.Nat.{ℕ, zero, suc, _+_, _<_}
 use native.Mathlib.Nat.{not-suc-le-zero}
 use native.Mathlib.Numerals.{add-one}
@@ -42,8 +42,7 @@ instead-old a b = rw (eqb-same b)
 
 -- of a whole list
 map-self : (a : ℕ) (l : List ℕ) → map (instead a a) l ≡ l
-map-self a [] = refl
-map-self a (x ∷ l) = rw (instead-self a x, map-self a l)
+map-self a l = ap (λ (f : ℕ → ℕ). map f l) (fun-ext (instead-self a)) ∙ map-id l
 
 -- ONE TIE
 module _ (kind leader follower : ℕ) (l : List ℕ) where

@@ -124,7 +124,7 @@ blank-room ties count labels f n w b = record { by-label = ap length (b .no-head
 
 -- words that are 0 hold no label
 pub blank-words : (ws : List ℕ) → ws ≡ replicate 4 0 → (k : ℕ) → wordsHave ws k ≡ false
-unfolding members wordsHave
+unfolding members
 blank-words ws e = words-none (ofWords ws) (ap length e ∙ length-replicate {A = ℕ} 4 0) (λ i h. rw e (getD-replicate 4 i 0 0 h))
 
 -- and are four

@@ -13,7 +13,7 @@ use Rattle.cycles.specs.Graph.{Graph, comes, leads, lastFrom}
 pub record Lists : Type 0 where
   -- for each label the place after its last arrow; 0 where it has none
   pub heads : List ℕ
-  -- for each place of an arrow the same of the arrows before it
+  -- for each place of an arrow the place after the last arrow before it from the same label; 0 where there is none
   pub next : List ℕ
   -- how many arrows come to each label
   pub incoming : List ℕ

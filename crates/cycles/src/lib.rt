@@ -63,7 +63,7 @@ fn own_labels(labels: &mut [u8])
     }
 }
 
-// The new label where it is the old one.
+// A label, or the new one where it is the old one.
 fn renew(x: u8, old: u8, new: u8) -> u8
     ensures { λ r. ⌜ r ≡ instead old new x ⌝ }
 {
@@ -109,14 +109,6 @@ fn label_groups(ties: &[u8], count: usize, labels: &mut [u8])
         join(labels, ties[at], ties[at + 1], ties[at + 2]);
         i += 1;
     }
-}
-
-// The label of a change.
-fn label_of(labels: &[u8], change: u8) -> u8
-    requires { ⌜ length (now labels) ≡ 256 ⌝ }
-    ensures { λ r. ⌜ r ≡ getD (now (labels .entry)) change 0 ⌝ }
-{
-    labels[change as usize]
 }
 
 // The arrow at place j is put at the head of the list of the label that it goes from, and counted at the label that it comes to.
@@ -235,7 +227,8 @@ fn remove_arrows(
     while e > 0 {
         let j = e - 1;
         let at = j * Ties::RECORD + 2;
-        let k = label_of(labels, ties[at]);
+        let follower = ties[at];
+        let k = labels[follower as usize];
         remove_arrow(incoming, blocked, k);
         e = next[j] as usize;
     }

@@ -1,12 +1,12 @@
--- What is known of the arguments of initiate, begin, complete and lock that are not refused: changes that were given, numbers that fit a byte, a mode. Assumes nothing.
+-- What is known of the arguments of initiate and lock that are not refused: numbers that fit a byte, a mode. Assumes nothing.
 use mathlib.Core.Path.{_≡_, ap}
-use mathlib.Core.Bool.{true, false, not}
+use mathlib.Core.Bool.{true, not}
 use mathlib.Core.List.{List}
 use Prim.Native.Nat.{ℕ, suc, _+_, _≤_, _<_}
 use native.Mathlib.Omega.{arith}
 use borrow.Author.Tests.{ltb-false}
-use Rattle.rules.specs.Window.{limits, noChange}
-use Rattle.rules.specs.Calls.{Initiate, Begin, Complete, Lock}
+use Rattle.rules.specs.Window.{limits}
+use Rattle.rules.specs.Calls.{Initiate, Lock}
 use Rattle.rules.specs.Refusals.{_if_, checks, firstFailed}
 use Rattle.rules.proofs.BaseLaws.{within-of}
 use Rattle.rules.proofs.SoundParts.{inside-of}
@@ -18,14 +18,6 @@ use Rattle.replies.proofs.GiveLaws.{unrefused}
 use Rattle.reads.proofs.ReadLaws.{change-fits, entry-fits}
 
 module _ (bs : List ℕ) (s : soundBytes bs ≡ true) where
-  pub begin-known : (c : ℕ) → firstFailed (checks limits (decode bs) (Begin c)) ≡ 0 → noChange (decode bs) c ≡ false
-  unfolding checks _if_
-  begin-known c q = unrefused (decode bs) (Begin c) q .0
-
-  pub complete-known : (c : ℕ) → firstFailed (checks limits (decode bs) (Complete c)) ≡ 0 → noChange (decode bs) c ≡ false
-  unfolding checks _if_
-  complete-known c q = unrefused (decode bs) (Complete c) q .0
-
   pub initiate-known : (p : ℕ) → firstFailed (checks limits (decode bs) (Initiate p)) ≡ 0 → (g : ℕ) → g ≡ decode bs .given → (g + 1 < 256) × (p < 256)
   unfolding checks _if_ limits
   initiate-known p q g e = let k = unrefused (decode bs) (Initiate p) q in (

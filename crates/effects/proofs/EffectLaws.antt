@@ -57,10 +57,10 @@ module _ (bs : List ℕ) (s : soundBytes bs ≡ true) (r : Reply) where
   unfolding effect lockEntry covers
   lock-blocked c e m h b q l g n a = rw (lt-leb m (decode bs .held e c) (omega arith), sym g ∙ n) (left bs s 20 0 r (a .0) (a .1))
 
-  pub lock-taken : (c e m h : ℕ) (b : Bool) (out : List ℕ) → h ≡ decode bs .held e c → h < m → b ≡ grantable (decode bs) c e m → b ≡ true → m ≤ 2
-      → ((held : ℕ → ℕ → ℕ) → m ≤ 2 → take locksSize (drop locksAt bs) ≡ lockSection held → out ≡ lockSection (put2 held e c m))
+  pub lock-taken : (c e m h : ℕ) (b : Bool) (out : List ℕ) → h ≡ decode bs .held e c → h < m → b ≡ grantable (decode bs) c e m → b ≡ true
+      → ((held : ℕ → ℕ → ℕ) → take locksSize (drop locksAt bs) ≡ lockSection held → out ≡ lockSection (put2 held e c m))
       → (r .answer ≡ 0) × (r .number ≡ 0) → Gives (written (effect (decode bs) (Lock c e m))) r (laidAt bs locksAt locksSize out)
   unfolding effect lockEntry covers putHeld
-  lock-taken c e m h b out q l g t u f a =
+  lock-taken c e m h b out q l g t f a =
       let W = decode bs in
-      rw (lt-leb m (W .held e c) (omega arith), sym g ∙ t) (given-done 0 (withHeld W (put2 W.held e c m)) r _ a (locks-back W (sym (bytes-again bs s)) _ (f W.held u)))
+      rw (lt-leb m (W .held e c) (omega arith), sym g ∙ t) (given-done 0 (withHeld W (put2 W.held e c m)) r _ a (locks-back W (sym (bytes-again bs s)) _ (f W.held)))

@@ -6,11 +6,10 @@ use Prim.Native.Nat.{ℕ, _≤_, _<_, _^_}
 use native.Mathlib.Omega.{arith}
 use lib.ListN.{length, getD, take, drop, replicate}
 use Rattle.rules.specs.Sets.{Set, putAll}
-use Rattle.rules.specs.Window.{limits, LogRecord, Window, live, withValue, withStatus, withHeld, withLog, withPermits, withTies}
+use Rattle.rules.specs.Window.{limits, LogRecord, Window, withValue, withStatus, withHeld, withLog, withPermits, withTies}
 use Rattle.rules.specs.Effects.{released, isUnowned, unowned, permitsLeft, tiesLeft, endAll, undo}
 use Rattle.rules.proofs.ListLaws.{length-keep}
-use Rattle.rules.proofs.SoundParts.{Sound}
-use Rattle.rules.proofs.SoundPlain.{undo-values, value-sound}
+use Rattle.rules.proofs.SoundPlain.{undo-sound}
 use Rattle.layout.specs.Codec.{valuesAt, valuesSize, changesAt, changesSize, locksAt, locksSize, logAt, logSize, windowSize, noRecord, valueByte, valueSection, changeSection, lockSection, logSection, decode, encode}
 use Rattle.layout.specs.Memory.{soundBytes}
 use Rattle.layout.specs.Records.{Tabled}
@@ -38,7 +37,7 @@ statuses-and-locks W e m how entries n f g =
 
 -- all steps are the rules'
 all-ended : (how : ℕ) (m : Set) (W : Window) → withEnded how m (withTies (withPermits (withLog W (unowned m (W .log))) (permitsLeft m (W .permits))) (tiesLeft m (W .ties))) ≡ endAll how m W
-unfolding endAll withHeld withStatus withTies withPermits withLog putAll released unowned permitsLeft tiesLeft
+unfolding endAll withHeld withStatus withTies withPermits withLog
 all-ended how m W = refl
 
 module _ (bs : List ℕ) (s : soundBytes bs ≡ true) where
@@ -56,33 +55,28 @@ module _ (bs : List ℕ) (s : soundBytes bs ≡ true) where
   unfolding withLog withPermits withTies
   ended m how entries permits ties x y z e f g h = h _ (none-from bs s entries x) (g _ z (f _ y e)) ∙ ap encode (all-ended how m (decode bs))
 
-  -- UNDONE
-  -- the values are those of a window as sound as before
-  pub undo-sound : (m : Set) → Sound limits (withValue (decode bs) (undo m (decode bs .log) (decode bs .value)))
-  undo-sound m = let k = bytes-sound bs s in
-      value-sound limits (decode bs) (undo m (decode bs .log) (decode bs .value)) (undo-values (decode bs .entries) (live (decode bs)) (decode bs .held) m (decode bs .log) (decode bs .value) (k .records) (k .values)) k
+-- UNDONE
+module _ (bs : List ℕ) (room : length bs ≡ windowSize) (copy : List ℕ) (c : copy ≡ patch (replicate valuesSize 0) 0 (take valuesSize (drop valuesAt bs))) where
+  -- the values in a copy
+  value-copy : copy ≡ take valuesSize (drop valuesAt bs)
+  unfolding part
+  value-copy = copied valuesSize (take valuesSize (drop valuesAt bs)) copy (length-part bs valuesAt valuesSize (omega arith)) c
 
-  module _ (room : length bs ≡ windowSize) (copy : List ℕ) (c : copy ≡ patch (replicate valuesSize 0) 0 (take valuesSize (drop valuesAt bs))) where
-    -- the values in a copy
-    value-copy : copy ≡ take valuesSize (drop valuesAt bs)
-    unfolding part
-    value-copy = copied valuesSize (take valuesSize (drop valuesAt bs)) copy (length-part bs valuesAt valuesSize (omega arith)) c
+  pub copy-size : length copy ≡ valuesSize
+  unfolding part
+  copy-size = ap length value-copy ∙ length-part bs valuesAt valuesSize (omega arith)
 
-    pub copy-size : length copy ≡ valuesSize
-    unfolding part
-    copy-size = ap length value-copy ∙ length-part bs valuesAt valuesSize (omega arith)
+  pub undone : soundBytes bs ≡ true → (m : Set) (count : ℕ) {values out : List ℕ} → count ≡ length (decode bs .log)
+      → ((v : ℕ → ℕ) (l : List LogRecord) → length l ≡ count → ((k : ℕ) → getD l k noRecord .before < 2 ^ 32) → copy ≡ valueSection v → take logSize (drop logAt bs) ≡ logSection l → values ≡ valueSection (undo m l v))
+      → out ≡ patch bs valuesAt values → (out ≡ encode (withValue (decode bs) (undo m (decode bs .log) (decode bs .value)))) × (soundBytes out ≡ true)
+  unfolding patch valueSection
+  undone s m count {values} {out} n f h = (q, rw q (encode-sound _ (undo-sound limits (decode bs) m (bytes-sound bs s))))
+    where
+      x : ℕ → ℕ
+      x = undo m (decode bs .log) (decode bs .value)
 
-    pub undone : (m : Set) (count : ℕ) {values out : List ℕ} → count ≡ length (decode bs .log)
-        → ((v : ℕ → ℕ) (l : List LogRecord) → length l ≡ count → ((k : ℕ) → getD l k noRecord .before < 2 ^ 32) → copy ≡ valueSection v → take logSize (drop logAt bs) ≡ logSection l → values ≡ valueSection (undo m l v))
-        → out ≡ patch bs valuesAt values → (out ≡ encode (withValue (decode bs) (undo m (decode bs .log) (decode bs .value)))) × (soundBytes out ≡ true)
-    unfolding patch valueSection
-    undone m count {values} {out} n f h = (q, rw q (encode-sound _ (undo-sound m)))
-      where
-        x : ℕ → ℕ
-        x = undo m (decode bs .log) (decode bs .value)
+      is : values ≡ valueSection x
+      is = f (decode bs .value) (decode bs .log) (sym n) (sound-canonical (decode bs) (bytes-sound bs s) .before-most) (value-copy ∙ values-known bs s) (log-known bs s)
 
-        is : values ≡ valueSection x
-        is = f (decode bs .value) (decode bs .log) (sym n) (sound-canonical (decode bs) (bytes-sound bs s) .before-most) (value-copy ∙ values-known bs s) (log-known bs s)
-
-        q : out ≡ encode (withValue (decode bs) x)
-        q = h ∙ ap (λ k. laidAt bs valuesAt k values) (ap length is ∙ length-table valuesSize 0 (valueByte x)) ∙ values-back (decode bs) (sym (bytes-again bs s)) x (λ _. is)
+      q : out ≡ encode (withValue (decode bs) x)
+      q = h ∙ ap (λ k. laidAt bs valuesAt k values) (ap length is ∙ length-table valuesSize 0 (valueByte x)) ∙ values-back (decode bs) (sym (bytes-again bs s)) x (λ _. is)

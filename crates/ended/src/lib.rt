@@ -69,6 +69,7 @@ pub fn end_all(w: &mut [u8], ended: ChangeSet, how: u8)
     requires { ⌜ soundBytes (now w) ≡ true ⌝ }
     ensures { λ _. ⌜ now (w .exit) ≡ encode (endAll how (members ended) (decode (now (w .entry)))) ⌝ }
 {
+    // The figures are read first: once permits are dropped the bytes need not be sound.
     let entries = reads::entries(w);
     let permits = reads::permits(w);
     let ties = reads::ties(w);

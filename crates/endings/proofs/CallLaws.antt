@@ -7,18 +7,20 @@ use Prim.Native.Nat.{ℕ, suc, _≤_}
 use native.Mathlib.Omega.{arith}
 use lib.Dec.{ltb, eqb}
 use lib.ListN.{length, take, drop}
-use borrow.Author.Tests.{not-true, not-false, eqb-true, ltb-true}
+use borrow.Author.Tests.{not-true, not-false, eqb-true}
 use Rattle.rules.specs.Base.{anyBelow, countBelow, lowestBelow}
 use Rattle.rules.specs.Sets.{Set, Rel, reach}
 use Rattle.rules.specs.Window.{limits, TieRecord, Window, live, noChange, withValue}
 use Rattle.rules.specs.Ties.{isArrow, grouped, falling, groupOf, endSet}
 use Rattle.rules.specs.Calls.{Commit, Abort, Outcome, done, unchanged}
-use Rattle.rules.specs.Effects.{endAll, undo, size, commitBlockers, commitGroup, commitChange, abortAll, abortChange, effect, leadsTo, leadersOf}
+use Rattle.rules.specs.Effects.{endAll, undo, size, commitBlockers, commitGroup, commitChange, abortAll, abortChange, effect, leadersOf}
 use Rattle.rules.specs.Refusals.{_if_, checks, firstFailed}
-use Rattle.rules.proofs.BaseLaws.{and-left, and-right, or-cases, both-ways, and-both, no-true, Below, under, over, below}
-use Rattle.rules.proofs.ListLaws.{find}
-use Rattle.rules.proofs.SoundParts.{status-none, live-below, live-of, ends-below}
+use Rattle.rules.proofs.BaseLaws.{and-right, both-ways, and-both, no-true, Below, under, over, below}
+use Rattle.rules.proofs.Promises.{blocks}
+use Rattle.rules.proofs.SoundParts.{status-none, live-below, live-of, ends-live, ends-below}
+use Rattle.rules.proofs.SoundPlain.{undo-sound}
 use Rattle.rules.proofs.SoundStep.{group-live, fall-live}
+use Rattle.rules.proofs.TieLaws.{tied-ends}
 use Rattle.layout.specs.Codec.{changesAt, changesSize, tiesAt, tiesSize, changeSection, tieSection, decode, encode}
 use Rattle.layout.specs.Memory.{soundBytes}
 use Rattle.layout.specs.Records.{endsBelow}
@@ -29,39 +31,28 @@ use Rattle.replies.specs.declared.Reply.{Reply}
 use Rattle.replies.specs.Gives.{Gives, written}
 use Rattle.replies.proofs.GiveLaws.{left, looked, unrefused, given-done}
 use Rattle.reads.proofs.ReadLaws.{reads-same, reads-other}
-use Rattle.ended.proofs.EndLaws.{undo-sound}
+
+-- BY STATUS: x is how the call would end the change, y the other way to end
+module _ (bs : List ℕ) (c st : ℕ) (e : st ≡ decode bs .status c) (x y : ℕ) (o : Outcome) where
+  abbrev Ending : Outcome
+  Ending = cond (eqb (decode bs .status c) x) (done 0 (decode bs)) (cond (eqb (decode bs .status c) y) (unchanged 21 0 (decode bs)) o)
+
+  pub ended-so : soundBytes bs ≡ true → st ≡ x → (r : Reply) → (r .answer ≡ 0) × (r .number ≡ 0) → Gives (written Ending) r bs
+  ended-so s q r a = rw (reads-same e x q) (looked bs s 0 r a)
+
+  pub ended-else : soundBytes bs ≡ true → st ≢ x → st ≡ y → (r : Reply) → (r .answer ≡ 21) × (r .number ≡ 0) → Gives (written Ending) r bs
+  ended-else s n q r a = rw (reads-other e x n, reads-same e y q) (left bs s 21 0 r (a .0) (a .1))
+
+  not-ended : st ≢ x → st ≢ y → {r : Reply} {after : List ℕ} → Gives (written o) r after → Gives (written Ending) r after
+  not-ended n m g = rw (reads-other e x n, reads-other e y m) g
 
 module _ (bs : List ℕ) (s : soundBytes bs ≡ true) where
   -- a change number is below 256
   given-below : suc (decode bs .given) ≤ 256
   given-below = omega (arith, given-most (decode bs) (bytes-sound bs s))
 
-  pub commit-known : (c : ℕ) → firstFailed (checks limits (decode bs) (Commit c)) ≡ 0 → noChange (decode bs) c ≡ false
-  unfolding checks _if_
-  commit-known c q = unrefused (decode bs) (Commit c) q .0
-
-  pub abort-known : (c : ℕ) → firstFailed (checks limits (decode bs) (Abort c)) ≡ 0 → noChange (decode bs) c ≡ false
-  unfolding checks _if_
-  abort-known c q = unrefused (decode bs) (Abort c) q .0
-
-  -- BY STATUS
-  module _ (c st : ℕ) (e : st ≡ decode bs .status c) where
-    still-live : noChange (decode bs) c ≡ false → st ≢ 4 → st ≢ 5 → live (decode bs) c ≡ true
-    still-live known n m = live-of limits (decode bs) (bytes-sound bs s) c known (reads-other e 4 n) (reads-other e 5 m)
-
-    -- x is how the call would end the change, y the other way to end
-    module _ (x y : ℕ) (o : Outcome) where
-      abbrev Ending : Outcome
-      Ending = cond (eqb (decode bs .status c) x) (done 0 (decode bs)) (cond (eqb (decode bs .status c) y) (unchanged 21 0 (decode bs)) o)
-
-      pub ended-so : st ≡ x → (r : Reply) → (r .answer ≡ 0) × (r .number ≡ 0) → Gives (written Ending) r bs
-      ended-so q r a = rw (reads-same e x q) (looked bs s 0 r a)
-
-      pub ended-else : st ≢ x → st ≡ y → (r : Reply) → (r .answer ≡ 21) × (r .number ≡ 0) → Gives (written Ending) r bs
-      ended-else n q r a = rw (reads-other e x n, reads-same e y q) (left bs s 21 0 r (a .0) (a .1))
-
-      pub not-ended : st ≢ x → st ≢ y → {r : Reply} {after : List ℕ} → Gives (written o) r after → Gives (written Ending) r after
-      not-ended n m g = rw (reads-other e x n, reads-other e y m) g
+  still-live : (c st : ℕ) → st ≡ decode bs .status c → noChange (decode bs) c ≡ false → st ≢ 4 → st ≢ 5 → live (decode bs) c ≡ true
+  still-live c st e known n m = live-of limits (decode bs) (bytes-sound bs s) c known (reads-other e 4 n) (reads-other e 5 m)
 
   -- A SET OF LIVE CHANGES has no member past the highest given
   module _ (m : Set) (lives : (k : ℕ) → m k ≡ true → live (decode bs) k ≡ true) where
@@ -74,13 +65,9 @@ module _ (bs : List ℕ) (s : soundBytes bs ≡ true) where
 
     -- nor has what holds up its commit
     blockers-past : (k : ℕ) → suc (decode bs .given) ≤ k → commitBlockers (decode bs) m k ≡ false
-    unfolding commitBlockers leadersOf leadsTo
-    blockers-past k h = no-true _ (λ q. ⊎-elim (λ a. omega (arith, live-below (decode bs) k (lives k (and-left (m k) _ a))))
-        (λ a. let t = find (leadsTo m k) (λ t. ltb t.leader (suc (decode bs .given)) && ltb t.follower (suc (decode bs .given))) (decode bs .ties) a (ends-below (decode bs) (bytes-sound bs s .ties)) in go (t .0) (t .1) (t .2))
-        (or-cases (m k && not (eqb (decode bs .status k) 3)) (leadersOf (decode bs .ties) m k) q))
-      where
-        go : (t : TieRecord) → leadsTo m k t ≡ true → ltb t.leader (suc (decode bs .given)) && ltb t.follower (suc (decode bs .given)) ≡ true → ⊥
-        go t a b = omega (arith, eqb-true t.leader k (and-right (isArrow t.kind) (eqb t.leader k) (and-left (isArrow t.kind && eqb t.leader k) (m t.follower) a)), ltb-true t.leader (suc (decode bs .given)) (and-left (ltb t.leader (suc (decode bs .given))) _ b))
+    blockers-past k h = no-true _ (λ q. ⊎-elim (λ a. omega (arith, live-below (decode bs) k (lives k (a .0))))
+        (λ a. omega (arith, live-below (decode bs) k (tied-ends (live (decode bs)) (decode bs .ties) (ends-live limits (decode bs) (bytes-sound bs s)) isArrow k (a .0) (a .1) .0)))
+        (blocks (decode bs) m k q))
 
   -- THE GROUP AND THE END SET, read from the ties
   module _ (c count : ℕ) (n : count ≡ length (decode bs .ties)) (m : Set) where
@@ -118,7 +105,8 @@ module _ (bs : List ℕ) (s : soundBytes bs ≡ true) where
   -- COMMIT
   module _ (c st : ℕ) (q : firstFailed (checks limits (decode bs) (Commit c)) ≡ 0) (e : st ≡ decode bs .status c) (n : st ≢ 4) (m : st ≢ 5) (g : Set) (is : g ≡ groupOf (decode bs) c) where
     group-lives : (k : ℕ) → g k ≡ true → live (decode bs) k ≡ true
-    group-lives k h = group-live limits (decode bs) (bytes-sound bs s) c (still-live c st e (commit-known c q) n m) k (ap (λ (u : Set). u k) (sym is) ∙ h)
+    unfolding checks _if_
+    group-lives k h = group-live limits (decode bs) (bytes-sound bs s) c (still-live c st e (unrefused (decode bs) (Commit c) q .0) n m) k (ap (λ (u : Set). u k) (sym is) ∙ h)
 
     module _ (b : Set) (blocks : (k : ℕ) → b k ≡ commitBlockers (decode bs) g k) where
       same : b ≡ commitBlockers (decode bs) g
@@ -131,22 +119,23 @@ module _ (bs : List ℕ) (s : soundBytes bs ≡ true) where
       unfolding effect commitChange commitGroup
       commit-waits empty x y r a l =
           let t = sym any-blocks ∙ not-false (anyBelow 256 b) (sym x ∙ y) in
-          not-ended c st e 4 5 _ n m (rw (← is) (rw t (left bs s 20 _ r a (l ∙ ap (lowestBelow 256) same ∙ lowest-bound (commitBlockers (decode bs) g) (suc (decode bs .given)) 256 given-below t))))
+          not-ended bs c st e 4 5 _ n m (rw (← is) (rw t (left bs s 20 _ r a (l ∙ ap (lowestBelow 256) same ∙ lowest-bound (commitBlockers (decode bs) g) (suc (decode bs .given)) 256 given-below t))))
 
       pub commit-ends : (empty : Bool) → empty ≡ not (anyBelow 256 b) → empty ≡ true → (count : ℕ) → count ≡ countBelow 256 g → (r : Reply) → (r .answer ≡ 0) × (r .number ≡ count) → (after : List ℕ) → after ≡ encode (endAll 4 g (decode bs))
           → Gives (written (effect (decode bs) (Commit c))) r after
       unfolding effect commitChange commitGroup
       commit-ends empty x y count k r a after w =
           let t = sym any-blocks ∙ not-true (anyBelow 256 b) (sym x ∙ y) in
-          not-ended c st e 4 5 _ n m (rw (← is) (rw t (given-done _ _ r after (a .0, a .1 ∙ k ∙ all-counted g group-lives) w)))
+          not-ended bs c st e 4 5 _ n m (rw (← is) (rw t (given-done _ _ r after (a .0, a .1 ∙ k ∙ all-counted g group-lives) w)))
 
   -- ABORT
   module _ (c st : ℕ) (q : firstFailed (checks limits (decode bs) (Abort c)) ≡ 0) (e : st ≡ decode bs .status c) (n : st ≢ 5) (m : st ≢ 4) (g : Set) (is : g ≡ endSet (decode bs) c) where
     end-lives : (k : ℕ) → g k ≡ true → live (decode bs) k ≡ true
-    end-lives k h = fall-live limits (decode bs) (bytes-sound bs s) c (still-live c st e (abort-known c q) m n) k (ap (λ (u : Set). u k) (sym is) ∙ h)
+    unfolding checks _if_
+    end-lives k h = fall-live limits (decode bs) (bytes-sound bs s) c (still-live c st e (unrefused (decode bs) (Abort c) q .0) m n) k (ap (λ (u : Set). u k) (sym is) ∙ h)
 
     pub abort-done : (mid : List ℕ) → mid ≡ encode (withValue (decode bs) (undo g (decode bs .log) (decode bs .value))) → (count : ℕ) → count ≡ countBelow 256 g → (r : Reply) → (r .answer ≡ 0) × (r .number ≡ count)
         → (after : List ℕ) → after ≡ encode (endAll 5 g (decode mid)) → Gives (written (effect (decode bs) (Abort c))) r after
     unfolding effect abortChange abortAll
-    abort-done mid u count k r a after w = not-ended c st e 5 4 _ n m (rw (← is)
-        (given-done _ _ r after (a .0, a .1 ∙ k ∙ all-counted g end-lives) (w ∙ ap (λ (W : Window). encode (endAll 5 g W)) (ap decode u ∙ sound-again _ (undo-sound bs s g)))))
+    abort-done mid u count k r a after w = not-ended bs c st e 5 4 _ n m (rw (← is)
+        (given-done _ _ r after (a .0, a .1 ∙ k ∙ all-counted g end-lives) (w ∙ ap (λ (W : Window). encode (endAll 5 g W)) (ap decode u ∙ sound-again _ (undo-sound limits (decode bs) g (bytes-sound bs s))))))

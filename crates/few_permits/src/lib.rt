@@ -8,7 +8,7 @@ use words::remove;
 use words::remove_all;
 ghost use mathlib.Core.Path.{_≡_};
 ghost use mathlib.Core.Logic.{_≢_};
-ghost use mathlib.Core.Bool.{not, _&&_};
+ghost use mathlib.Core.Bool.{not, _&&_, _||_};
 ghost use Prim.Native.Nat.{ℕ, _+_, _*_, _≤_};
 ghost use lib.Dec.{eqb};
 ghost use lib.ListN.{length};
@@ -94,25 +94,21 @@ fn strike_all(
     }
 }
 
-// Whether every other holder has a permit from or to a writer. Those still without one are left in words that are lent: no set is copied for
-// a permit.
+// Whether every other holder, reader or writer, has a permit from or to a writer. Those still without one are left in words that are lent:
+// no set is copied for a permit.
 fn others_permitted(
     permits: &[u8],
     count: usize,
     readers: &[u64; 4],
     writers: &[u64; 4],
+    holders: ChangeSet,
     writer: u8,
 ) -> bool
-    requires { ⌜ FourWords (now readers) × FourWords (now writers) ⌝ }
+    requires { ⌜ FourWords (now readers) × FourWords (now writers) × ((k : ℕ) → members holders k ≡ wordsHave (now readers) k || wordsHave (now writers) k) ⌝ }
     requires { ⌜ 4 * count ≤ length (now permits) ⌝ }
     ensures { λ r. ⌜ r ≡ othersFit count (permitAt (now (permits .entry))) (wordsHave (now (readers .entry))) (wordsHave (now (writers .entry))) writer ⌝ }
 {
-    let mut left = [
-        readers[0] | writers[0],
-        readers[1] | writers[1],
-        readers[2] | writers[2],
-        readers[3] | writers[3],
-    ];
+    let mut left = holders.words;
     strike_all(&mut left, permits, count, readers, writers, writer);
     remove(&mut left, writer);
     ChangeSet { words: left }.is_empty()
@@ -125,11 +121,12 @@ pub fn few_permitted(permits: &[u8], count: usize, readers: ChangeSet, writers: 
 {
     let reader_words = readers.words;
     let writer_words = writers.words;
+    let holders = readers.unite(writers);
     let mut left = writers;
     let mut writer = left.lowest();
     while writer < 256 {
         let c = writer as u8;
-        if !others_permitted(permits, count, &reader_words, &writer_words, c) {
+        if !others_permitted(permits, count, &reader_words, &writer_words, holders, c) {
             return false;
         }
         left = left.rest();

@@ -47,15 +47,14 @@ module _ (t : TieRecord) (ts : List TieRecord) where
       (λ q. ⊎-elim (λ o. inl (or-right (tied ts isGroup a b || tied ts isGroup b a) _ o)) (λ m. inr (inl (m .1, m .2))) (tied-added isArrow a b q))
       (or-cases (tied (addTie t ts) isGroup a b || tied (addTie t ts) isGroup b a) (tied (addTie t ts) isArrow a b) e)
 
-module _ (t : TieRecord) (ts : List TieRecord) (clear : NoReturn ts) where
   -- AN ARROW
   module _ (arrow : isArrow t.kind ≡ true) where
     arrow-step : (a b : ℕ) → leading (addTie t ts) a b ≡ true → (leading ts a b ≡ true) ⊎ ((t .leader ≡ a) × (t .follower ≡ b))
-    arrow-step a b e = ⊎-elim inl (⊎-elim inr (λ m. absurd (true≢false (sym (m .0) ∙ arrow-not-group t.kind arrow)))) (leading-added t ts a b e)
+    arrow-step a b e = ⊎-elim inl (⊎-elim inr (λ m. absurd (true≢false (sym (m .0) ∙ arrow-not-group t.kind arrow)))) (leading-added a b e)
 
     -- it lets none return whose follower does not lead to its leader
-    arrow-clear : (Way (leading ts) t.follower t.leader → ⊥) → NoReturn (addTie t ts)
-    arrow-clear u l f e w = go (tied-added t ts isArrow l f e) (around (leading ts) (leading (addTie t ts)) (λ a. t .leader ≡ a) (λ b. t .follower ≡ b) arrow-step w)
+    arrow-clear : NoReturn ts → (Way (leading ts) t.follower t.leader → ⊥) → NoReturn (addTie t ts)
+    arrow-clear clear u l f e w = go (tied-added isArrow l f e) (around (leading ts) (leading (addTie t ts)) (λ a. t .leader ≡ a) (λ b. t .follower ≡ b) arrow-step w)
       where
         go : (tied ts isArrow l f ≡ true) ⊎ ((isArrow t.kind ≡ true) × (t .leader ≡ l) × (t .follower ≡ f)) → Way (leading ts) f l ⊎ Round (leading ts) (λ a. t .leader ≡ a) (λ b. t .follower ≡ b) f l → ⊥
         go (inl o) (inl p) = clear l f o p
@@ -65,7 +64,7 @@ module _ (t : TieRecord) (ts : List TieRecord) (clear : NoReturn ts) where
 
     -- and else its own path returns
     arrow-returns : Way (leading ts) t.follower t.leader → NoReturn (addTie t ts) → ⊥
-    arrow-returns w h = h t.leader t.follower (tie-new t ts isArrow arrow) (old t ts w)
+    arrow-returns w h = h t.leader t.follower (tie-new t ts isArrow arrow) (old w)
 
   -- A GROUP TIE
   module _ (group : isGroup t.kind ≡ true) where
@@ -75,15 +74,15 @@ module _ (t : TieRecord) (ts : List TieRecord) (clear : NoReturn ts) where
 
     -- a new step goes between its ends
     group-step : (a b : ℕ) → leading (addTie t ts) a b ≡ true → (leading ts a b ≡ true) ⊎ (End a × End b)
-    group-step a b e = ⊎-elim inl (⊎-elim (λ m. inr (inl (m .0), inr (m .1))) (λ m. inr (inr (m .2), inl (m .1)))) (leading-added t ts a b e)
+    group-step a b e = ⊎-elim inl (⊎-elim (λ m. inr (inl (m .0), inr (m .1))) (λ m. inr (inr (m .2), inl (m .1)))) (leading-added a b e)
 
     -- no arrow is new
     old-arrow : (l f : ℕ) → tied (addTie t ts) isArrow l f ≡ true → tied ts isArrow l f ≡ true
-    old-arrow l f e = ⊎-elim (λ o. o) (λ m. absurd (true≢false (sym group ∙ arrow-not-group t.kind (m .0)))) (tied-added t ts isArrow l f e)
+    old-arrow l f e = ⊎-elim (λ o. o) (λ m. absurd (true≢false (sym group ∙ arrow-not-group t.kind (m .0)))) (tied-added isArrow l f e)
 
     -- it lets none return where neither end leads to the other
-    apart-clear : (Way (leading ts) t.leader t.follower → ⊥) → (Way (leading ts) t.follower t.leader → ⊥) → NoReturn (addTie t ts)
-    apart-clear u v l f e w = go (old-arrow l f e) (around (leading ts) (leading (addTie t ts)) End End group-step w)
+    apart-clear : NoReturn ts → (Way (leading ts) t.leader t.follower → ⊥) → (Way (leading ts) t.follower t.leader → ⊥) → NoReturn (addTie t ts)
+    apart-clear clear u v l f e w = go (old-arrow l f e) (around (leading ts) (leading (addTie t ts)) End End group-step w)
       where
         ends : tied ts isArrow l f ≡ true → {x y : ℕ} → End x → End y → Way (leading ts) f x → Way (leading ts) y l → ⊥
         ends o (inl a) (inl b) p q = clear l f o (way-join p (rw (sym a ∙ b) q))
@@ -99,11 +98,11 @@ module _ (t : TieRecord) (ts : List TieRecord) (clear : NoReturn ts) where
     shrink : Way (leading ts) t.leader t.follower → Way (leading ts) t.follower t.leader → {x y : ℕ} → Way (leading (addTie t ts)) x y → Way (leading ts) x y
     shrink p q stay = stay
     shrink p q (on {b = a} {c = b} w e) = way-join (shrink p q w)
-        (⊎-elim (λ o. on stay o) (⊎-elim (λ m. rw (← (m .0), ← (m .1)) p) (λ m. rw (← (m .1), ← (m .2)) q)) (leading-added t ts a b e))
+        (⊎-elim (λ o. on stay o) (⊎-elim (λ m. rw (← (m .0), ← (m .1)) p) (λ m. rw (← (m .1), ← (m .2)) q)) (leading-added a b e))
 
     -- so it lets none return
-    both-clear : Way (leading ts) t.leader t.follower → Way (leading ts) t.follower t.leader → NoReturn (addTie t ts)
-    both-clear p q l f e w = clear l f (old-arrow l f e) (shrink p q w)
+    both-clear : NoReturn ts → Way (leading ts) t.leader t.follower → Way (leading ts) t.follower t.leader → NoReturn (addTie t ts)
+    both-clear clear p q l f e w = clear l f (old-arrow l f e) (shrink p q w)
 
     -- the new tie is a step either way
     there : leading (addTie t ts) t.leader t.follower ≡ true
@@ -116,7 +115,7 @@ module _ (t : TieRecord) (ts : List TieRecord) (clear : NoReturn ts) where
 
     -- where one leads to the other and not back, an arrow on the way returns
     one-returns : (a b : ℕ) → leading (addTie t ts) b a ≡ true → Way (leading ts) a b → (Way (leading ts) b a → ⊥) → NoReturn (addTie t ts) → ⊥
-    one-returns a b s w u h = ⊎-elim u (λ m. h (m .leader) (m .follower) (tie-old t ts isArrow (m .leader) (m .follower) (m .arrow)) (way-join (on (old t ts (m .fro)) s) (old t ts (m .to)))) (back-or-arrow ts w)
+    one-returns a b s w u h = ⊎-elim u (λ m. h (m .leader) (m .follower) (tie-old t ts isArrow (m .leader) (m .follower) (m .arrow)) (way-join (on (old (m .fro)) s) (old (m .to)))) (back-or-arrow ts w)
 
 -- THE TESTS
 beq-comm : (a b : Bool) → Bool·beq a b ≡ Bool·beq b a
@@ -149,18 +148,18 @@ module _ (n : ℕ) (t : TieRecord) (ts : List TieRecord) (ends : endsBelow n ts 
   arrow-test k = go (reach n (leading ts) t.follower t.leader) refl
     where
       go : (b : Bool) → reach n (leading ts) t.follower t.leader ≡ b → b ≡ not (acyclic n (addTie t ts))
-      go true e = rw (no-acyclic (arrow-returns t ts clear k (reached n ts ends t.follower t.leader e)))
-      go false e = rw (is-acyclic (arrow-clear t ts clear k (unreached n ts ends t.follower t.leader e)))
+      go true e = rw (no-acyclic (arrow-returns t ts k (reached n ts ends t.follower t.leader e)))
+      go false e = rw (is-acyclic (arrow-clear t ts k clear (unreached n ts ends t.follower t.leader e)))
 
   -- a group tie returns just where one end leads to the other and not back
   group-test : isGroup t.kind ≡ true → Bool·beq (reach n (leading ts) t.follower t.leader) (reach n (leading ts) t.leader t.follower) ≡ acyclic n (addTie t ts)
   group-test k = go (reach n (leading ts) t.follower t.leader) (reach n (leading ts) t.leader t.follower) refl refl
     where
       go : (a b : Bool) → reach n (leading ts) t.follower t.leader ≡ a → reach n (leading ts) t.leader t.follower ≡ b → Bool·beq a b ≡ acyclic n (addTie t ts)
-      go true true p q = sym (is-acyclic (both-clear t ts clear k (reached n ts ends t.leader t.follower q) (reached n ts ends t.follower t.leader p)))
-      go true false p q = sym (no-acyclic (one-returns t ts clear k t.follower t.leader (there t ts clear k) (reached n ts ends t.follower t.leader p) (unreached n ts ends t.leader t.follower q)))
-      go false true p q = sym (no-acyclic (one-returns t ts clear k t.leader t.follower (back t ts clear k) (reached n ts ends t.leader t.follower q) (unreached n ts ends t.follower t.leader p)))
-      go false false p q = sym (is-acyclic (apart-clear t ts clear k (unreached n ts ends t.leader t.follower q) (unreached n ts ends t.follower t.leader p)))
+      go true true p q = sym (is-acyclic (both-clear t ts k clear (reached n ts ends t.leader t.follower q) (reached n ts ends t.follower t.leader p)))
+      go true false p q = sym (no-acyclic (one-returns t ts k t.follower t.leader (there t ts k) (reached n ts ends t.follower t.leader p) (unreached n ts ends t.leader t.follower q)))
+      go false true p q = sym (no-acyclic (one-returns t ts k t.leader t.follower (back t ts k) (reached n ts ends t.leader t.follower q) (unreached n ts ends t.follower t.leader p)))
+      go false false p q = sym (is-acyclic (apart-clear t ts k clear (unreached n ts ends t.leader t.follower q) (unreached n ts ends t.follower t.leader p)))
 
 -- THE SAME OF A TIE AS IT IS MADE
 module _ (n : ℕ) (ts : List TieRecord) (ends : endsBelow n ts ≡ true) (k l f : ℕ) (hl : l < n) (hf : f < n) (h : acyclic n ts ≡ true) where

@@ -31,9 +31,9 @@ use Rattle.pair_refusals.proofs.PairLaws.{delegate-passed}
 
 module _ (W : Window) (f t e : ℕ) (none : firstFailed (take 5 (checks limits W (Delegate f t e))) ≡ 0) where
   -- WHAT IS LEFT is the last check
-  fails-last : (b : Bool) → b ≡ clashesPermitted (handOver W f t (entriesNamed e)) → cond b 0 10 ≡ firstFailed (checks limits W (Delegate f t e))
+  last-decides : (b : Bool) → b ≡ clashesPermitted (handOver W f t (entriesNamed e)) → cond b 0 10 ≡ firstFailed (checks limits W (Delegate f t e))
   unfolding checks all _if_
-  fails-last b q = went-on 5 (checks limits W (Delegate f t e)) refl (sym none) refl (go b q)
+  last-decides b q = went-on 5 (checks limits W (Delegate f t e)) refl (sym none) refl (go b q)
     where
       go : (b : Bool) {x : Bool} → b ≡ x → Checked (10 if not x ∷ []) (cond b 0 10)
       go true q = passes (ap not q) refl all-passed
@@ -78,14 +78,14 @@ module _ (bs : List ℕ) (s : soundBytes bs ≡ true) (f t e code : ℕ) (is : c
     on-named-entries : onEntries (eqb e 65535) (e % 256) ≡ entriesNamed e
     on-named-entries = named (decode bs) f t e zero-first (bytes-sound bs s)
 
-    last-failed : cond b 0 10 ≡ firstFailed (checks limits (decode bs) (Delegate f t e))
-    last-failed = fails-last (decode bs) f t e zero-first b (judged ∙ ap (λ on. clashesPermitted (handOver (decode bs) f t on)) on-named-entries)
+    code-decided : cond b 0 10 ≡ firstFailed (checks limits (decode bs) (Delegate f t e))
+    code-decided = last-decides (decode bs) f t e zero-first b (judged ∙ ap (λ on. clashesPermitted (handOver (decode bs) f t on)) on-named-entries)
 
     pub refused-last : b ≡ false → (r .answer ≡ 10) × (r .number ≡ 0) → Gives (written (step limits (decode bs) (Delegate f t e))) r after
     refused-last h a = let l : after ≡ bs = rw h at left in
-        rw l (turned-back bs s (Delegate f t e) 10 r (rw h at last-failed) (omega arith) a)
+        rw l (turned-back bs s (Delegate f t e) 10 r (rw h at code-decided) (omega arith) a)
 
     pub handed-over : b ≡ true → (r .answer ≡ 0) × (r .number ≡ 0) → Gives (written (step limits (decode bs) (Delegate f t e))) r after
     unfolding effect
-    handed-over h a = let-through (decode bs) (Delegate f t e) 0 (rw h at last-failed) refl
-        (λ q. given-done 0 _ r after a ((rw h at left) ∙ ap (λ on. encode (handOver (decode bs) f t on)) on-named-entries))
+    handed-over h a = let-through (decode bs) (Delegate f t e) 0 (rw h at code-decided) refl
+        (given-done 0 _ r after a ((rw h at left) ∙ ap (λ on. encode (handOver (decode bs) f t on)) on-named-entries))

@@ -51,6 +51,7 @@ pub fn delegate(w: &mut [u8], from: u32, to: u32, entry: u32) -> Reply
     if code != 0 {
         return unchanged(code);
     }
+    // A named entry is below 256, so the remainder is itself; of 65,535 only the flag counts.
     let every = entry == EVERY;
     if !hand_over(w, from as u8, to as u8, every, (entry % 256) as u8) {
         return unchanged(10);

@@ -40,7 +40,7 @@ all-none p = refl
 -- sections whose bytes all pass
 all-section : (p : ℕ → Bool) (n : ℕ) (f : ℕ → ℕ) (l : List Section) → ((i : ℕ) → p (f i) ≡ true) → all p (layOut l) ≡ true → all p (layOut (section n f ∷ l)) ≡ true
 unfolding layOut section
-all-section p n f l h e = all-join p (table n 0 f) (layOut l) (all-table p f n 0 (λ i _ _. h i)) e
+all-section p n f l h e = all-join p (table n 0 f) (layOut l) (all-table p f n 0 (λ i _. h i)) e
 
 -- a byte of a place of a table, used or not
 place-small {ℓ} : {A : Type ℓ} (bytes : A → List ℕ) (l : List A) (none : A) (p : A → Bool) → ((x : A) → p x ≡ true → all small (bytes x) ≡ true) → all p l ≡ true

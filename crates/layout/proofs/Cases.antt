@@ -9,7 +9,7 @@ use Rattle.rules.specs.Window.{limits, fresh}
 use Rattle.rules.specs.Calls.{Call, Open, Initiate, Begin, Lock, Write, Depend, Abort, Value, arguments, fits}
 use Rattle.rules.specs.Refusals.{step}
 use Rattle.rules.specs.Lists.{answers}
-use Rattle.rules.proofs.Cases.{Gives, whole-case}
+use Rattle.rules.proofs.Cases.{Answered, whole-case}
 use Rattle.rules.proofs.Computing.{rules}
 use Rattle.rules.proofs.SizeLaws.{initiates}
 use Rattle.layout.specs.Memory.{long, perform}
@@ -22,7 +22,7 @@ module _ (mem : List ℕ) (enough : long mem ≡ true) where
   after-open l f = answers-list mem (fresh 0) 2 l enough f refl
 
   -- every list of the rules' Cases has the same answers on memory
-  pub case-on-memory : (l : List Call) (a : List (ℕ × ℕ)) → Gives l a → all fits l ≡ true → answers perform mem (Open 2 ∷ l) ≡ (0, 0) ∷ a
+  pub case-on-memory : (l : List Call) (a : List (ℕ × ℕ)) → Answered l a → all fits l ≡ true → answers perform mem (Open 2 ∷ l) ≡ (0, 0) ∷ a
   unfolding limits
   case-on-memory l a g f = after-open l f ∙ g 254 252 2046 1022 510
 

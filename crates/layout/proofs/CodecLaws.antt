@@ -8,8 +8,9 @@ use lib.Arith.{digits-div, digits-mod}
 use lib.Dec.{eqb}
 use lib.ListN.{getD, length}
 use Rattle.rules.specs.Base.{table}
-use Rattle.rules.specs.Window.{Window}
+use Rattle.rules.specs.Window.{limits, Window}
 use Rattle.rules.proofs.BaseLaws.{Below, under, over, below}
+use Rattle.rules.proofs.SoundParts.{Blank}
 use Rattle.layout.specs.Codec.{byte, bit, pack, noRecord, noPermit, noTie, figures, headByte, valueByte, changeByte, lockByte, permitByte, tieByte, recordBytes, logByte, permitBytes, tieBytes, headSize, valuesSize, changesSize, locksSize, permitsSize, tiesSize, logSize, headAt, valuesAt, changesAt, locksAt, permitsAt, tiesAt, logAt, windowSize, encode, inside, join2, join4, unpack, readFigure, readValue, readStatus, readParent, readHeld, readRecord, readPermit, readTie, decode}
 use Rattle.layout.proofs.SectionLaws.{section, sections, encode-sections, length-layOut, layOut-at, table-list}
 use Rattle.layout.proofs.RecordLaws.{first-byte, permit-again, tie-again}
@@ -40,7 +41,7 @@ module _ (W : Window) where
   unfolding inside sections section
   permits-at i h = rw (encode-sections W) (layOut-at (sections (figures W) W) 5 i h)
 
-  pub ties-at : (i : ℕ) → i < tiesSize → inside tiesAt (encode W) i ≡ tieByte (W .ties) i
+  ties-at : (i : ℕ) → i < tiesSize → inside tiesAt (encode W) i ≡ tieByte (W .ties) i
   unfolding inside sections section
   ties-at i h = rw (encode-sections W) (layOut-at (sections (figures W) W) 6 i h)
 
@@ -71,7 +72,7 @@ join4-byte v h =
     chain v (v / 256) (v / 65536) (v / 16777216) (v / 1 % 256) (v / 256 % 256) (v / 65536 % 256) (v / 16777216 % 256)
     (omega arith) (omega arith) (omega arith) (omega arith)
 
-join4-same : (f g : ℕ → ℕ) → ((k : ℕ) → k < 4 → f k ≡ g k) → join4 f ≡ join4 g
+pub join4-same : (f g : ℕ → ℕ) → ((k : ℕ) → k < 4 → f k ≡ g k) → join4 f ≡ join4 g
 unfolding join4
 join4-same f g h = rw (h 0 (omega arith), h 1 (omega arith), h 2 (omega arith), h 3 (omega arith))
 
@@ -120,13 +121,9 @@ unpack-pack (suc n) p (suc i) h =
 pub record Canonical (W : Window) : Type 0 where
   pub entries-most : W .entries ≤ 256
   pub given-most : W .given ≤ 255
+  pub blank : Blank limits W
   pub value-most : (e : ℕ) → W .value e < 4294967296
-  pub value-none : (e : ℕ) → 256 ≤ e → W .value e ≡ 0
-  pub status-none : (c : ℕ) → 256 ≤ c → W .status c ≡ 0
-  pub parent-none : (c : ℕ) → 256 ≤ c → W .parent c ≡ 0
   pub held-most : (e c : ℕ) → W .held e c ≤ 2
-  pub held-none-entry : (e c : ℕ) → 256 ≤ e → W .held e c ≡ 0
-  pub held-none-change : (e c : ℕ) → 256 ≤ c → W .held e c ≡ 0
   pub log-most : length W.log ≤ 2048
   pub before-most : (j : ℕ) → getD W.log j noRecord .before < 4294967296
   pub permits-most : length W.permits ≤ 1024
@@ -244,14 +241,14 @@ module _ (W : Window) (k : Canonical W) where
       (table-list noTie W.ties (readTie (encode W)) refl (λ j l. tie-there W j (omega (arith, k .ties-most))))
 
   pub decode-encode : decode (encode W) ≡ W
-  unfolding decode figures
+  unfolding limits decode figures
   decode-encode = λ i. record {
     entries = figure-again W 0 (W .entries) (omega arith) refl (omega (arith, k .entries-most)) i;
     given = figure-again W 1 (W .given) (omega arith) refl (omega (arith, k .given-most)) i;
-    value = fun-ext (value-again W (k .value-most) (k .value-none)) i;
-    status = fun-ext (status-again W (k .status-none)) i;
-    parent = fun-ext (parent-again W (k .parent-none)) i;
-    held = fun-ext (λ e. fun-ext (held-all W (k .held-most) (k .held-none-entry) (k .held-none-change) e)) i;
+    value = fun-ext (value-again W (k .value-most) (k .blank .value)) i;
+    status = fun-ext (status-again W (k .blank .status)) i;
+    parent = fun-ext (parent-again W (k .blank .parent)) i;
+    held = fun-ext (λ e. fun-ext (held-all W (k .held-most) (k .blank .held-entry) (k .blank .held-change) e)) i;
     log = log-again i;
     permits = permits-again i;
     ties = ties-again i;

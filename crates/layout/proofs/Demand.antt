@@ -3,7 +3,7 @@ use mathlib.Core.Path.{_≡_, sym, _∙_}
 use mathlib.Core.Bool.{true}
 use mathlib.Core.Logic.{_↔_}
 use mathlib.Core.List.{List, [], _∷_}
-use Prim.Native.Nat.{ℕ, _<_, _≤_}
+use Prim.Native.Nat.{ℕ, _<_}
 use native.Mathlib.Omega.{arith}
 use Rattle.rules.specs.Base.{all}
 use Rattle.rules.specs.Window.{limits, Window}
@@ -11,7 +11,7 @@ use Rattle.rules.specs.Calls.{Call, Open, fits}
 use Rattle.rules.specs.Refusals.{step}
 use Rattle.rules.specs.Lists.{history, highest, isGrouped, Grouped, Demand3}
 use Rattle.rules.proofs.Demand.{rules-kept, rules-highest}
-use Rattle.rules.proofs.DemandAlike.{Alike, demand-alike, history-alike, model-of, model-opens}
+use Rattle.rules.proofs.DemandAlike.{Alike, demand-alike, history-alike}
 use Rattle.rules.proofs.DemandGroups.{rules-grouped}
 use Rattle.rules.proofs.RuleLaws.{open-number}
 use Rattle.rules.proofs.SoundStep.{opened-fresh}
@@ -43,7 +43,6 @@ pub bytes-kept : Demand3 perform
 bytes-kept = demand-alike perform (step limits) Holds alike start most (rules-kept limits)
 
 -- the test by which live groups are counted says what `Grouped` says
-pub bytes-grouped : (mem : List ℕ) (n : ℕ) → perform mem (Open n) .answer ≡ 0 → (l : List Call) → all fits l ≡ true → (a b : ℕ) → a ≤ highest (history perform mem [] (Open n ∷ l))
+pub bytes-grouped : (mem : List ℕ) (n : ℕ) → perform mem (Open n) .answer ≡ 0 → (l : List Call) → all fits l ≡ true → (a b : ℕ)
     → isGrouped (history perform mem [] (Open n ∷ l)) a b ≡ true ↔ Grouped (history perform mem [] (Open n ∷ l)) a b
-bytes-grouped mem n e l f = rw (history-alike perform (step limits) Holds alike start most mem n e l f)
-    (rules-grouped limits (model-of perform (step limits) Holds alike start most mem n e) n (model-opens perform (step limits) Holds alike start most mem n e) l f)
+bytes-grouped mem n e l f = rw (history-alike perform (step limits) Holds alike start mem n e l f) (rules-grouped limits (start mem n e .0) n (start mem n e .1) l f)

@@ -1,5 +1,5 @@
 -- A section of records, each of so many bytes: its records' bytes one after the other, and zeros. Assumes nothing.
-use mathlib.Core.Path.{_≡_, refl, sym, _∙_, ap, fun-ext}
+use mathlib.Core.Path.{_≡_, refl, sym, _∙_, ap}
 use mathlib.Core.Bool.{Bool}
 use mathlib.Core.List.{List, [], _∷_, _++_, append-assoc, flatMap}
 use Prim.Native.Nat.{ℕ, zero, suc, _+_, _-_, _*_, _/_, _%_, _≤_, _<_}
@@ -7,12 +7,12 @@ use native.Mathlib.Nat.{div-add-mod', div-lt-iff-lt-mul, mul-le-mul-right, le-di
 use native.Mathlib.Numerals.{add-one}
 use native.Mathlib.Omega.{arith}
 use lib.Arith.{digits-lt, digits-div, digits-mod}
-use lib.ListN.{getD, length, replicate, getD-replicate, List·getD-eq-default}
+use lib.ListN.{getD, length, replicate, length-replicate, getD-replicate, List·getD-eq-default}
 use Rattle.rules.specs.Base.{table}
 use Rattle.rules.specs.Window.{LogRecord, PermitRecord, TieRecord}
 use Rattle.rules.proofs.BaseLaws.{Below, under, over, below}
 use Rattle.layout.specs.Codec.{noRecord, noPermit, noTie, byte, permitBytes, permitByte, tieBytes, tieByte, recordBytes, logByte, permitSection, tieSection, logSection, permitIn, tieIn}
-use Rattle.layout.proofs.SectionLaws.{length-table, getD-table0, table-list}
+use Rattle.layout.proofs.SectionLaws.{length-table, getD-table0, table-list, table-same}
 
 -- tables
 pub table-append {ℓ} : {A : Type ℓ} (m n i : ℕ) (f : ℕ → A) → table (m + n) i f ≡ table m i f ++ table n (i + m) f
@@ -20,15 +20,8 @@ unfolding table
 table-append zero n i f = let e : i + 0 ≡ i = omega arith in rw (zero-add n, e)
 table-append (suc m) n i f = let e : suc i + m ≡ i + suc m = omega arith in rw (suc-add m n) (ap (λ l. f i ∷ l) (table-append m n (suc i) f ∙ rw e))
 
-table-shift {ℓ} : {A : Type ℓ} (k i w : ℕ) (f : ℕ → A) → table k (i + w) f ≡ table k i (λ j. f (j + w))
-unfolding table
-table-shift zero i w f = refl
-table-shift (suc k) i w f = ap (λ l. f (i + w) ∷ l) (ap (λ j. table k j f) (sym (suc-add i w)) ∙ table-shift k (suc i) w f)
-
-pub table-zeros : (k i : ℕ) (f : ℕ → ℕ) → ((j : ℕ) → f j ≡ 0) → table k i f ≡ replicate k 0
-unfolding table
-table-zeros zero i f h = refl
-table-zeros (suc k) i f h = rw (h i) (ap (λ l. 0 ∷ l) (table-zeros k (suc i) f h))
+pub table-zeros : (k : ℕ) (f : ℕ → ℕ) → ((j : ℕ) → f j ≡ 0) → table k 0 f ≡ replicate k 0
+table-zeros k f h = table-list 0 (replicate k 0) f (length-replicate k 0) (λ j l. h j ∙ sym (getD-replicate k j 0 0 l))
 
 -- byte i of a section of w bytes for each place, where place k has the bytes f k
 unfoldable pub placed : ℕ → (ℕ → List ℕ) → ℕ → ℕ
@@ -54,13 +47,13 @@ module _ {ℓ} {A : Type ℓ} (w : ℕ) (pos : 0 < w) (bytes : A → List ℕ) (
   -- the section is the records' bytes and zeros
   records-flat : (most : ℕ) (l : List A) → length l ≤ most → table (most * w) 0 (placeByte w bytes none l) ≡ flatMap bytes l ++ replicate ((most - length l) * w) 0
   unfolding flatMap
-  records-flat most [] h = rw (sub-zero most) (table-zeros (most * w) 0 (placeByte w bytes none []) no-place)
+  records-flat most [] h = rw (sub-zero most) (table-zeros (most * w) (placeByte w bytes none []) no-place)
   records-flat zero (x ∷ l) h = absurd (not-suc-le-zero h)
   records-flat (suc most) (x ∷ l) h =
       ap (λ k. table k 0 (placeByte w bytes none (x ∷ l))) (suc-mul most w ∙ add-comm (most * w) w)
       ∙ table-append w (most * w) 0 (placeByte w bytes none (x ∷ l))
       ∙ ap (λ r. r ++ table (most * w) (0 + w) (placeByte w bytes none (x ∷ l))) (first-place x l)
-      ∙ ap (λ r. bytes x ++ r) (table-shift (most * w) 0 w (placeByte w bytes none (x ∷ l)) ∙ ap (table (most * w) 0) (fun-ext (next-place x l)) ∙ records-flat most l (le-of-suc-le-suc h))
+      ∙ ap (λ r. bytes x ++ r) (table-same (most * w) (0 + w) 0 _ (placeByte w bytes none l) (λ j h′. ap (placeByte w bytes none (x ∷ l)) (omega arith) ∙ next-place x l (0 + j)) ∙ records-flat most l (le-of-suc-le-suc h))
       ∙ sym (append-assoc (bytes x) (flatMap bytes l) (replicate ((most - length l) * w) 0))
       ∙ ap (λ k. (bytes x ++ flatMap bytes l) ++ replicate (k * w) 0) (sym (suc-sub-suc most (length l)))
 

@@ -16,7 +16,7 @@ unfolding table
 length-table zero i f = refl
 length-table (suc k) i f = ap suc (length-table k (suc i) f)
 
-pub getD-table {ℓ} : {A : Type ℓ} (k i : ℕ) (f : ℕ → A) (j : ℕ) (d : A) → j < k → getD (table k i f) j d ≡ f (i + j)
+getD-table {ℓ} : {A : Type ℓ} (k i : ℕ) (f : ℕ → A) (j : ℕ) (d : A) → j < k → getD (table k i f) j d ≡ f (i + j)
 unfolding table
 getD-table zero i f j d h = absurd (not-suc-le-zero h)
 getD-table (suc k) i f zero d h = ap f (sym (add-zero i))
@@ -29,6 +29,11 @@ getD-table0 k f j d h = getD-table k 0 f j d h ∙ ap f (zero-add j)
 pub table-list {ℓ} : {A : Type ℓ} {n : ℕ} (d : A) (l : List A) (f : ℕ → A) → length l ≡ n → ((j : ℕ) → j < n → f j ≡ getD l j d) → table n 0 f ≡ l
 table-list {n = n} d l f e h = ext-getD d (table n 0 f) l (length-table n 0 f ∙ sym e)
     (λ j s. let t : j < n = rw length-table at s in getD-table0 n f j d t ∙ h j t)
+
+-- the same at each place, wherever each begins
+pub table-same : (n i j : ℕ) (f g : ℕ → ℕ) → ((k : ℕ) → k < n → f (i + k) ≡ g (j + k)) → table n i f ≡ table n j g
+table-same n i j f g h = ext-getD 0 (table n i f) (table n j g) (length-table n i f ∙ sym (length-table n j g))
+    (λ k l. let m : k < n = rw length-table at l in getD-table n i f k 0 m ∙ h k m ∙ sym (getD-table n j g k 0 m))
 
 -- each element is a byte: what is known of a slice of bytes
 abbrev pub Bytes : List ℕ → Type 0

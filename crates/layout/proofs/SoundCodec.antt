@@ -27,16 +27,12 @@ module _ (W : Window) (k : Sound limits W) where
 -- a sound window has what bytes can say
 pub sound-canonical : (W : Window) → Sound limits W → Canonical W
 unfolding limits
-sound-canonical W k = let b = sound-blank limits W k in record {
+sound-canonical W k = record {
   entries-most = entries-most W k;
   given-most = given-most W k;
+  blank = sound-blank limits W k;
   value-most = λ e. ltb-true (W .value e) 4294967296 (value-most limits W k e);
-  value-none = b .value;
-  status-none = b .status;
-  parent-none = b .parent;
   held-most = held-most W (k .helds);
-  held-none-entry = b .held-entry;
-  held-none-change = b .held-change;
   log-most = within-of (length W.log) 2048 (k .room-log);
   before-most = λ j. ltb-true (getD W.log j noRecord .before) 4294967296 (all-getD (λ r. ltb r.before 4294967296) W.log j noRecord (all-weaken (recordSound W.entries (live W) W.held) _ (λ r h. record-parts W.entries (live W) W.held r h .2) W.log (k .records)) refl);
   permits-most = within-of (length W.permits) 1024 (k .room-permits);

@@ -1,7 +1,7 @@
 -- What is printed while the input is fed byte by byte is the listing, in whatever pieces it comes. Assumes nothing.
 use mathlib.Core.Path.{_≡_, refl, sym, ap, _∙_}
 use mathlib.Core.Bool.{Bool, true, false, cond}
-use mathlib.Core.List.{List, [], _∷_, _++_, append-assoc, append-nil, flatten}
+use mathlib.Core.List.{List, [], _∷_, _++_, append-assoc, append-nil, flatten, foldr, foldr-append, foldl-append}
 use Prim.Native.Nat.{ℕ, suc}
 use lib.Dec.{eqb, eqb·suc-zero}
 use lib.ListN.{length, take}
@@ -13,29 +13,17 @@ use Rattle.listing.specs.Feed.{State, start, firstEnded, laterEnded, lin
 use Rattle.listing.specs.Pieces.{written, outputs}
 use Rattle.listing.proofs.KeptLaws.{take-kept, reply-kept, first-kept}
 
--- ONE PIECE AFTER THE OTHER
-pub fed-append : (s : State) (xs ys : List ℕ) → fed s (xs ++ ys) ≡ fed (fed s xs) ys
-unfolding fed
-fed-append s [] ys = refl
-fed-append s (x ∷ xs) ys = fed-append (fedByte s x) xs ys
-
 -- LINES that begin with what has been read of one
-front : List ℕ → List (List ℕ) → List (List ℕ)
-front [] ls = ls
-front (x ∷ l) ls = inFront x (front l ls)
-
-front-more : (l : List ℕ) (x : ℕ) (ls : List (List ℕ)) → front (l ++ (x ∷ [])) ls ≡ front l (inFront x ls)
-unfolding front
-front-more [] x ls = refl
-front-more (y ∷ l) x ls = ap (inFront y) (front-more l x ls)
+abbrev front : List ℕ → List (List ℕ) → List (List ℕ)
+front l ls = foldr inFront ls l
 
 front-whole : (l : List ℕ) (ls : List (List ℕ)) → front l ([] ∷ ls) ≡ l ∷ ls
-unfolding inFront front
+unfolding inFront
 front-whole [] ls = refl
 front-whole (y ∷ l) ls = ap (inFront y) (front-whole l ls)
 
 front-end : (x : ℕ) (l : List ℕ) → front (x ∷ l) [] ≡ (x ∷ l) ∷ []
-unfolding inFront front
+unfolding inFront
 front-end x [] = refl
 front-end x (y ∷ l) = ap (inFront x) (front-end y l)
 
@@ -55,7 +43,7 @@ over-fed (x ∷ xs) l p mem out =
 
 -- LATER LINES: what is printed from a line begun on
 later-fed : (xs l : List ℕ) (p : ℕ) (mem out : List ℕ) → ended (fed (at l (suc p) false mem out) xs) .out ≡ out ++ replies (suc p) mem (front l (lines xs))
-unfolding front lines replies fed fedByte lineEnded laterEnded ended
+unfolding lines replies fed fedByte lineEnded laterEnded ended
 later-fed [] [] p mem out = sym (append-nil out)
 later-fed [] (x ∷ l) p mem out =
     rw (front-end x l, eqb·suc-zero (length (take 64 l)), eqb·suc-zero p, reply-kept mem (x ∷ l), append-nil (printed (suc p) (replyTo mem (x ∷ l) .answer) (replyTo mem (x ∷ l) .number)))
@@ -66,12 +54,12 @@ later-fed (x ∷ xs) l p mem out =
       | true ↦
           rw (front-whole l (lines xs), eqb·suc-zero p, reply-kept mem l)
           (later-fed xs [] (suc p) (replyTo mem l .after) (out ++ printed (suc p) (replyTo mem l .answer) (replyTo mem l .number)) ∙ append-assoc out _ _)
-      | false ↦ rw (take-kept 65 l (x ∷ []), ← front-more l x (lines xs)) (later-fed xs (l ++ (x ∷ [])) p mem out)
+      | false ↦ rw (take-kept 65 l (x ∷ []), ← foldr-append inFront (lines xs) l (x ∷ [])) (later-fed xs (l ++ (x ∷ [])) p mem out)
     ]
 
 -- THE FIRST LINE: what is printed from its beginning on
 first-fed : (xs l : List ℕ) (out : List ℕ) → ended (fed (at l 0 false zeroMemory out) xs) .out ≡ out ++ answered (front l (lines xs))
-unfolding front lines answered replies fed fedByte lineEnded firstEnded ended
+unfolding lines answered replies fed fedByte lineEnded firstEnded ended
 first-fed [] [] out = sym (append-nil out)
 first-fed [] (x ∷ l) out =
     rw (front-end x l, eqb·suc-zero (length (take 64 l)), first-kept (x ∷ l))
@@ -87,12 +75,12 @@ first-fed (x ∷ xs) l out =
           (elim (sameBytes l firstLine)
           as (λ b. ended (fed (cond b (at [] 1 false zeroMemory out) (at [] 0 true zeroMemory (out ++ printed 0 30 0))) xs) .out ≡ out ++ cond b (replies 1 zeroMemory (lines xs)) (printed 0 30 0))
           [ true ↦ later-fed xs [] 0 zeroMemory out | false ↦ over-fed xs [] 0 zeroMemory (out ++ printed 0 30 0) ])
-      | false ↦ rw (take-kept 65 l (x ∷ []), ← front-more l x (lines xs)) (first-fed xs (l ++ (x ∷ [])) out)
+      | false ↦ rw (take-kept 65 l (x ∷ []), ← foldr-append inFront (lines xs) l (x ∷ [])) (first-fed xs (l ++ (x ∷ [])) out)
     ]
 
 -- THE WHOLE INPUT, fed byte by byte
 fed-listing : (input : List ℕ) → ended (fed start input) .out ≡ listing input
-unfolding start listing front
+unfolding start listing
 fed-listing input = first-fed input [] header
 
 -- WHAT WAS PRINTED BEFORE plays no part: o in front of what a state has printed
@@ -149,7 +137,7 @@ pieces-from s [] = sym (ended-out s)
 pieces-from s (xs ∷ pieces) =
     let t : State = fed (written s) xs in
     ap (λ (r : List ℕ). s.out ++ r) (pieces-from t pieces)
-    ∙ sym (ap (λ (u : State). u .out) (ap ended (fed-append s xs (flatten pieces) ∙ ap (λ (u : State). fed u (flatten pieces)) (fed-whole s xs) ∙ fed-after s.out t (flatten pieces)) ∙ ended-after s.out (fed t (flatten pieces))))
+    ∙ sym (ap (λ (u : State). u .out) (ap ended (foldl-append fedByte s xs (flatten pieces) ∙ ap (λ (u : State). fed u (flatten pieces)) (fed-whole s xs) ∙ fed-after s.out t (flatten pieces)) ∙ ended-after s.out (fed t (flatten pieces))))
 
 -- the outputs of the pieces, one after the other, are the listing of the whole
 pub pieces-listing : (pieces : List (List ℕ)) → header ++ outputs start pieces ≡ listing (flatten pieces)

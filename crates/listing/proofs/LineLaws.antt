@@ -1,5 +1,5 @@
 -- A printed line, made from its end, and put after what waits. Assumes nothing.
-use mathlib.Core.Path.{_≡_, ap, _∙_}
+use mathlib.Core.Path.{_≡_, refl, ap, _∙_}
 use mathlib.Core.List.{List, [], _∷_, _++_}
 use Prim.Native.Nat.{ℕ, _+_, _-_, _≤_}
 use native.Mathlib.Omega.{arith}
@@ -11,19 +11,15 @@ use Rattle.text.specs.Decimal.{shownBefore}
 use Rattle.text.proofs.ShownLaws.{drop-set}
 use Rattle.listing.specs.Listing.{printed}
 
--- A BYTE put in front of what stands from m on
-byte-before : (l : List ℕ) (m v : ℕ) → 1 ≤ m → m ≤ length l → drop (m - 1) (set l (m - 1) v) ≡ v ∷ drop m l
-byte-before l m v h k = drop-set l (m - 1) v m (omega arith) (omega arith)
-
 -- A LINE: the newline, then the numbers and commas in front of it
-pub line-printed : (p a n : ℕ) (t u v w : List ℕ) (i j k : ℕ) → length t ≡ 64 → length u ≡ 64 → length v ≡ 64 → 43 ≤ i → i ≤ 63 → 22 ≤ j → j ≤ 63
+pub line-printed : (p a n : ℕ) (t u v w : List ℕ) (i j k : ℕ) → length t ≡ 64 → length u ≡ 64 → length v ≡ 64 → 1 ≤ i → i ≤ 63 → 1 ≤ j → j ≤ 63
     → drop i u ≡ shownBefore n (drop 63 (set t 63 10)) → drop j v ≡ shownBefore a (drop (i - 1) (set u (i - 1) 44)) → drop k w ≡ shownBefore p (drop (j - 1) (set v (j - 1) 44))
     → drop k w ≡ printed p a n
 unfolding printed
 line-printed p a n t u v w i j k ht hu hv hi hi′ hj hj′ eu ev ew =
-    let newline : drop 63 (set t 63 10) ≡ 10 ∷ [] = byte-before t 64 10 (omega arith) (omega arith) ∙ ap (λ (r : List ℕ). 10 ∷ r) (drop-of-length-le t {i = 64} (omega arith)) in
-    let second : drop (i - 1) (set u (i - 1) 44) ≡ 44 ∷ shownBefore n (10 ∷ []) = byte-before u i 44 (omega arith) (omega arith) ∙ ap (λ (r : List ℕ). 44 ∷ r) (eu ∙ ap (shownBefore n) newline) in
-    let first : drop (j - 1) (set v (j - 1) 44) ≡ 44 ∷ shownBefore a (44 ∷ shownBefore n (10 ∷ [])) = byte-before v j 44 (omega arith) (omega arith) ∙ ap (λ (r : List ℕ). 44 ∷ r) (ev ∙ ap (shownBefore a) second) in
+    let newline : drop 63 (set t 63 10) ≡ 10 ∷ [] = drop-set t 63 10 64 refl (omega arith) ∙ ap (λ (r : List ℕ). 10 ∷ r) (drop-of-length-le t {i = 64} (omega arith)) in
+    let second : drop (i - 1) (set u (i - 1) 44) ≡ 44 ∷ shownBefore n (10 ∷ []) = drop-set u (i - 1) 44 i (omega arith) (omega arith) ∙ ap (λ (r : List ℕ). 44 ∷ r) (eu ∙ ap (shownBefore n) newline) in
+    let first : drop (j - 1) (set v (j - 1) 44) ≡ 44 ∷ shownBefore a (44 ∷ shownBefore n (10 ∷ [])) = drop-set v (j - 1) 44 j (omega arith) (omega arith) ∙ ap (λ (r : List ℕ). 44 ∷ r) (ev ∙ ap (shownBefore a) second) in
     ew ∙ ap (shownBefore p) first
 
 -- the line put after what waits, from where it begins in the 64 bytes

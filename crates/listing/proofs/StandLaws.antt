@@ -1,13 +1,13 @@
 -- What a function does to where a listing stands is what the definition does to the state. Assumes nothing.
 use mathlib.Core.Path.{_≡_, refl, sym, ap, _∙_}
 use mathlib.Core.Bool.{true, false}
-use mathlib.Core.List.{List, [], _∷_, _++_}
+use mathlib.Core.List.{List, [], _∷_, _++_, foldl-append}
 use Prim.Native.Nat.{ℕ, _+_, _*_, _≤_, _<_}
 use native.Mathlib.Omega.{arith}
 use native.Mathlib.Numerals.{add-one}
 use borrow.Author.Tests.{ne-eqb}
 use lib.ListN.{length, take, getD, set, length-append}
-use lib.Seq.{take-all, take-suc, take-suc-set, take-append-le, take-take, length-take-le}
+use lib.Seq.{take-all, take-suc, take-suc-set, take-append-le, length-take-le}
 use Rattle.layout.specs.Memory.{sameBytes}
 use Rattle.cells.specs.Part.{patch}
 use Rattle.cells.proofs.PartLaws.{take-patch-end}
@@ -19,7 +19,7 @@ use Rattle.listing.specs.declared.Stand.{Stand}
 use Rattle.listing.specs.Listing.{firstLine, header, printed, zeroMemory}
 use Rattle.listing.specs.Feed.{State, start, firstEnded, laterEnded, lineEnded, fedByte, fed, ended}
 use Rattle.listing.specs.Stands.{standing}
-use Rattle.listing.proofs.FeedLaws.{fed-append}
+use Rattle.listing.proofs.KeptLaws.{take-kept}
 
 -- THE START: the header waits
 pub started : (line out after : List ℕ) → after ≡ patch out 0 header → standing (record { held = 0; place = 0; over = false; used = 19 }) line zeroMemory after ≡ start
@@ -65,7 +65,7 @@ module _ (s : Stand) (line mem out : List ℕ) where
   unfolding standing fedByte
   byte-past b n e h =
       let all : take 65 (take s.held line ++ (b ∷ [])) ≡ take s.held line =
-      rw e (take-append-le 65 (take 65 line) (b ∷ []) (rw (length-take-le 65 line (omega arith)) (omega arith)) ∙ take-take 65 65 line (omega arith)) in
+      rw e (take-kept 65 line (b ∷ []) ∙ take-append-le 65 line (b ∷ []) (omega arith)) in
       rw (ne-eqb b 10 n, all)
 
   pub byte-kept : (b : ℕ) → (b ≡ 10 → ⊥) → s.held < 65 → length line ≡ 65
@@ -88,7 +88,7 @@ module _ (s : Stand) (line mem out : List ℕ) where
 -- A PIECE: one byte of it after the other
 fed-more : (t : State) (input : List ℕ) (i : ℕ) → i < length input → fed t (take (i + 1) input) ≡ fedByte (fed t (take i input)) (getD input i 0)
 unfolding fed
-fed-more t input i h = ap (λ (k : ℕ). fed t (take k input)) (add-one i) ∙ ap (fed t) (take-suc input i 0 h) ∙ fed-append t (take i input) (getD input i 0 ∷ [])
+fed-more t input i h = ap (λ (k : ℕ). fed t (take k input)) (add-one i) ∙ ap (fed t) (take-suc input i 0 h) ∙ foldl-append fedByte t (take i input) (getD input i 0 ∷ [])
 
 -- THE LOOP over a piece: i of its bytes have been fed
 pub record Fed (input line₀ memory₀ out₀ : List ℕ) (s₀ : Stand) (line memory out : List ℕ) (s : Stand) (i : ℕ) : Type 0 where

@@ -1,6 +1,6 @@
 -- The listing as it comes while the input is fed byte by byte: `FeedLaws` proves that it is `listing`'s, in whatever pieces the input comes. Assumes nothing.
 use mathlib.Core.Bool.{Bool, true, false, cond}
-use mathlib.Core.List.{List, [], _∷_, _++_}
+use mathlib.Core.List.{List, [], _∷_, _++_, foldl}
 use Prim.Native.Nat.{ℕ, suc}
 use lib.Dec.{eqb}
 use lib.ListN.{length, take}
@@ -46,9 +46,9 @@ fedByte s b =
     cond (eqb b 10) (lineEnded s)
     (record { line = take 65 (s.line ++ (b ∷ [])); place = s.place; over = s.over; memory = s.memory; out = s.out })
 
+-- a piece
 unfoldable pub fed : State → List ℕ → State
-fed s [] = s
-fed s (b ∷ l) = fed (fedByte s b) l
+fed s l = foldl fedByte s l
 
 -- the input is at its end: a line begun is whole too
 unfoldable pub ended : State → State

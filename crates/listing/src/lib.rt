@@ -25,7 +25,6 @@ pub struct Stand {
 // A line to print, at the end of 64 bytes. What comes back is where it begins.
 fn print_line(text: &mut [u8], place: u64, answer: u32, number: u32) -> usize
     requires { ⌜ length (now text) ≡ 64 ⌝ }
-    ensures { λ r. ⌜ 1 ≤ r ⌝ }
     ensures { λ r. ⌜ r ≤ 64 ⌝ }
     ensures { λ r. ⌜ drop r (now (text .exit)) ≡ printed place answer number ⌝ }
 {
@@ -181,16 +180,16 @@ pub fn feed(s: Stand, input: &[u8], line: &mut [u8], memory: &mut [u8], out: &mu
 }
 
 // The input is at its end: a line begun is whole too.
-pub fn finish(s: Stand, line: &mut [u8], memory: &mut [u8], out: &mut [u8]) -> Stand
+pub fn finish(s: Stand, line: &[u8], memory: &mut [u8], out: &mut [u8]) -> Stand
     requires { ⌜ length (now line) ≡ 65 ⌝ }
     requires { ⌜ s .held ≤ 65 ⌝ }
     requires { ⌜ s .used + 64 ≤ length (now out) ⌝ }
     requires { ⌜ s .place + 1 < 2 ^ 64 ⌝ }
     ensures { λ r. ⌜ r .used ≤ s .used + 64 ⌝ }
-    ensures { λ r. ⌜ standing r (now (line .exit)) (now (memory .exit)) (now (out .exit)) ≡ ended (standing s (now (line .entry)) (now (memory .entry)) (now (out .entry))) ⌝ }
+    ensures { λ r. ⌜ standing r (now (line .entry)) (now (memory .exit)) (now (out .exit)) ≡ ended (standing s (now (line .entry)) (now (memory .entry)) (now (out .entry))) ⌝ }
 {
     if s.held == 0 {
         return s;
     }
-    end_line(s, &*line, memory, out)
+    end_line(s, line, memory, out)
 }

@@ -12,9 +12,9 @@ use Rattle.rules.specs.Sets.{Set}
 use Rattle.rules.proofs.BaseLaws.{Below, under, over, below, Same, same, other, same?, eqb-same}
 use Rattle.layout.specs.Codec.{pack, unpack, lockByte, lockSection, locksSize}
 use Rattle.layout.proofs.CodecLaws.{pack-same, unpack-pack}
-use Rattle.layout.proofs.SectionLaws.{length-table, getD-table0}
+use Rattle.layout.proofs.SectionLaws.{length-table, getD-table0, table-same}
 use Rattle.cells.specs.Bits.{bytesHave}
-use Rattle.cells.proofs.TableLaws.{table-same, patch-table}
+use Rattle.cells.proofs.TableLaws.{patch-table}
 use Rattle.sets.specs.Members.{loaded, setByte, setBytes, stored}
 
 -- a bit for each entry, mode less one and change

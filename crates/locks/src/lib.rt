@@ -87,7 +87,7 @@ impl EntryLocks {
 
     // With a change's lock in a mode, 0 being none.
     fn with_mode(self, change: u8, mode: u8) -> EntryLocks
-        ensures { λ r. ⌜ ((row : ℕ → ℕ) → mode ≤ 2 → LocksOf self row → LocksOf r (put row change mode)) ⌝ }
+        ensures { λ r. ⌜ ((row : ℕ → ℕ) → LocksOf self row → LocksOf r (put row change mode)) ⌝ }
     {
         let r = self.readers;
         let w = self.writers;
@@ -111,7 +111,7 @@ impl EntryLocks {
 
 // Gives a change a lock on an entry in a mode, 1 or 2, in the place of the one that it has.
 pub fn grant(locks: &mut [u8], entry: u8, change: u8, mode: u8)
-    ensures { λ _. ⌜ ((held : ℕ → ℕ → ℕ) → mode ≤ 2 → now (locks .entry) ≡ lockSection held → now (locks .exit) ≡ lockSection (put2 held entry change mode)) ⌝ }
+    ensures { λ _. ⌜ ((held : ℕ → ℕ → ℕ) → now (locks .entry) ≡ lockSection held → now (locks .exit) ≡ lockSection (put2 held entry change mode)) ⌝ }
 {
     let before = EntryLocks::load(locks, entry);
     let after = before.with_mode(change, mode);

@@ -62,7 +62,7 @@ module _ (s : List ℕ) (l : List LogRecord) (i : ℕ) (e : s ≡ logSection l) 
   unfolding part le
   before-read t = ap num (sym (part-part s (i * 6) 6 2 4 (omega arith))
       ∙ ap (λ (r : List ℕ). part r 2 4) (ap (λ (r : List ℕ). part r (i * 6) 6) (e ∙ log-places l)
-      ∙ place-read 6 (omega arith) 2048 (placeBytes l) i h (length-record (getD l i noRecord)) ∙ sym (record-le (getD l i noRecord))))
+      ∙ place-read 6 2048 (placeBytes l) i h (length-record (getD l i noRecord)) ∙ sym (record-le (getD l i noRecord))))
       ∙ num-le 4 (getD l i noRecord .before) t
 
   -- another owner
@@ -70,7 +70,7 @@ module _ (s : List ℕ) (l : List LogRecord) (i : ℕ) (e : s ≡ logSection l) 
       → set s (i * 6) o ≡ logSection (set l i x)
   unfolding recordBytes
   owner-store o t x q = ap (λ (k : ℕ). set s k o) (sym (add-zero (i * 6))) ∙ ap (λ (r : List ℕ). set r (i * 6 + 0) o) (e ∙ log-places l)
-      ∙ cell-store 6 (omega arith) 2048 (placeBytes l) (placeBytes (set l i x)) i 0 o h (omega arith) (length-record (getD l i noRecord))
+      ∙ cell-store 6 2048 (placeBytes l) (placeBytes (set l i x)) i 0 o h (omega arith) (length-record (getD l i noRecord))
       (record { here = ap recordBytes (getD-set-same l i x noRecord t ∙ q); there = λ j ne. ap recordBytes (getD-set-other l i j x noRecord ne) })
       ∙ sym (log-places (set l i x))
 
@@ -92,6 +92,6 @@ record-append s l n r q e h =
     ∙ patch-cons s (n * 6) (r .owner) (r .entry ∷ le 4 (r .before)) (omega arith))
     ∙ ap (patch s (n * 6)) (record-le r)
     ∙ ap (λ (t : List ℕ). patch t (n * 6) (recordBytes r)) (e ∙ log-places l)
-    ∙ place-store 6 (omega arith) 2048 (placeBytes l) (placeBytes (l ++ (r ∷ []))) n (recordBytes r) h (length-record r)
+    ∙ place-store 6 2048 (omega arith) (placeBytes l) (placeBytes (l ++ (r ∷ []))) n (recordBytes r) h (length-record r)
     (record { here = ap recordBytes (getD-at l r [] noRecord n q); there = λ j ne. ap recordBytes (append-there l r j (λ d. ne (d ∙ q))) })
     ∙ sym (log-places (l ++ (r ∷ [])))

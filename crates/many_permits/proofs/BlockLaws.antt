@@ -3,7 +3,6 @@ use mathlib.Core.Path.{_≡_, refl, sym, _∙_}
 use mathlib.Core.Bool.{Bool, false}
 use mathlib.Core.List.{List}
 use Prim.Native.Nat.{ℕ, _+_, _-_, _*_, _≤_, _<_}
-use native.Mathlib.Decide.{decLt}
 use native.Mathlib.Omega.{arith}
 use lib.Dec.{eqb}
 use lib.ListN.{getD}
@@ -14,7 +13,6 @@ use Rattle.rules.proofs.BaseLaws.{anyBelow-none}
 use Rattle.layout.specs.Records.{permitAt}
 use Rattle.cells.specs.Part.{byteIs}
 use Rattle.beside.specs.Permits.{anyOf}
-use Rattle.beside.proofs.PlaceLaws.{Skipped}
 use Rattle.many_permits.specs.Named.{involves}
 
 -- ONE OF THE FIRST N
@@ -28,15 +26,6 @@ module _ (t : ℕ → PermitRecord) (p : PermitRecord → Bool) where
   pub any-skipped : (i j : ℕ) → i ≤ j → ((k : ℕ) → i ≤ k → k < j → p (t k) ≡ false) → anyOf i t p ≡ anyOf j t p
   unfolding anyOf
   any-skipped i j h none = sym (any-bound (λ k. p (t k)) i j h none)
-
--- PASSED OVER
-module _ (p : PermitRecord → Bool) (bs : List ℕ) (start : ℕ) where
-  pub skipped-run : (j n : ℕ) → Skipped p bs start j → ((k : ℕ) → j ≤ k → k < j + n → p (permitAt bs k) ≡ false) → Skipped p bs start (j + n)
-  skipped-run j n before none k h l = go (decLt k j)
-    where
-      go : Dec (k < j) → p (permitAt bs k) ≡ false
-      go (yes m) = before k h m
-      go (no m) = none k (omega arith) l
 
 -- A BLOCK OF PERMITS
 -- a change whose number is none of its bytes gives and takes none of its permits

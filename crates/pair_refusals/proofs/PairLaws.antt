@@ -20,8 +20,8 @@ unfolding every
 unless-every x e = rw e
 
 -- a test of two changes
-pub neither : {t b u d : Bool} → t ≡ b → u ≡ d → not (t && u) ≡ not (b && d)
-neither e q = rw (e, q)
+pub not-both : {t b u d : Bool} → t ≡ b → u ≡ d → not (t && u) ≡ not (b && d)
+not-both e q = rw (e, q)
 
 -- whether there is room, as it is asked
 module _ {t b : Bool} (e : t ≡ not b) where

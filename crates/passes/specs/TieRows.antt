@@ -1,4 +1,4 @@
--- Ties as rows: four words for each number, which hold the numbers to which a tie is gone along from it. Assumes nothing.
+-- Ties as rows (of an adjacency matrix): four words for each number, which hold the numbers to which a tie is gone along from it. Assumes nothing.
 use mathlib.Core.Bool.{Bool, _&&_, _||_}
 use mathlib.Core.List.{List}
 use Prim.Native.Nat.{ℕ, _+_, _*_, _/_, _%_}

@@ -21,7 +21,7 @@ pub fn is_arrow(kind: u8) -> bool
     (kind == 1) | (kind == 2)
 }
 
-// What one tie adds to the set of these words.
+// What one tie adds to the set of these words. A tie is gone along from leader to follower where its kind is from `low` to 3, a group tie (3) back too.
 fn pull(words: &mut [u64; 4], low: u8, kind: u8, leader: u8, follower: u8)
     requires { ⌜ length (now words) ≡ 4 ⌝ }
     ensures { λ _. ⌜ length (now (words .exit)) ≡ 4 ⌝ }
@@ -83,6 +83,7 @@ fn note_tie(rows: &mut [u64], low: u8, kind: u8, leader: u8, follower: u8)
     if low <= kind {
         if kind <= 3 {
             note(rows, leader, follower);
+            // A group tie.
             if kind > 2 {
                 note(rows, follower, leader);
             }

@@ -7,12 +7,11 @@ use native.Mathlib.Nat.{sub-self}
 use native.Mathlib.Omega.{arith}
 use lib.ListN.{length, length-map}
 use Rattle.rules.specs.Base.{table, rising}
-use Rattle.rules.proofs.SortLaws.{inserts-rising, length-inserts}
+use Rattle.rules.proofs.SortLaws.{length-insert, inserts-rising, length-inserts}
 use Rattle.layout.proofs.SectionLaws.{length-table}
 use Rattle.rows.specs.Rows.{Row, rowKey, rowAt, rows, uniteRows, addRow, unlessOver, Stored}
 use Rattle.rows.proofs.RowLaws.{length-rows, rows-same, stored-rows, stored-over}
 use Rattle.rows.proofs.AddLaws.{unless-not}
-use Rattle.rows.proofs.TableLaws.{length-least}
 use Rattle.permits.specs.PermitRows.{withGiver}
 
 -- a row united keeps its key
@@ -44,7 +43,7 @@ module _ (base : List Row) (moved : List ℕ) (m to : ℕ) where
   length-given : (i : ℕ) → length (given base moved m to i) ≤ m - i + length base
   unfolding given addRow
   length-given i =
-      omega (arith, length-inserts rowKey uniteRows (map (withGiver to) (table (m - i) i (rowAt moved))) base, length-map (table (m - i) i (rowAt moved)) (withGiver to), length-table (m - i) i (rowAt moved))
+      omega (arith, length-inserts rowKey uniteRows (map (withGiver to) (table (m - i) i (rowAt moved))) base .1, length-map (table (m - i) i (rowAt moved)) (withGiver to), length-table (m - i) i (rowAt moved))
 
   -- and the order is kept
   given-rising : rising rowKey base ≡ true → (i : ℕ) → rising rowKey (given base moved m to i) ≡ true
@@ -74,7 +73,7 @@ module _ (s₀ : List ℕ) (n : ℕ) (moved : List ℕ) (m to : ℕ) where
         next = ap (addRow x) (stored-rows (given (rows n s₀) moved m to (i + 1)) s₀ count s now) ∙ sym (given-next (rows n s₀) moved m to i h)
 
         longer : length (given (rows n s₀) moved m to (i + 1)) ≤ length (given (rows n s₀) moved m to i)
-        longer = rw (given-next (rows n s₀) moved m to i h) (unfold addRow in length-least rowKey uniteRows x (given (rows n s₀) moved m to (i + 1)))
+        longer = rw (given-next (rows n s₀) moved m to i h) (unfold addRow in length-insert rowKey uniteRows x (given (rows n s₀) moved m to (i + 1)) .0)
 
         is : unlessOver most (addRow x (rows count s)) (rows count s) ≡ given (rows n s₀) moved m to i
         is = unless-not most (addRow x (rows count s)) (rows count s) (rw next (omega (arith, length-given (rows n s₀) moved m to i, length-rows n s₀))) ∙ next

@@ -25,7 +25,7 @@ use Rattle.permits.proofs.PermitLaws.{permitRow, permit-table}
 unfoldable pub grants : ℕ → ℕ → ℕ → ℕ → Row → Bool
 grants giver taker entry mode r = eqb r.k2 giver && (eqb r.k3 taker || eqb r.k3 0) && eqb r.k1 entry && contains r.more mode
 
--- on its entry, and on another
+-- a row of the entry
 grants-here : (g taker entry mode : ℕ) (r : Row) → r .k1 ≡ entry → grants g taker entry mode r ≡ eqb r.k2 g && serves taker mode r
 unfolding grants serves
 grants-here g taker entry mode r e =

@@ -10,14 +10,14 @@ use Rattle.rules.specs.Sets.{Set}
 use Rattle.rules.specs.Window.{PermitRecord, permitKey}
 use Rattle.rules.specs.Locks.{unitePermits, addPermit}
 use Rattle.rules.specs.Effects.{permitGiven, permitMoves, permitKept, movedPermit, movePermits}
-use Rattle.rules.proofs.SortLaws.{rising-keep}
+use Rattle.rules.proofs.SortLaws.{rising-keep, length-inserts}
 use Rattle.rules.proofs.SoundDelegate.{hand-parts, hand-room}
 use Rattle.layout.specs.Codec.{permitSection}
 use Rattle.layout.specs.Records.{Tabled}
 use Rattle.rows.specs.Rows.{Row, rowKey, rows, addRow, Stored, Closed}
 use Rattle.rows.proofs.RowLaws.{length-rows}
 use Rattle.rows.proofs.CloseLaws.{closed-rows}
-use Rattle.rows.proofs.TableLaws.{keep-map, added-all-map, length-least-all, table-rows, table-rising, table-stored, table-closed}
+use Rattle.rows.proofs.TableLaws.{keep-map, added-all-map, table-rows, table-rising, table-stored, table-closed}
 use Rattle.permits.specs.PermitRows.{givenBy, handed, withGiver}
 use Rattle.permits.proofs.PermitLaws.{permitRow, permit-table, permit-united}
 
@@ -65,7 +65,7 @@ module _ (ps : List PermitRecord) (n : ℕ) (bytes : List ℕ) (len : length ps 
   hand-over r after s =
       table-stored permitRow permitKey permitSection 1024 permit-table (keep (permitKept from on) ps) left rest (sym (here .count)) (here .bytes) (omega (arith, hand-fits))
       (foldr (insert permitKey unitePermits) (keep (permitKept from on) ps) (map (movedPermit to) (keep (permitMoves from to on) ps))) r after
-      (omega (arith, here .count, length-least-all permitKey unitePermits (map (movedPermit to) (keep (permitMoves from to on) ps)) (keep (permitKept from on) ps)))
+      (omega (arith, here .count, length-inserts permitKey unitePermits (map (movedPermit to) (keep (permitMoves from to on) ps)) (keep (permitKept from on) ps) .0))
       (omega (arith, hand-fits, here .count, how-many, hand-room from to on ps))
       (rw all at s)
     where

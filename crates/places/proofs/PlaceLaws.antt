@@ -3,25 +3,25 @@ use mathlib.Core.Path.{_≡_, sym, ap, _∙_}
 use mathlib.Core.Logic.{_≢_}
 use mathlib.Core.Bool.{Bool}
 use mathlib.Core.List.{List}
-use Prim.Native.Nat.{ℕ, _+_, _*_, _/_, _≤_, _<_}
+use Prim.Native.Nat.{ℕ, _+_, _*_, _≤_, _<_}
 use native.Mathlib.Nat.{mul-le-mul-right, suc-mul}
 use native.Mathlib.Omega.{arith}
-use lib.Arith.{digits-lt, digits-div}
+use lib.Arith.{digits-lt}
 use lib.ListN.{length, getD, set, length-set}
-use lib.Seq.{ext-getD, getD-set-same, getD-set-other}
+use lib.Seq.{ext-getD}
 use Rattle.rules.specs.Base.{table}
 use Rattle.rules.proofs.BaseLaws.{Same, same, other, same?, Below, under, over, below}
 use Rattle.layout.proofs.SectionLaws.{length-table}
 use Rattle.layout.proofs.RecordLaws.{placed, cell-read, by-cells}
 use Rattle.cells.specs.Part.{part, patch}
-use Rattle.cells.proofs.PartLaws.{length-part, length-patch, getD-part, getD-patch, getD-patch-before, getD-patch-after}
+use Rattle.cells.proofs.PartLaws.{length-part, length-patch, getD-part, getD-patch, getD-patch-before, getD-patch-after, set-part}
 
 -- another function of places: bs at place k, and elsewhere the same
 pub record Stored (f : ℕ → List ℕ) (k : ℕ) (bs : List ℕ) (g : ℕ → List ℕ) : Type 0 where
   pub here : g k ≡ bs
   pub there : (j : ℕ) → j ≢ k → g j ≡ f j
 
-module _ (w : ℕ) (pos : 0 < w) (n : ℕ) where
+module _ (w n : ℕ) where
   in-section : (k : ℕ) → k < n → k * w + w ≤ n * w
   in-section k h = rw (suc-mul k w) at (mul-le-mul-right w h)
 
@@ -34,13 +34,13 @@ module _ (w : ℕ) (pos : 0 < w) (n : ℕ) where
       (λ j t. let u : j < w = rw size at t in getD-part (table (n * w) 0 (placed w f)) (k * w) w j u ∙ cell-read w n f k j h u)
 
   -- a section is known by its n places
-  pub by-places : (f g : ℕ → List ℕ) → ((k : ℕ) → k < n → f k ≡ g k) → table (n * w) 0 (placed w f) ≡ table (n * w) 0 (placed w g)
-  by-places f g e = by-cells w n pos (table (n * w) 0 (placed w f)) g (length-table (n * w) 0 (placed w f)) (λ k j h t. cell-read w n f k j h t ∙ ap (λ (x : List ℕ). getD x j 0) (e k h))
+  pub by-places : 0 < w → (f g : ℕ → List ℕ) → ((k : ℕ) → k < n → f k ≡ g k) → table (n * w) 0 (placed w f) ≡ table (n * w) 0 (placed w g)
+  by-places pos f g e = by-cells w n pos (table (n * w) 0 (placed w f)) g (length-table (n * w) 0 (placed w f)) (λ k j h t. cell-read w n f k j h t ∙ ap (λ (x : List ℕ). getD x j 0) (e k h))
 
   -- a place stored
-  pub place-store : (f g : ℕ → List ℕ) (k : ℕ) (bs : List ℕ) → k < n → length bs ≡ w → Stored f k bs g
+  pub place-store : 0 < w → (f g : ℕ → List ℕ) (k : ℕ) (bs : List ℕ) → k < n → length bs ≡ w → Stored f k bs g
       → patch (table (n * w) 0 (placed w f)) (k * w) bs ≡ table (n * w) 0 (placed w g)
-  place-store f g k bs h e s = by-cells w n pos (patch l (k * w) bs) g (length-patch l (k * w) bs (rw (e, long) (in-section k h)) ∙ long) (λ q r hq hr. go q r hq hr (same? q k))
+  place-store pos f g k bs h e s = by-cells w n pos (patch l (k * w) bs) g (length-patch l (k * w) bs (rw (e, long) (in-section k h)) ∙ long) (λ q r hq hr. go q r hq hr (same? q k))
     where
       l : List ℕ
       l = table (n * w) 0 (placed w f)
@@ -60,20 +60,7 @@ module _ (w : ℕ) (pos : 0 < w) (n : ℕ) where
   -- a byte stored
   pub cell-store : (f g : ℕ → List ℕ) (k j v : ℕ) → k < n → j < w → length (f k) ≡ w → Stored f k (set (f k) j v) g
       → set (table (n * w) 0 (placed w f)) (k * w + j) v ≡ table (n * w) 0 (placed w g)
-  cell-store f g k j v h t e s = by-cells w n pos (set l (k * w + j) v) g (length-set l (k * w + j) v ∙ long) (λ q r hq hr. go q r hq hr (same? q k) (same? r j))
-    where
-      l : List ℕ
-      l = table (n * w) 0 (placed w f)
-
-      long : length l ≡ n * w
-      long = length-table (n * w) 0 (placed w f)
-
-      -- another byte
-      apart : (q r : ℕ) → q < n → r < w → q * w + r ≢ k * w + j → getD (set l (k * w + j) v) (q * w + r) 0 ≡ getD (f q) r 0
-      apart q r hq hr ne = getD-set-other l (k * w + j) (q * w + r) v 0 ne ∙ cell-read w n f q r hq hr
-
-      go : (q r : ℕ) → q < n → r < w → {a b : Bool} → Same q k a → Same r j b → getD (set l (k * w + j) v) (q * w + r) 0 ≡ getD (g q) r 0
-      go q r hq hr (same a) (same b) = rw (a, b) (getD-set-same l (k * w + j) v 0 (rw long (digits-lt h t)) ∙ sym (ap (λ (x : List ℕ). getD x j 0) (s .here) ∙ getD-set-same (f k) j v 0 (rw e t)))
-      go q r hq hr (same a) (other b) = apart q r hq hr (λ x. b (omega (arith, x, ap (λ (y : ℕ). y * w) a)))
-          ∙ rw a (sym (ap (λ (x : List ℕ). getD x r 0) (s .here) ∙ getD-set-other (f k) j r v 0 b))
-      go q r hq hr (other a) b = apart q r hq hr (λ x. a (sym (digits-div q hr) ∙ ap (λ (y : ℕ). y / w) x ∙ digits-div k t)) ∙ ap (λ (x : List ℕ). getD x r 0) (sym (s .there q a))
+  cell-store f g k j v h t e s =
+      let l : List ℕ = table (n * w) 0 (placed w f) in
+      set-part l (k * w) w j v (rw (length-table (n * w) 0 (placed w f)) (in-section k h)) t
+      ∙ ap (λ (x : List ℕ). patch l (k * w) (set x j v)) (place-read f k h e) ∙ place-store (omega arith) f g k (set (f k) j v) h (length-set (f k) j v ∙ e) s

@@ -3,7 +3,7 @@ use mathlib.Core.Path.{_≡_, refl, sym, ap, ap₂, _∙_, fun-ext}
 use mathlib.Core.Bool.{Bool, true, false, not, cond, _&&_, _||_, and-true, and-false, and-not-self, or-false, or-comm}
 use mathlib.Core.List.{List}
 use Prim.Native.Nat.{ℕ, suc, _+_, _-_, _*_, _%_, _^_, _≤_, _<_, min, max}
-use native.Mathlib.Nat.{zero-mul, one-mul}
+use native.Mathlib.Nat.{zero-mul}
 use native.Mathlib.Omega.{arith}
 use native.Mathlib.Numerals.{add-one}
 use lib.Dec.{ltb, eqb}
@@ -15,7 +15,7 @@ use Rattle.rules.specs.Sets.{Set, putAll}
 use Rattle.rules.proofs.BaseLaws.{Same, same, other, same?, Below, under, over, below, and-right, both-ways, eqb-iff}
 use Rattle.rules.proofs.SoundParts.{inside-of}
 use Rattle.layout.specs.Codec.{changeSection, bit, unpack}
-use Rattle.cells.proofs.Digits.{unpack-zero, unpack-power, unpack-or, unpack-mod}
+use Rattle.cells.proofs.Digits.{unpack-zero, unpack-or, unpack-one}
 use Rattle.sets.proofs.WalkLaws.{Lowest}
 use Rattle.places.specs.Statuses.{firsts, inRange}
 use Rattle.places.proofs.TableLaws.{status-read, change-ext}
@@ -35,14 +35,14 @@ unfolding putAll passed
 statuses-none s how st = fun-ext (λ k. ap (λ (b : Bool). cond b how (st k)) (and-not-self (s k)))
 
 -- one turn of the loop: the walk goes on without c
-module _ (s left : Set) (c : ℕ) (w : Walk s left c) (h : c < 256) (left′ : Set) (without : (k : ℕ) → left′ k ≡ not (eqb k c) && left k) where
+module _ (s left : Set) (c : ℕ) (w : Walk s left c) (left′ : Set) (without : (k : ℕ) → left′ k ≡ not (eqb k c) && left k) where
   pub walk-next : (c′ : ℕ) → Lowest left′ c′ → Walk s left′ c′
   walk-next c′ e = record { lowest = e; inside = λ k l. w .inside k (and-right (not (eqb k c)) (left k) (sym (without k) ∙ l)) }
 
   -- one more
-  statuses-more : (how : ℕ) (st : ℕ → ℕ) → put (putAll (passed s left) how st) c how ≡ putAll (passed s left′) how st
+  statuses-more : c < 256 → (how : ℕ) (st : ℕ → ℕ) → put (putAll (passed s left) how st) c how ≡ putAll (passed s left′) how st
   unfolding putAll put passed
-  statuses-more how st = fun-ext (λ k. go k (same? k c) ∙ ap (λ (b : Bool). cond (s k && not b) how (st k)) (sym (without k)))
+  statuses-more h how st = fun-ext (λ k. go k (same? k c) ∙ ap (λ (b : Bool). cond (s k && not b) how (st k)) (sym (without k)))
     where
       member : s c ≡ true
       member = w .inside c (w .lowest .hit h)
@@ -52,9 +52,9 @@ module _ (s left : Set) (c : ℕ) (w : Walk s left c) (h : c < 256) (left′ : S
       go k (other q) = refl
 
   -- from what was there and what the turn made of it
-  pub statuses-turn : (how : ℕ) (l l′ : List ℕ) (st pa : ℕ → ℕ) → l ≡ changeSection (putAll (passed s left) how st) pa
+  pub statuses-turn : c < 256 → (how : ℕ) (l l′ : List ℕ) (st pa : ℕ → ℕ) → l ≡ changeSection (putAll (passed s left) how st) pa
       → ((st pa : ℕ → ℕ) → l ≡ changeSection st pa → l′ ≡ changeSection (put st c how) pa) → l′ ≡ changeSection (putAll (passed s left′) how st) pa
-  statuses-turn how l l′ st pa e f = f (putAll (passed s left) how st) pa e ∙ ap (λ (x : ℕ → ℕ). changeSection x pa) (statuses-more how st)
+  statuses-turn h how l l′ st pa e f = f (putAll (passed s left) how st) pa e ∙ ap (λ (x : ℕ → ℕ). changeSection x pa) (statuses-more h how st)
 
 -- all
 pub statuses-all : (s left : Set) (c : ℕ) → Walk s left c → 256 ≤ c → (how : ℕ) (st pa : ℕ → ℕ)
@@ -94,11 +94,8 @@ firsts-above s n k h = rw (le-ltb k n h)
 
 -- a bit moved up to place i
 bit-moved : (t : Bool) (i j : ℕ) → j < 64 → unpack ((bit t * 2 ^ i) % 2 ^ 64) j ≡ eqb j i && t
-bit-moved t i j h = unpack-mod 64 (bit t * 2 ^ i) j h ∙ go t
-  where
-    go : (t : Bool) → unpack (bit t * 2 ^ i) j ≡ eqb j i && t
-    go true = rw (one-mul (2 ^ i)) (unpack-power i j ∙ sym (and-true (eqb j i)))
-    go false = rw (zero-mul (2 ^ i)) (unpack-zero j ∙ sym (and-false (eqb j i)))
+bit-moved true i j h = unpack-one i j h ∙ sym (and-true (eqb j i))
+bit-moved false i j h = rw (zero-mul (2 ^ i)) (unpack-zero j ∙ sym (and-false (eqb j i)))
 
 -- a word of a set: none of its changes yet
 pub word-none : (s : Set) (first j : ℕ) → unpack 0 j ≡ firsts first s (first + j)

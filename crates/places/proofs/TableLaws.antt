@@ -54,13 +54,13 @@ change-places st pa = ap (table 1024 0) (fun-ext (λ i. past (st (i / 4)) (pa (i
 pub figure-read : (s fs : List ℕ) (k : ℕ) → s ≡ headSection fs → k < 32 → getD fs k 0 < 65536 → num (part s (k * 2) 2) ≡ getD fs k 0
 figure-read s fs k e h t =
     ap (λ (r : List ℕ). num (part r (k * 2) 2)) (e ∙ head-places fs)
-    ∙ ap num (place-read 2 (omega arith) 32 (figureBytes fs) k h (length-le 2 (getD fs k 0))) ∙ num-le 2 (getD fs k 0) t
+    ∙ ap num (place-read 2 32 (figureBytes fs) k h (length-le 2 (getD fs k 0))) ∙ num-le 2 (getD fs k 0) t
 
 -- one stored
 pub figure-store : (s fs : List ℕ) (k v : ℕ) → s ≡ headSection fs → k < 32 → k < length fs → patch s (k * 2) (le 2 v) ≡ headSection (set fs k v)
 figure-store s fs k v e h t =
     ap (λ (r : List ℕ). patch r (k * 2) (le 2 v)) (e ∙ head-places fs)
-    ∙ place-store 2 (omega arith) 32 (figureBytes fs) (figureBytes (set fs k v)) k (le 2 v) h (length-le 2 v)
+    ∙ place-store 2 32 (omega arith) (figureBytes fs) (figureBytes (set fs k v)) k (le 2 v) h (length-le 2 v)
     (record { here = ap (le 2) (getD-set-same fs k v 0 t); there = λ j ne. ap (le 2) (getD-set-other fs k j v 0 ne) })
     ∙ sym (head-places (set fs k v))
 
@@ -68,20 +68,20 @@ figure-store s fs k v e h t =
 pub value-read : (s : List ℕ) (v : ℕ → ℕ) (e : ℕ) → s ≡ valueSection v → e < 256 → v e < 2 ^ 32 → num (part s (e * 4) 4) ≡ v e
 value-read s v e q h t =
     ap (λ (r : List ℕ). num (part r (e * 4) 4)) (q ∙ value-places v)
-    ∙ ap num (place-read 4 (omega arith) 256 (valueBytes v) e h (length-le 4 (v e))) ∙ num-le 4 (v e) t
+    ∙ ap num (place-read 4 256 (valueBytes v) e h (length-le 4 (v e))) ∙ num-le 4 (v e) t
 
 -- one stored
 pub value-store : (s : List ℕ) (v : ℕ → ℕ) (e x : ℕ) → s ≡ valueSection v → e < 256 → patch s (e * 4) (le 4 x) ≡ valueSection (put v e x)
 value-store s v e x q h =
     ap (λ (r : List ℕ). patch r (e * 4) (le 4 x)) (q ∙ value-places v)
-    ∙ place-store 4 (omega arith) 256 (valueBytes v) (valueBytes (put v e x)) e (le 4 x) h (length-le 4 x)
+    ∙ place-store 4 256 (omega arith) (valueBytes v) (valueBytes (put v e x)) e (le 4 x) h (length-le 4 x)
     (record { here = ap (le 4) (put-same v e x); there = λ j ne. ap (le 4) (put-other v e x j ne) })
     ∙ sym (value-places (put v e x))
 
 -- STATUSES AND PARENTS: the statuses of the changes that there can be are all that counts
 pub change-ext : (st st′ pa : ℕ → ℕ) → ((c : ℕ) → c < 256 → st c ≡ st′ c) → changeSection st pa ≡ changeSection st′ pa
 change-ext st st′ pa f = change-places st pa
-    ∙ by-places 4 (omega arith) 256 (changeBytes st pa) (changeBytes st′ pa) (λ c h. ap (λ (x : ℕ). x ∷ pa c ∷ 0 ∷ 0 ∷ []) (f c h)) ∙ sym (change-places st′ pa)
+    ∙ by-places 4 256 (omega arith) (changeBytes st pa) (changeBytes st′ pa) (λ c h. ap (λ (x : ℕ). x ∷ pa c ∷ 0 ∷ 0 ∷ []) (f c h)) ∙ sym (change-places st′ pa)
 
 module _ (s : List ℕ) (st pa : ℕ → ℕ) (c : ℕ) (e : s ≡ changeSection st pa) (h : c < 256) where
   -- byte j of a change
@@ -100,7 +100,7 @@ module _ (s : List ℕ) (st pa : ℕ → ℕ) (c : ℕ) (e : s ≡ changeSection
   change-store : (st′ pa′ : ℕ → ℕ) (j v : ℕ) → j < 4 → Stored (changeBytes st pa) c (set (changeBytes st pa c) j v) (changeBytes st′ pa′)
       → set s (c * 4 + j) v ≡ changeSection st′ pa′
   change-store st′ pa′ j v t d = ap (λ (r : List ℕ). set r (c * 4 + j) v) (e ∙ change-places st pa)
-      ∙ cell-store 4 (omega arith) 256 (changeBytes st pa) (changeBytes st′ pa′) c j v h t refl d ∙ sym (change-places st′ pa′)
+      ∙ cell-store 4 256 (changeBytes st pa) (changeBytes st′ pa′) c j v h t refl d ∙ sym (change-places st′ pa′)
 
   -- another status
   pub status-store : (v : ℕ) → set s (c * 4) v ≡ changeSection (put st c v) pa

@@ -3,18 +3,18 @@ use mathlib.Core.Path.{_≡_, sym, _∙_}
 use mathlib.Core.Logic.{_≢_}
 use mathlib.Core.Bool.{Bool, true, false, not, _&&_}
 use mathlib.Core.List.{List}
-use Prim.Native.Nat.{ℕ, _≤_, _<_, _^_}
+use Prim.Native.Nat.{ℕ, _≤_, _<_}
 use native.Mathlib.Omega.{arith}
 use lib.Dec.{leb, eqb, leb·suc-suc}
 use lib.ListN.{length, getD, take, drop}
-use borrow.Author.Tests.{eq-eqb, ne-eqb, leb-false, ltb-true}
+use borrow.Author.Tests.{eq-eqb, ne-eqb, leb-false}
 use Rattle.rules.specs.Base.{outside}
 use Rattle.rules.specs.Window.{limits, Window, noChange, noEntry, live}
-use Rattle.rules.proofs.BaseLaws.{within-of}
-use Rattle.rules.proofs.SoundParts.{Sound, value-most, held-most, held-no-entry, numbered}
+use Rattle.rules.proofs.SoundParts.{Sound, held-no-entry, numbered}
 use Rattle.layout.specs.Codec.{headAt, headSize, figures, headSection, decode}
 use Rattle.layout.specs.Memory.{soundBytes}
-use Rattle.layout.proofs.SoundCodec.{entries-most, given-most}
+use Rattle.layout.proofs.CodecLaws.{Canonical}
+use Rattle.layout.proofs.SoundCodec.{entries-most, given-most, sound-canonical}
 use Rattle.layout.proofs.MemoryLaws.{bytes-sound, head-known}
 use Rattle.locks.specs.Held.{Modes, NoneFrom}
 
@@ -27,11 +27,18 @@ module _ (W : Window) (k : Sound limits W) where
   unfolding noEntry
   entry-fits e h = omega (arith, leb-false (W .entries) e h, entries-most W k)
 
+-- r is figure k, whatever figures the header's bytes have, where it fits
+abbrev FigureRead : List ℕ → ℕ → ℕ → Type 0
+FigureRead bs k r = (fs : List ℕ) → take headSize (drop headAt bs) ≡ headSection fs → getD fs k 0 < 65536 → r ≡ getD fs k 0
+
 -- the window of sound bytes
 module _ (bs : List ℕ) (s : soundBytes bs ≡ true) where
+  known : Canonical (decode bs)
+  known = sound-canonical (decode bs) (bytes-sound bs s)
+
   pub modes-known : Modes (decode bs .held)
   unfolding Modes
-  modes-known = held-most (decode bs) (bytes-sound bs s .helds)
+  modes-known = known .held-most
 
   -- there is no lock on an entry that there is not
   pub none-from : (entries : ℕ) → entries ≡ decode bs .entries → NoneFrom entries (decode bs .held)
@@ -40,32 +47,28 @@ module _ (bs : List ℕ) (s : soundBytes bs ≡ true) where
 
   -- a figure that is read, and its bound
   figure-read : (k most : ℕ) → getD (figures (decode bs)) k 0 ≤ most → most < 65536
-      → (r : ℕ) → ((fs : List ℕ) → take headSize (drop headAt bs) ≡ headSection fs → getD fs k 0 < 65536 → r ≡ getD fs k 0)
-      → (r ≡ getD (figures (decode bs)) k 0) × (r ≤ most)
+      → (r : ℕ) → FigureRead bs k r → (r ≡ getD (figures (decode bs)) k 0) × (r ≤ most)
   figure-read k most h l r f = let e = f (figures (decode bs)) (head-known bs s) (omega arith) in (e, omega arith)
 
-  pub entries-read : (r : ℕ) → ((fs : List ℕ) → take headSize (drop headAt bs) ≡ headSection fs → getD fs 0 0 < 65536 → r ≡ getD fs 0 0) → (r ≡ decode bs .entries) × (r ≤ 256)
-  unfolding figures limits
-  entries-read = figure-read 0 256 (entries-most (decode bs) (bytes-sound bs s)) (omega arith)
+  pub entries-read : (r : ℕ) → FigureRead bs 0 r → (r ≡ decode bs .entries) × (r ≤ 256)
+  unfolding figures
+  entries-read = figure-read 0 256 (known .entries-most) (omega arith)
 
-  pub given-read : (r : ℕ) → ((fs : List ℕ) → take headSize (drop headAt bs) ≡ headSection fs → getD fs 1 0 < 65536 → r ≡ getD fs 1 0) → (r ≡ decode bs .given) × (r ≤ 255)
-  unfolding figures limits
-  given-read = figure-read 1 255 (given-most (decode bs) (bytes-sound bs s)) (omega arith)
+  pub given-read : (r : ℕ) → FigureRead bs 1 r → (r ≡ decode bs .given) × (r ≤ 255)
+  unfolding figures
+  given-read = figure-read 1 255 (known .given-most) (omega arith)
 
-  pub records-read : (r : ℕ) → ((fs : List ℕ) → take headSize (drop headAt bs) ≡ headSection fs → getD fs 2 0 < 65536 → r ≡ getD fs 2 0) → (r ≡ length (decode bs .log)) × (r ≤ 2048)
-  unfolding figures limits
-  records-read = figure-read 2 2048 (within-of _ 2048 (bytes-sound bs s .room-log)) (omega arith)
+  pub records-read : (r : ℕ) → FigureRead bs 2 r → (r ≡ length (decode bs .log)) × (r ≤ 2048)
+  unfolding figures
+  records-read = figure-read 2 2048 (known .log-most) (omega arith)
 
-  pub permits-read : (r : ℕ) → ((fs : List ℕ) → take headSize (drop headAt bs) ≡ headSection fs → getD fs 3 0 < 65536 → r ≡ getD fs 3 0) → (r ≡ length (decode bs .permits)) × (r ≤ 1024)
-  unfolding figures limits
-  permits-read = figure-read 3 1024 (within-of _ 1024 (bytes-sound bs s .room-permits)) (omega arith)
+  pub permits-read : (r : ℕ) → FigureRead bs 3 r → (r ≡ length (decode bs .permits)) × (r ≤ 1024)
+  unfolding figures
+  permits-read = figure-read 3 1024 (known .permits-most) (omega arith)
 
-  pub ties-read : (r : ℕ) → ((fs : List ℕ) → take headSize (drop headAt bs) ≡ headSection fs → getD fs 4 0 < 65536 → r ≡ getD fs 4 0) → (r ≡ length (decode bs .ties)) × (r ≤ 512)
-  unfolding figures limits
-  ties-read = figure-read 4 512 (within-of _ 512 (bytes-sound bs s .room-ties)) (omega arith)
-
-  pub value-fits : (e : ℕ) → decode bs .value e < 2 ^ 32
-  value-fits e = ltb-true _ (2 ^ 32) (value-most limits (decode bs) (bytes-sound bs s) e)
+  pub ties-read : (r : ℕ) → FigureRead bs 4 r → (r ≡ length (decode bs .ties)) × (r ≤ 512)
+  unfolding figures
+  ties-read = figure-read 4 512 (known .ties-most) (omega arith)
 
 -- a number x that is read, against another
 module _ {x y : ℕ} (e : x ≡ y) (n : ℕ) where

@@ -1,8 +1,8 @@
--- What is known of write, permit and depend that are not refused: each argument but write's value fits a byte, and there is room; and of where a part ends. Assumes nothing.
+-- What is known of write, permit and depend that are not refused: each argument but write's value fits a byte, and there is room. Assumes nothing.
 use mathlib.Core.Path.{_≡_, ap}
 use mathlib.Core.Bool.{true, false, not}
 use mathlib.Core.List.{List}
-use Prim.Native.Nat.{ℕ, suc, _≤_, _<_}
+use Prim.Native.Nat.{ℕ, suc, _<_}
 use native.Mathlib.Omega.{arith}
 use lib.ListN.{length}
 use borrow.Author.Tests.{ltb-false}
@@ -14,16 +14,12 @@ use Rattle.rules.specs.Calls.{Write, Permit, Depend}
 use Rattle.rules.specs.Refusals.{_if_, checks, firstFailed}
 use Rattle.rules.proofs.BaseLaws.{within-of}
 use Rattle.rules.proofs.SoundParts.{inside-of}
-use Rattle.layout.specs.Codec.{windowSize, decode}
+use Rattle.layout.specs.Codec.{decode}
 use Rattle.layout.specs.Memory.{soundBytes}
 use Rattle.layout.proofs.SoundCodec.{given-most}
 use Rattle.layout.proofs.MemoryLaws.{bytes-sound}
 use Rattle.replies.proofs.GiveLaws.{unrefused}
 use Rattle.reads.proofs.ReadLaws.{change-fits, entry-fits}
-
--- a part that ends within a window ends within bytes of a window's length
-pub ends-within : {n m : ℕ} → n ≤ windowSize → m ≡ windowSize → n ≤ m
-ends-within h e = rw e h
 
 module _ (bs : List ℕ) (s : soundBytes bs ≡ true) where
   pub write-known : (c e v : ℕ) → firstFailed (checks limits (decode bs) (Write c e v)) ≡ 0 → (c < 256) × (e < 256) × (length (decode bs .log) < 2048)

@@ -8,7 +8,7 @@ use Rattle.rules.specs.Base.{put, exceeds, rising}
 use Rattle.rules.specs.Window.{limits, LogRecord, PermitRecord, TieRecord, Window, withValue, withLog, withPermits, withTies, permitKey, tieKey}
 use Rattle.rules.specs.Locks.{makePermit, addPermit}
 use Rattle.rules.specs.Ties.{makeTie, addTie}
-use Rattle.rules.specs.Calls.{Write, Permit, Depend}
+use Rattle.rules.specs.Calls.{Write}
 use Rattle.rules.specs.Effects.{effect, writeEntry, addRecord}
 use Rattle.layout.specs.Codec.{valuesAt, valuesSize, permitsAt, permitsSize, tiesAt, tiesSize, logAt, logSize, valueSection, permitSection, tieSection, logSection, decode, encode}
 use Rattle.layout.specs.Memory.{soundBytes}
@@ -48,18 +48,9 @@ module _ (bs : List ℕ) (s : soundBytes bs ≡ true) where
   unfolding unlessOver
   tie-entered k l f m n room u o1 o2 g = ties-back (decode bs) (sym (bytes-again bs s)) (λ q. rw room at (g (decode bs .ties) (sym u) q (bytes-sound bs s .tie-order)))
 
--- each call, from the bytes of the window with its record entered
-module _ (W : Window) (r : Reply) {bs : List ℕ} where
-  pub write-given : (c e v before : ℕ) → before ≡ W .value e → bs ≡ encode (withRecord W c e before) → (out : List ℕ)
-      → ((x : ℕ → ℕ) → take valuesSize (drop valuesAt bs) ≡ valueSection x → out ≡ valueSection (put x e v))
-      → (r .answer ≡ 0) × (r .number ≡ 0) → Gives (written (effect W (Write c e v))) r (laidAt bs valuesAt valuesSize out)
-  unfolding effect withLog withValue writeEntry
-  write-given c e v before q b out g a = given-done 0 (writeEntry W c e v) r _ a (values-back (withRecord W c e before) b _ (g (W .value)) ∙ rw q refl)
-
-  pub permit-given : (g t e o : ℕ) → bs ≡ encode (withPermits W (addPermit (makePermit g t e o) (W .permits))) → (r .answer ≡ 0) × (r .number ≡ 0) → Gives (written (effect W (Permit g t e o))) r bs
-  unfolding effect
-  permit-given g t e o b a = given-done 0 _ r bs a b
-
-  pub depend-given : (k l f : ℕ) → bs ≡ encode (withTies W (addTie (makeTie k l f) (W .ties))) → (r .answer ≡ 0) × (r .number ≡ 0) → Gives (written (effect W (Depend k l f))) r bs
-  unfolding effect
-  depend-given k l f b a = given-done 0 _ r bs a b
+-- a write, from the bytes of the window with its record entered
+pub write-given : (W : Window) (r : Reply) {bs : List ℕ} (c e v before : ℕ) → before ≡ W .value e → bs ≡ encode (withRecord W c e before) → (out : List ℕ)
+    → ((x : ℕ → ℕ) → take valuesSize (drop valuesAt bs) ≡ valueSection x → out ≡ valueSection (put x e v))
+    → (r .answer ≡ 0) × (r .number ≡ 0) → Gives (written (effect W (Write c e v))) r (laidAt bs valuesAt valuesSize out)
+unfolding effect withLog withValue writeEntry
+write-given W r c e v before q b out g a = given-done 0 (writeEntry W c e v) r _ a (values-back (withRecord W c e before) b _ (g (W .value)) ∙ rw q refl)

@@ -31,7 +31,7 @@ fn log_record(w: &mut [u8], count: usize, change: u8, entry: u8, before: u32)
     requires { ⌜ soundBytes (now w) ≡ true ⌝ }
     requires { ⌜ count ≡ length (decode (now w) .log) ⌝ }
     requires { ⌜ count < 2048 ⌝ }
-    ensures { λ r. ⌜ now (w .exit) ≡ encode (withLog (decode (now (w .entry))) (addRecord change entry before (decode (now (w .entry)) .log))) ⌝ }
+    ensures { λ _. ⌜ now (w .exit) ≡ encode (withLog (decode (now (w .entry))) (addRecord change entry before (decode (now (w .entry)) .log))) ⌝ }
 {
     log::append(&mut w[Log::AT..Window::SIZE], count, change, entry, before);
     store_figure(&mut w[Header::AT..Entries::AT], 2, (count + 1) as u16);
@@ -58,7 +58,7 @@ fn enter_permit(w: &mut [u8], before: usize, giver: u8, taker: u8, entry: u8, op
     requires { ⌜ before ≡ length (decode (now w) .permits) ⌝ }
     requires { ⌜ before ≤ 1024 ⌝ }
     requires { ⌜ exceeds (length (addPermit (makePermit giver taker entry operations) (decode (now w) .permits))) (limits .permits) ≡ false ⌝ }
-    ensures { λ r. ⌜ now (w .exit) ≡ encode (withPermits (decode (now (w .entry))) (addPermit (makePermit giver taker entry operations) (decode (now (w .entry)) .permits))) ⌝ }
+    ensures { λ _. ⌜ now (w .exit) ≡ encode (withPermits (decode (now (w .entry))) (addPermit (makePermit giver taker entry operations) (decode (now (w .entry)) .permits))) ⌝ }
 {
     let count = permits::add(
         &mut w[Permits::AT..Ties::AT],
@@ -97,7 +97,7 @@ fn enter_tie(w: &mut [u8], before: usize, kind: u8, leader: u8, follower: u8)
     requires { ⌜ before ≡ length (decode (now w) .ties) ⌝ }
     requires { ⌜ before ≤ 512 ⌝ }
     requires { ⌜ exceeds (length (addTie (makeTie kind leader follower) (decode (now w) .ties))) (limits .ties) ≡ false ⌝ }
-    ensures { λ r. ⌜ now (w .exit) ≡ encode (withTies (decode (now (w .entry))) (addTie (makeTie kind leader follower) (decode (now (w .entry)) .ties))) ⌝ }
+    ensures { λ _. ⌜ now (w .exit) ≡ encode (withTies (decode (now (w .entry))) (addTie (makeTie kind leader follower) (decode (now (w .entry)) .ties))) ⌝ }
 {
     let count = ties::add(&mut w[Ties::AT..Log::AT], before, kind, leader, follower);
     store_figure(&mut w[Header::AT..Entries::AT], 4, count as u16);

@@ -8,12 +8,14 @@ use reads::no_change;
 use reads::no_entry;
 use reads::outside;
 ghost use mathlib.Core.Path.{_≡_};
-ghost use mathlib.Core.Bool.{true};
+ghost use mathlib.Core.Bool.{true, not};
+ghost use mathlib.Core.List.{[], _∷_};
 ghost use Prim.Native.Nat.{ℕ};
+ghost use lib.Dec.{eqb};
 ghost use lib.ListN.{length, take};
-ghost use Rattle.rules.specs.Window.{limits};
+ghost use Rattle.rules.specs.Window.{limits, noChange};
 ghost use Rattle.rules.specs.Calls.{Initiate, Begin, Complete, Lock, Read, Write, Value};
-ghost use Rattle.rules.specs.Refusals.{checks, firstFailed};
+ghost use Rattle.rules.specs.Refusals.{_if_, checks, firstFailed};
 ghost use Rattle.layout.specs.Codec.{windowSize, decode};
 ghost use Rattle.layout.specs.Memory.{soundBytes};
 ghost use Rattle.refusals.specs.Shared.{ChangeRefusal};
@@ -61,19 +63,28 @@ pub fn initiate(w: &[u8], parent: u32) -> u32
     0
 }
 
+// The checks of begin and complete: there is the change, and its status is s.
+fn in_status(w: &[u8], change: u32, s: u8) -> u32
+    requires { ⌜ length (now w) ≡ windowSize ⌝ }
+    requires { ⌜ soundBytes (now w) ≡ true ⌝ }
+    ensures { λ r. ⌜ r ≡ firstFailed (3 if noChange (decode (now (w .entry))) change ∷ 7 if not (eqb (decode (now (w .entry)) .status change) s) ∷ []) ⌝ }
+{
+    if no_change(w, change) {
+        return 3;
+    }
+    if reads::status(w, change) != s {
+        return 7;
+    }
+    0
+}
+
 // Begin.
 pub fn begin(w: &[u8], change: u32) -> u32
     requires { ⌜ length (now w) ≡ windowSize ⌝ }
     requires { ⌜ soundBytes (now w) ≡ true ⌝ }
     ensures { λ r. ⌜ r ≡ firstFailed (checks limits (decode (now (w .entry))) (Begin change)) ⌝ }
 {
-    if no_change(w, change) {
-        return 3;
-    }
-    if reads::status(w, change) != 1 {
-        return 7;
-    }
-    0
+    in_status(w, change, 1)
 }
 
 // Complete.
@@ -82,13 +93,7 @@ pub fn complete(w: &[u8], change: u32) -> u32
     requires { ⌜ soundBytes (now w) ≡ true ⌝ }
     ensures { λ r. ⌜ r ≡ firstFailed (checks limits (decode (now (w .entry))) (Complete change)) ⌝ }
 {
-    if no_change(w, change) {
-        return 3;
-    }
-    if reads::status(w, change) != 2 {
-        return 7;
-    }
-    0
+    in_status(w, change, 2)
 }
 
 // Lock.

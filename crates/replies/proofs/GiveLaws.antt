@@ -49,9 +49,9 @@ unrefused W call = passed (checks limits W call) (codes limits W call)
 
 -- and the step is the effect
 pub let-through : (W : Window) (call : Call) (code : ℕ) {r : Reply} {after : List ℕ} → code ≡ firstFailed (checks limits W call) → code ≡ 0
-    → (firstFailed (checks limits W call) ≡ 0 → Gives (written (effect W call)) r after) → Gives (written (step limits W call)) r after
+    → Gives (written (effect W call)) r after → Gives (written (step limits W call)) r after
 unfolding step settle
-let-through W call code {r} {after} e z f = let q = sym e ∙ z in rw q (f q)
+let-through W call code e z g = let q = sym e ∙ z in rw q g
 
 -- ON LENT MEMORY
 -- handed back as it was

@@ -12,7 +12,7 @@ use Rattle.layout.proofs.SectionLaws.{Bytes}
 use Rattle.rules.proofs.TurnLaws.{none-yet, turn-failed, turn-passed}
 use Rattle.rows.specs.Rows.{rank, rowAt}
 use Rattle.rows.proofs.OrderLaws.{small-at}
-use Rattle.row_sections.specs.Rows.{inOrder}
+use Rattle.row_sections.specs.Fits.{inOrder}
 
 -- the rank of a row of bytes is of three bytes
 pub rank-small : (bs : List ℕ) → Bytes bs → (j : ℕ) → rank (rowAt bs j) < 16777216

@@ -1,6 +1,6 @@
 -- The permits and the ties: sound records in rising order, and zeros. Assumes nothing.
 use mathlib.Core.Path.{_≡_, refl, sym, _∙_, ap}
-use mathlib.Core.Logic.{⊎-elim, _≢_}
+use mathlib.Core.Logic.{_↔_, ⊎-elim, _≢_}
 use mathlib.Core.Bool.{Bool, true, _&&_}
 use mathlib.Core.List.{List}
 use Prim.Native.Nat.{ℕ, zero, suc, _+_, _-_, _*_, _≤_, _<_}
@@ -9,7 +9,7 @@ use native.Mathlib.Omega.{arith}
 use lib.Dec.{eqb}
 use lib.ListN.{getD, length, replicate}
 use borrow.Author.Tests.{ltb-true, lt-ltb, eqb-true}
-use Rattle.rules.specs.Base.{Key, allBelow, all, rising, table}
+use Rattle.rules.specs.Base.{Key, all, rising, table}
 use Rattle.rules.specs.Sets.{Set}
 use Rattle.rules.specs.Window.{PermitRecord, TieRecord, permitKey, tieKey}
 use Rattle.rules.specs.Sound.{permitSound, tieSound}
@@ -20,11 +20,10 @@ use Rattle.layout.specs.Codec.{noPermit, noTie, permitBytes, tieBytes, permitBy
 use Rattle.layout.specs.Records.{tieAt, permitAt}
 use Rattle.layout.proofs.RecordLaws.{placed, placeByte, place-at, places-again, places-rest, first-byte, tie-again, permit-again}
 use Rattle.layout.proofs.SectionLaws.{Bytes, length-table}
-use Rattle.cells.specs.Part.{byteIs}
-use Rattle.cells.proofs.ZeroLaws.{zeros-at, zeros-all}
+use Rattle.cells.proofs.ZeroLaws.{zeros-at, zeros-all, Tested}
 use Rattle.rows.specs.Rows.{rowKey, rank, rowAt}
 use Rattle.rows.proofs.OrderLaws.{small-at, rank-before, before-rank}
-use Rattle.row_sections.specs.Rows.{inOrder, permitFits, tieFits}
+use Rattle.row_sections.specs.Fits.{inOrder, permitFits, tieFits}
 use Rattle.row_sections.specs.Sections.{PermitsSound, TiesSound}
 
 -- a row above the one before it, by ranks
@@ -44,7 +43,7 @@ unfolding rowKey rowAt
 key-place bs j = ap (λ (at : ℕ). record { k1 = getD bs at 0; k2 = getD bs (at + 1) 0; k3 = getD bs (at + 2) 0 }) (mul-comm j 4)
 
 -- records of four bytes: how one is read, and its key
-pub record Rows (A : Type 0) : Type 1 where
+record Rows (A : Type 0) : Type 1 where
   pub bytes : A → List ℕ
   pub none : A
   pub key : A → Key
@@ -58,31 +57,31 @@ module _ {A : Type 0} (R : Rows A) (p : A → Bool) (most : ℕ) (bs : List ℕ)
   section l = table (most * 4) 0 (placeByte 4 (R .bytes) (R .none) l)
 
   -- what is asked of the bytes of place j
-  pub record Turn (j : ℕ) : Type 0 where
+  record Turn (j : ℕ) : Type 0 where
     pub fine : p (R .read bs j) ≡ true
     pub whole : (k : ℕ) → k < 4 → getD (R .bytes (R .read bs j)) k 0 ≡ getD bs (j * 4 + k) 0
     pub order : inOrder bs j ≡ true
 
   -- the records that stand, in order, and zeros
-  pub record Stands : Type 0 where
+  record Stands : Type 0 where
     pub rows : List A
     pub count : length rows ≡ n
     pub is : bs ≡ section rows
     pub fine : all p rows ≡ true
     pub order : rising (R .key) rows ≡ true
 
-  pub stands : ((j : ℕ) → j < n → Turn j) → ((i : ℕ) → n * 4 ≤ i → i < most * 4 → getD bs i 0 ≡ 0) → Stands
+  stands : ((j : ℕ) → j < n → Turn j) → ((i : ℕ) → n * 4 ≤ i → i < most * 4 → getD bs i 0 ≡ 0) → Stands
   stands t z = record {
     rows = table n 0 (R .read bs);
     count = length-table n 0 (R .read bs);
     is = places-again 4 (omega arith) (R .bytes) (R .none) most (R .blank) n bs (R .read bs) size (λ j k h l. t j h .whole k l) z;
-    fine = all-table p (R .read bs) n 0 (λ j h l. t j (omega arith) .fine);
+    fine = all-table p (R .read bs) n 0 (λ j l. t j (omega arith) .fine);
     order = rising-table (R .key) (R .read bs) n 0
-        (λ j h l. rw (R .keyed bs j, R .keyed bs (suc j)) (before-rank (rowAt bs j) (rowAt bs (suc j)) (small-at bs b j) (small-at bs b (suc j)) (in-order-at bs j (t (suc j) (omega arith) .order))));
+        (λ j l. rw (R .keyed bs j, R .keyed bs (suc j)) (before-rank (rowAt bs j) (rowAt bs (suc j)) (small-at bs b j) (small-at bs b (suc j)) (in-order-at bs j (t (suc j) (omega arith) .order))));
   }
 
   module _ (s : Stands) where
-    pub byte-at : (j k : ℕ) → j < most → k < 4 → getD bs (j * 4 + k) 0 ≡ getD (R .bytes (getD (s .rows) j (R .none))) k 0
+    byte-at : (j k : ℕ) → j < most → k < 4 → getD bs (j * 4 + k) 0 ≡ getD (R .bytes (getD (s .rows) j (R .none))) k 0
     byte-at j k h l = ap (λ x. getD x (j * 4 + k) 0) (s .is) ∙ place-at 4 (R .bytes) (R .none) most (s .rows) j k h l
 
     read-at : (j : ℕ) → j < most → R .read bs j ≡ getD (s .rows) j (R .none)
@@ -95,15 +94,23 @@ module _ {A : Type 0} (R : Rows A) (p : A → Bool) (most : ℕ) (bs : List ℕ)
     rank-less j h = rank-before (rowAt bs j) (rowAt bs (suc j)) (small-at bs b j) (small-at bs b (suc j))
         (rw (key-at j (omega arith), key-at (suc j) (omega arith)) (rising-at (R .key) (R .none) (s .rows) (s .order) j (suc j) (omega arith) (rw (s .count) h)))
 
-    pub turn : (j : ℕ) → j < n → Turn j
+    turn : (j : ℕ) → j < n → Turn j
     turn j h = record {
       fine = rw (read-at j (omega arith)) (all-at p (R .none) (s .rows) (s .fine) j (rw (s .count) h));
       whole = λ k l. ap (λ x. getD (R .bytes x) k 0) (read-at j (omega arith)) ∙ sym (byte-at j k (omega arith) l);
       order = order-at bs j (λ e. let q : suc (j - 1) ≡ j = omega arith in rw q at (rank-less (j - 1) (omega arith)));
     }
 
-    pub rest : (i : ℕ) → n * 4 ≤ i → i < most * 4 → getD bs i 0 ≡ 0
+    rest : (i : ℕ) → n * 4 ≤ i → i < most * 4 → getD bs i 0 ≡ 0
     rest = places-rest 4 (omega arith) (R .bytes) (R .none) most (R .blank) n bs (s .rows) (s .count) (s .is)
+
+  -- where the test of a place asks just that, both tests say that they stand
+  module _ (q : ℕ → Bool) (asks : (j : ℕ) → q j ≡ true → Turn j) (met : (j : ℕ) → Turn j → q j ≡ true) where
+    tested : Tested n q bs (n * 4) (most * 4) ↔ Stands
+    tested = (
+      λ t. stands (λ j h. asks j (allBelow-at n q (t .fine) j h)) (zeros-at bs (n * 4) (most * 4) (t .rest)),
+      λ s. record { fine = allBelow-intro n q (λ j h. met j (turn s j h)); rest = zeros-all bs (n * 4) (most * 4) (rest s) },
+    )
 
 -- PERMITS
 permitRows : Rows PermitRecord
@@ -134,23 +141,13 @@ module _ (bs : List ℕ) (b : Bytes bs) (size : length bs ≡ 4096) (n entries :
       go (suc (suc (suc zero))) l = unfold permitBytes permitAt in refl
       go (suc (suc (suc (suc k)))) l = absurd (omega arith)
 
-  -- both tests
-  pub record PermitTests : Type 0 where
-    pub fine : allBelow n (permitFits bs entries lives) ≡ true
-    pub rest : allBelow (4096 - n * 4) (byteIs bs (n * 4) 0) ≡ true
-
-  pub permits-of : PermitTests → PermitsSound bs n entries lives
-  unfolding permitSection permitByte placed permitRows
-  permits-of t = let s = stands permitRows (permitSound entries lives) 1024 bs b size n fits (λ j h. permit-turn j (allBelow-at n (permitFits bs entries lives) (t .fine) j h)) (zeros-at bs (n * 4) 4096 (t .rest)) in
-      record { permits = s .rows; size = s .count; bytes = s .is; fine = s .fine; order = s .order }
-
-  pub of-permits : PermitsSound bs n entries lives → PermitTests
+  pub permits-sound : Tested n (permitFits bs entries lives) bs (n * 4) 4096 ↔ PermitsSound bs n entries lives
   unfolding permitSection permitByte placed permitRows permitFits
-  of-permits s =
-      let r : Stands permitRows (permitSound entries lives) 1024 bs b size n fits = record { rows = s .permits; count = s .size; is = s .bytes; fine = s .fine; order = s .order } in record {
-        fine = allBelow-intro n _ (λ j h. let t = turn permitRows (permitSound entries lives) 1024 bs b size n fits r j h in and-both (permitSound entries lives (permitAt bs j)) _ (t .fine) (t .order));
-        rest = zeros-all bs (n * 4) 4096 (rest permitRows (permitSound entries lives) 1024 bs b size n fits r);
-      }
+  permits-sound =
+      let d = tested permitRows (permitSound entries lives) 1024 bs b size n fits (permitFits bs entries lives) permit-turn (λ j t. and-both (permitSound entries lives (permitAt bs j)) _ (t .fine) (t .order)) in (
+        λ t. let s = d .0 t in record { permits = s .rows; size = s .count; bytes = s .is; fine = s .fine; order = s .order },
+        λ s. d .1 (record { rows = s .permits; count = s .size; is = s .bytes; fine = s .fine; order = s .order }),
+      )
 
 -- TIES
 tieRows : Rows TieRecord
@@ -181,21 +178,11 @@ module _ (bs : List ℕ) (b : Bytes bs) (size : length bs ≡ 2048) (n : ℕ) (l
       go (suc (suc (suc zero))) l = unfold tieBytes in sym (eqb-true _ 0 (and-right (tieSound lives (tieAt bs j)) _ (and-left (tieSound lives (tieAt bs j) && eqb (getD bs (j * 4 + 3) 0) 0) _ h)))
       go (suc (suc (suc (suc k)))) l = absurd (omega arith)
 
-  -- both tests
-  pub record TieTests : Type 0 where
-    pub fine : allBelow n (tieFits bs lives) ≡ true
-    pub rest : allBelow (2048 - n * 4) (byteIs bs (n * 4) 0) ≡ true
-
-  pub ties-of : TieTests → TiesSound bs n lives
-  unfolding tieSection tieByte placed tieRows
-  ties-of t = let s = stands tieRows (tieSound lives) 512 bs b size n fits (λ j h. tie-turn j (allBelow-at n (tieFits bs lives) (t .fine) j h)) (zeros-at bs (n * 4) 2048 (t .rest)) in
-      record { ties = s .rows; size = s .count; bytes = s .is; fine = s .fine; order = s .order }
-
-  pub of-ties : TiesSound bs n lives → TieTests
-  unfolding tieSection tieByte placed tieRows tieFits
-  of-ties s =
-      let r : Stands tieRows (tieSound lives) 512 bs b size n fits = record { rows = s .ties; count = s .size; is = s .bytes; fine = s .fine; order = s .order } in record {
-        fine = allBelow-intro n _ (λ j h. let t = turn tieRows (tieSound lives) 512 bs b size n fits r j h in
-            and-both (tieSound lives (tieAt bs j) && eqb (getD bs (j * 4 + 3) 0) 0) _ (and-both (tieSound lives (tieAt bs j)) _ (t .fine) (rw (byte-at tieRows (tieSound lives) 512 bs b size n fits r j 3 (omega arith) (omega arith)) (unfold tieBytes in refl))) (t .order));
-        rest = zeros-all bs (n * 4) 2048 (rest tieRows (tieSound lives) 512 bs b size n fits r);
-      }
+  pub ties-sound : Tested n (tieFits bs lives) bs (n * 4) 2048 ↔ TiesSound bs n lives
+  unfolding tieSection tieByte placed tieRows tieFits tieBytes
+  ties-sound =
+      let d = tested tieRows (tieSound lives) 512 bs b size n fits (tieFits bs lives) tie-turn
+      (λ j t. and-both (tieSound lives (tieAt bs j) && eqb (getD bs (j * 4 + 3) 0) 0) _ (and-both (tieSound lives (tieAt bs j)) _ (t .fine) (rw (← t .whole 3 (omega arith)))) (t .order)) in (
+        λ t. let s = d .0 t in record { ties = s .rows; size = s .count; bytes = s .is; fine = s .fine; order = s .order },
+        λ s. d .1 (record { rows = s .ties; count = s .size; is = s .bytes; fine = s .fine; order = s .order }),
+      )

@@ -18,7 +18,7 @@ ghost use Rattle.layout.specs.Codec.{permitsSize, tiesSize};
 ghost use Rattle.layout.specs.Records.{tieOf, tieAt, permitAt};
 ghost use Rattle.words.specs.Members.{wordsHave};
 ghost use Rattle.sets.specs.Members.{members};
-ghost use Rattle.row_sections.specs.Rows.{permitFits, tieFits};
+ghost use Rattle.row_sections.specs.Fits.{permitFits, tieFits};
 ghost use Rattle.row_sections.specs.Sections.{PermitsSound, TiesSound};
 
 // A permit: giver live, taker live or 0, an entry that there is, operations from 1 to 3, two different parties. The live set is lent as its words.

@@ -39,7 +39,7 @@ unless-not most new old h = rw (over-false (length new) most h)
 -- a row more fits where there is room
 pub fits-room : (l : List ℕ) (n most : ℕ) (x : Row) → n < most → true ≡ not (exceeds (length (addRow x (rows n l))) most)
 unfolding addRow
-fits-room l n most x h = sym (ap not (over-false _ most (omega (arith, length-insert rowKey uniteRows x (rows n l), length-rows n l))))
+fits-room l n most x h = sym (ap not (over-false _ most (omega (arith, length-insert rowKey uniteRows x (rows n l) .1, length-rows n l))))
 
 -- `t` says whether a row of the key stands at its place
 module _ (l : List ℕ) (n : ℕ) (x : Row) (at : ℕ) (p : Placed l n x at) (most : ℕ) (t : Bool) (et : t ≡ standsAt l n (rank x) at) where

@@ -6,7 +6,7 @@ use mathlib.Core.List.{List, _∷_, _++_}
 use Prim.Native.Nat.{ℕ, zero, suc, _+_, _*_, _≤_, _<_, Ordering, Ordering·lt, Ordering·eq, Ordering·gt}
 use native.Mathlib.Nat.{eq-or-lt-of-le}
 use native.Mathlib.Omega.{arith}
-use Rattle.rules.specs.Base.{Key, order, byOrder, table, insert, rising}
+use Rattle.rules.specs.Base.{Key, byOrder, table, insert, rising}
 use Rattle.rules.proofs.SortLaws.{Before, by1, by2, by3, Ordered, below, equal, above, ordered, rising-at}
 use Rattle.layout.proofs.SectionLaws.{Bytes, length-table, getD-table0}
 use Rattle.rows.specs.Rows.{Row, row, rowKey, rankOf, rank, rowAt, rows, uniteRows, addRow}
@@ -35,41 +35,16 @@ unfolding rank rowKey
 rank-equal a b e = ap (λ (k : Key). rankOf (k .k1) (k .k2) (k .k3)) e
 
 module _ (a b : Row) (s : Small a) (t : Small b) where
+  -- and the ranks tell the order
+  ranked : {o : Ordering} → Ordered (rowKey a) (rowKey b) o
+      → (rank a < rank b → Before (rowKey a) (rowKey b) × (o ≡ Ordering·lt)) × (rank a ≡ rank b → o ≡ Ordering·eq) × (rank b < rank a → o ≡ Ordering·gt)
+  ranked (below c) = let h = rank-before a b s t c in (λ l. (c, refl), λ e. absurd (omega arith), λ l. absurd (omega arith))
+  ranked (equal q) = let h = rank-equal a b q in (λ l. absurd (omega arith), λ e. refl, λ l. absurd (omega arith))
+  ranked (above c) = let h = rank-before b a t s c in (λ l. absurd (omega arith), λ e. absurd (omega arith), λ l. refl)
+
   -- a lower rank is a lower key
   pub before-rank : rank a < rank b → Before (rowKey a) (rowKey b)
-  before-rank h = go (ordered (rowKey a) (rowKey b))
-    where
-      go : {o : Ordering} → Ordered (rowKey a) (rowKey b) o → Before (rowKey a) (rowKey b)
-      go (below c) = c
-      go (equal e) = absurd (omega (arith, rank-equal a b e))
-      go (above c) = absurd (omega (arith, rank-before b a t s c))
-
-  -- as the order of keys says it
-  order-lt : rank a < rank b → order (rowKey a) (rowKey b) ≡ Ordering·lt
-  order-lt h = go (ordered (rowKey a) (rowKey b))
-    where
-      go : {o : Ordering} → Ordered (rowKey a) (rowKey b) o → o ≡ Ordering·lt
-      go (below _) = refl
-      go (equal e) = absurd (omega (arith, rank-equal a b e))
-      go (above c) = absurd (omega (arith, rank-before b a t s c))
-
-  -- one rank is one key
-  order-eq : rank a ≡ rank b → order (rowKey a) (rowKey b) ≡ Ordering·eq
-  order-eq h = go (ordered (rowKey a) (rowKey b))
-    where
-      go : {o : Ordering} → Ordered (rowKey a) (rowKey b) o → o ≡ Ordering·eq
-      go (below c) = absurd (omega (arith, rank-before a b s t c))
-      go (equal _) = refl
-      go (above c) = absurd (omega (arith, rank-before b a t s c))
-
-  -- a higher rank is a higher key
-  order-gt : rank b < rank a → order (rowKey a) (rowKey b) ≡ Ordering·gt
-  order-gt h = go (ordered (rowKey a) (rowKey b))
-    where
-      go : {o : Ordering} → Ordered (rowKey a) (rowKey b) o → o ≡ Ordering·gt
-      go (below c) = absurd (omega (arith, rank-before a b s t c))
-      go (equal e) = absurd (omega (arith, rank-equal a b e))
-      go (above _) = refl
+  before-rank h = ranked (ordered (rowKey a) (rowKey b)) .0 h .0
 
 -- rows in rising order have rising ranks
 pub ranks-rise : (l : List ℕ) (n : ℕ) → Bytes l → rising rowKey (rows n l) ≡ true → (i j : ℕ) → i < j → j < n → rank (rowAt l i) < rank (rowAt l j)
@@ -94,16 +69,16 @@ module _ (f : ℕ → Row) (x : Row) (s : Small x) (t : (j : ℕ) → Small (f j
   unfolding addRow insert byOrder table
   put-behind zero i rest h = refl
   put-behind (suc k) i rest h =
-      rw (order-gt x (f i) s (t i) (h i (omega arith) (omega arith)))
+      rw (ranked x (f i) s (t i) (ordered (rowKey x) (rowKey (f i))) .2 (h i (omega arith) (omega arith)))
       (ap (λ (r : List Row). f i ∷ r) (put-behind k (suc i) rest (λ j a b. h j (omega arith) (omega arith))))
 
   -- before a higher row, or at the end
   pub put-before : (m i : ℕ) → (0 < m → rank x < rank (f i)) → addRow x (table m i f) ≡ x ∷ table m i f
   unfolding addRow insert byOrder table
   put-before zero i h = refl
-  put-before (suc m) i h = rw (order-lt x (f i) s (t i) (h (omega arith)))
+  put-before (suc m) i h = rw (ranked x (f i) s (t i) (ordered (rowKey x) (rowKey (f i))) .0 (h (omega arith)) .1)
 
   -- in place of a row of its key
   pub put-same : (m i : ℕ) → rank (f i) ≡ rank x → addRow x (table (suc m) i f) ≡ uniteRows x (f i) ∷ table m (suc i) f
   unfolding addRow insert byOrder table
-  put-same m i h = rw (order-eq x (f i) s (t i) (sym h))
+  put-same m i h = rw (ranked x (f i) s (t i) (ordered (rowKey x) (rowKey (f i))) .1 (sym h))

@@ -39,15 +39,15 @@ pub record Placed (l : List ℕ) (n : ℕ) (x : Row) (at : ℕ) : Type 0 where
   pub found : KeyPlace l n (rank x) at
 
 module _ (l : List ℕ) (n : ℕ) (x : Row) (at : ℕ) (p : Placed l n x at) where
-  -- the rows before the place are lower
-  lower : (j : ℕ) → 0 ≤ j → j < 0 + at → rank (rowAt l j) < rank x
-  lower j h k = p .found .lower j (omega arith)
+  -- the row comes behind those before its place
+  behind : addRow x (rows n l) ≡ table at 0 (rowAt l) ++ addRow x (table (n - at) at (rowAt l))
+  behind = ap (addRow x) (rows-split l n at (p .within))
+      ∙ put-behind (rowAt l) x (p .small) (small-at l (p .bytes)) at 0 (table (n - at) at (rowAt l)) (λ j h k. p .found .lower j (omega arith))
 
   -- no row has the key: the row comes between
   pub added-new : standsAt l n (rank x) at ≡ false → addRow x (rows n l) ≡ table at 0 (rowAt l) ++ (x ∷ table (n - at) at (rowAt l))
   added-new e =
-      ap (addRow x) (rows-split l n at (p .within))
-      ∙ put-behind (rowAt l) x (p .small) (small-at l (p .bytes)) at 0 (table (n - at) at (rowAt l)) lower
+      behind
       ∙ ap (λ (t : List Row). table at 0 (rowAt l) ++ t) (put-before (rowAt l) x (p .small) (small-at l (p .bytes)) (n - at) at higher)
     where
       higher : 0 < n - at → rank x < rank (rowAt l at)
@@ -62,8 +62,7 @@ module _ (l : List ℕ) (n : ℕ) (x : Row) (at : ℕ) (p : Placed l n x at) whe
   added-old e =
       let h : at < n = stands-below l n (rank x) at true (sym e) refl in
       let m : n - at ≡ suc (n - suc at) = omega arith in
-      ap (addRow x) (rows-split l n at (p .within))
-      ∙ put-behind (rowAt l) x (p .small) (small-at l (p .bytes)) at 0 (table (n - at) at (rowAt l)) lower
+      behind
       ∙ ap (λ (k : ℕ). table at 0 (rowAt l) ++ addRow x (table k at (rowAt l))) m
       ∙ ap (λ (t : List Row). table at 0 (rowAt l) ++ t) (put-same (rowAt l) x (p .small) (small-at l (p .bytes)) (n - suc at) at (stands-rank l n (rank x) at e))
 

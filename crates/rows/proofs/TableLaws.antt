@@ -2,13 +2,14 @@
 use mathlib.Core.Path.{_≡_, refl, sym, ap, ap₂, _∙_}
 use mathlib.Core.Bool.{Bool, true, false, not, cond, _&&_, _||_}
 use mathlib.Core.List.{List, [], _∷_, _++_, append-nil, map, foldr, flatMap}
-use Prim.Native.Nat.{ℕ, suc, _+_, _-_, _*_, _≤_, Ordering, Ordering·lt, Ordering·eq, Ordering·gt}
+use Prim.Native.Nat.{ℕ, _+_, _-_, _*_, _≤_, Ordering, Ordering·lt, Ordering·eq, Ordering·gt}
 use native.Mathlib.Omega.{arith}
 use lib.ListN.{length, replicate, length-map}
 use Rattle.rules.specs.Base.{Key, order, byOrder, isLt, all, any, keep, exceeds, insert, rising}
 use Rattle.rules.specs.Sets.{Set}
 use Rattle.rules.proofs.BaseLaws.{within-of}
 use Rattle.rules.proofs.ListLaws.{length-keep}
+use Rattle.rules.proofs.SortLaws.{length-insert}
 use Rattle.layout.specs.Records.{Tabled}
 use Rattle.cells.specs.Part.{patch}
 use Rattle.rows.specs.Rows.{Row, rowKey, rowBytes, rowsBytes, rows, uniteRows, addRow, unlessOver, spared, Stored, Closed}
@@ -80,22 +81,6 @@ module _ {A : Type 0} (f : A → Row) where
       added-all-map [] l = refl
       added-all-map (x ∷ xs) l = ap (addRow (f x)) (added-all-map xs l) ∙ added-map x (foldr (insert key unite) l xs)
 
--- none is lost
-pub length-least : {A : Type 0} (key : A → Key) (unite : A → A → A) (x : A) (l : List A) → length l ≤ length (insert key unite x l)
-unfolding insert byOrder
-length-least key unite x [] = omega arith
-length-least key unite x (y ∷ l) = go (order (key x) (key y)) (length-least key unite x l)
-  where
-    go : (o : Ordering) → length l ≤ length (insert key unite x l) → suc (length l) ≤ length (byOrder o (x ∷ y ∷ l) (unite x y ∷ l) (y ∷ insert key unite x l))
-    go Ordering·lt h = omega arith
-    go Ordering·eq h = omega arith
-    go Ordering·gt h = omega arith
-
--- nor when several are added
-pub length-least-all : {A : Type 0} (key : A → Key) (unite : A → A → A) (xs l : List A) → length l ≤ length (foldr (insert key unite) l xs)
-length-least-all key unite [] l = omega arith
-length-least-all key unite (x ∷ xs) l = omega (arith, length-least-all key unite xs l, length-least key unite x (foldr (insert key unite) l xs))
-
 -- a list in another's place is no shorter, where it was no shorter
 unless-least : {A : Type 0} (most : ℕ) (new old : List A) → length old ≤ length new → length old ≤ length (unlessOver most new old)
 unfolding unlessOver
@@ -136,21 +121,21 @@ module _ {A : Type 0} (f : A → Row) (key : A → Key) (section : List A → Li
   table-rising r = ap (rising rowKey) table-rows ∙ rising-map f key (t .keyed) l ∙ r
 
   -- records and zeros stored at the front of the section
-  stored-zeros : (l′ : List A) (z : ℕ) → length l′ ≤ most → n ≤ length l′ + z → length l′ + z ≤ most → patch bytes 0 (rowsBytes (map f l′) ++ replicate (4 * z) 0) ≡ section l′
-  stored-zeros l′ z h lo hi =
+  stored-zeros : (l′ : List A) (z : ℕ) → n ≤ length l′ + z → length l′ + z ≤ most → patch bytes 0 (rowsBytes (map f l′) ++ replicate (4 * z) 0) ≡ section l′
+  stored-zeros l′ z lo hi =
       let e : length (rowsBytes (map f l)) ≡ 4 * length l = length-bytes (map f l) ∙ ap (λ (k : ℕ). 4 * k) (length-map l f) in
       let e′ : length (rowsBytes (map f l′)) ≡ 4 * length l′ = length-bytes (map f l′) ∙ ap (λ (k : ℕ). 4 * k) (length-map l′ f) in
       let k : length (rowsBytes (map f l)) + (most - length l) * 4 - length (rowsBytes (map f l′)) ≡ (most - length l′) * 4 = omega arith in
       ap (λ (y : List ℕ). patch y 0 (rowsBytes (map f l′) ++ replicate (4 * z) 0)) (is ∙ t .flat l (omega arith))
       ∙ patch-zeros (rowsBytes (map f l)) (rowsBytes (map f l′)) ((most - length l) * 4) (4 * z) (omega arith) (omega arith)
       ∙ ap (λ (j : ℕ). rowsBytes (map f l′) ++ replicate j 0) k
-      ∙ sym (t .flat l′ h)
+      ∙ sym (t .flat l′ (omega arith))
 
   -- records stored over those of the table, no fewer than they were
   pub table-stored : (l′ : List A) (r : ℕ) (after : List ℕ) → n ≤ length l′ → length l′ ≤ most → Stored (map f l′) bytes r after → Tabled section l′ r after
   table-stored l′ r after lo hi s = record {
     count = s .count ∙ length-map l′ f;
-    bytes = s .bytes ∙ ap (patch bytes 0) (sym (append-nil (rowsBytes (map f l′)))) ∙ stored-zeros l′ 0 hi (omega arith) (omega arith);
+    bytes = s .bytes ∙ ap (patch bytes 0) (sym (append-nil (rowsBytes (map f l′)))) ∙ stored-zeros l′ 0 (omega arith) (omega arith);
   }
 
   -- those that pass, closed up
@@ -162,7 +147,7 @@ module _ {A : Type 0} (f : A → Row) (key : A → Key) (section : List A → Li
       let z : 4 * n - 4 * r ≡ 4 * (n - length (keep p l)) = omega arith in
       record {
         count = count;
-        bytes = c .bytes ∙ ap₂ (λ (rs : List Row) (k : ℕ). patch bytes 0 (rowsBytes rs ++ replicate k 0)) kept z ∙ stored-zeros (keep p l) (n - length (keep p l)) (omega arith) (omega arith) (omega arith);
+        bytes = c .bytes ∙ ap₂ (λ (rs : List Row) (k : ℕ). patch bytes 0 (rowsBytes rs ++ replicate k 0)) kept z ∙ stored-zeros (keep p l) (n - length (keep p l)) (omega arith) (omega arith);
       }
 
   -- one that passes
@@ -182,7 +167,7 @@ module _ {A : Type 0} (f : A → Row) (key : A → Key) (section : List A → Li
     pub table-added : (r : ℕ) (after : List ℕ) → Stored (unlessOver most (addRow (f x) (rows n bytes)) (rows n bytes)) bytes r after → Tabled section (unlessOver most (insert key unite x l) l) r after
     table-added r after s =
         let e : unlessOver most (addRow (f x) (rows n bytes)) (rows n bytes) ≡ map f (unlessOver most (insert key unite x l) l) = ap₂ (unlessOver most) added table-rows ∙ unless-map f most (insert key unite x l) l in
-        table-stored (unlessOver most (insert key unite x l) l) r after (omega (arith, unless-least most (insert key unite x l) l (length-least key unite x l))) (unless-most most (insert key unite x l) l (omega arith)) (rw e at s)
+        table-stored (unlessOver most (insert key unite x l) l) r after (omega (arith, unless-least most (insert key unite x l) l (length-insert key unite x l .0))) (unless-most most (insert key unite x l) l (omega arith)) (rw e at s)
 
 -- what a set of changes leaves when it ends, where a record is left just where its row is spared
 pub table-left : {A : Type 0} (f : A → Row) (key : A → Key) (section : List A → List ℕ) (most : ℕ) → TableOf f key section most → (p : Set → A → Bool) → ((s : Set) (x : A) → spared s (f x) ≡ p s x)

@@ -29,7 +29,7 @@ pub fn key_at(s: &[u8], i: usize) -> u32
     key(s[at], s[at + 1], s[at + 2])
 }
 
-// The place of a key among the first n rows, where they are in order.
+// The place of a key among the first n rows, where they are in order (a binary search).
 pub fn find(s: &[u8], n: usize, a: u8, b: u8, c: u8) -> usize
     requires { ⌜ 4 * n ≤ length (now s) ⌝ }
     ensures { λ r. ⌜ r ≤ n ⌝ }
@@ -136,15 +136,11 @@ fn move_row(s: &mut [u8], i: usize, j: usize)
     ensures { λ _. ⌜ now (s .exit) ≡ patch (now (s .entry)) (4 * j) (part (now (s .entry)) (4 * i) 4) ⌝ }
 {
     let from = 4 * i;
-    let to = 4 * j;
     let a = s[from];
     let b = s[from + 1];
     let c = s[from + 2];
     let d = s[from + 3];
-    s[to] = a;
-    s[to + 1] = b;
-    s[to + 2] = c;
-    s[to + 3] = d;
+    write_row(s, 4 * j, a, b, c, d);
 }
 
 // The row at i, where it stays, is brought to j; what comes back is where the next one goes.

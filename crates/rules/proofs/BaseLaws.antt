@@ -1,7 +1,7 @@
 -- Laws of tests, bounded quantifiers, largest figures and functions changed at a place. Assumes nothing.
 use mathlib.Core.Path.{_≡_, refl, sym, _∙_, ap}
 use mathlib.Core.Logic.{_⊎_, inl, inr, ⊎-elim, _≢_}
-use mathlib.Core.Bool.{Bool, true, false, not, cond, _&&_, _||_, false≢true}
+use mathlib.Core.Bool.{Bool, true, false, not, cond, _&&_, _||_, false≢true, and-eq-true-iff, not-eq-not}
 use Prim.Native.Nat.{ℕ, zero, suc, _≤_, _<_, zero-le}
 use native.Mathlib.Nat.{eq-or-lt-of-le, le-of-suc-le-suc, not-suc-le-zero}
 use native.Mathlib.Omega.{arith}
@@ -21,15 +21,13 @@ or-cases true b e = inl refl
 or-cases false b e = inr e
 
 pub and-both : (a b : Bool) → a ≡ true → b ≡ true → a && b ≡ true
-and-both a b p q = rw (p, q)
+and-both a b p q = and-eq-true-iff a b .1 (p, q)
 
 pub and-left : (a b : Bool) → a && b ≡ true → a ≡ true
-and-left true b e = refl
-and-left false b e = e
+and-left a b e = and-eq-true-iff a b .0 e .0
 
 pub and-right : (a b : Bool) → a && b ≡ true → b ≡ true
-and-right true b e = e
-and-right false b e = absurd (false≢true e)
+and-right a b e = and-eq-true-iff a b .0 e .1
 
 -- each side taken on
 pub or-map : (a b c d : Bool) → (a ≡ true → c ≡ true) → (b ≡ true → d ≡ true) → a || b ≡ true → c || d ≡ true
@@ -56,8 +54,7 @@ or-none true b e = absurd (false≢true (sym e))
 or-none false b e = (refl, e)
 
 pub no-true : (b : Bool) → (b ≡ true → ⊥) → b ≡ false
-no-true true f = absurd (f refl)
-no-true false f = refl
+no-true b = not-eq-not {a = b} {b = false} .0
 
 pub both-ways : (a b : Bool) → (a ≡ true → b ≡ true) → (b ≡ true → a ≡ true) → a ≡ b
 both-ways true true f g = refl

@@ -30,13 +30,13 @@ module _ (f g : ℕ → Bool) where
   lowest-ext zero h = refl
   lowest-ext (suc n) h = rw (any-ext n (λ k l. h k (omega arith)), lowest-ext n (λ k l. h k (omega arith)), h n (omega arith))
 
--- one of two tests, and a test that does not depend on the number
 or-swap : (a b c d : Bool) → (a || b) || (c || d) ≡ (a || c) || (b || d)
 or-swap true b c d = refl
 or-swap false true true d = refl
 or-swap false true false d = refl
 or-swap false false c d = refl
 
+-- one of two tests, and a test that does not depend on the number
 pub any-or : (n : ℕ) (p q : ℕ → Bool) → anyBelow n (λ k. p k || q k) ≡ anyBelow n p || anyBelow n q
 unfolding anyBelow
 any-or zero p q = refl
@@ -129,6 +129,7 @@ module _ (p : ℕ → Bool) where
           go (under h) = h
           go (over h) = absurd (false≢true (sym (past k h l) ∙ e))
 
+  -- nor, for the lowest that passes, one above it
   pub lowest-bound : (n m : ℕ) → n ≤ m → anyBelow n p ≡ true → lowestBelow m p ≡ lowestBelow n p
   lowest-bound n m le e = let h = lowest-hit n e in lowest-is m (lowestBelow n p) (omega (arith, h .0)) (λ l. h .1) (lowest-below n)
 

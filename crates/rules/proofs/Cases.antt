@@ -1,4 +1,4 @@
--- The starred calls to try, each as one list, for tables of any size that have room for them. By computation. Assumes nothing.
+-- The starred calls to try and some beside them, each as one list, for tables of any size that have room for them. By computation. Assumes nothing.
 -- `SizeLaws` has those in which a largest figure plays a part.
 use mathlib.Core.Path.{_≡_, refl}
 use mathlib.Core.List.{List, [], _∷_}
@@ -14,8 +14,8 @@ abbrev pub room : ℕ → ℕ → ℕ → ℕ → ℕ → Limits
 room e c r p t = record { entries = suc (suc e); changes = suc (suc (suc c)); records = suc (suc r); permits = suc (suc p); ties = suc (suc t) }
 
 -- after open 2, whatever the sizes, these calls have these answers and second numbers
-abbrev pub Gives : List Call → List (ℕ × ℕ) → Type 0
-Gives l a = (e c r p t : ℕ) → answers (step (room e c r p t)) (fresh 0) (Open 2 ∷ l) ≡ (0, 0) ∷ a
+abbrev pub Answered : List Call → List (ℕ × ℕ) → Type 0
+Answered l a = (e c r p t : ℕ) → answers (step (room e c r p t)) (fresh 0) (Open 2 ∷ l) ≡ (0, 0) ∷ a
 
 -- "Changes 1 and 2 run"
 abbrev pub two : List Call → List Call
@@ -25,85 +25,85 @@ abbrev pub begun : List (ℕ × ℕ) → List (ℕ × ℕ)
 begun l = (0, 1) ∷ (0, 2) ∷ (0, 0) ∷ (0, 0) ∷ l
 
 -- "The whole case above"
-pub whole-case : Gives (Initiate 0 ∷ Initiate 0 ∷ Begin 1 ∷ Lock 1 0 2 ∷ Write 1 0 7 ∷ Depend 3 1 2 ∷ Abort 2 ∷ Value 0 ∷ [])
+pub whole-case : Answered (Initiate 0 ∷ Initiate 0 ∷ Begin 1 ∷ Lock 1 0 2 ∷ Write 1 0 7 ∷ Depend 3 1 2 ∷ Abort 2 ∷ Value 0 ∷ [])
     ((0, 1) ∷ (0, 2) ∷ (0, 0) ∷ (0, 0) ∷ (0, 0) ∷ (0, 0) ∷ (0, 2) ∷ (0, 0) ∷ [])
 unfolding rules
 whole-case e c r p t = refl
 
 -- "Change 1 writes 7 then 9 to entry 0 and is aborted: value 0"
-pub undone : Gives (two (Lock 1 0 2 ∷ Write 1 0 7 ∷ Write 1 0 9 ∷ Abort 1 ∷ Value 0 ∷ []))
+pub undone : Answered (two (Lock 1 0 2 ∷ Write 1 0 7 ∷ Write 1 0 9 ∷ Abort 1 ∷ Value 0 ∷ []))
     (begun ((0, 0) ∷ (0, 0) ∷ (0, 0) ∷ (0, 1) ∷ (0, 0) ∷ []))
 unfolding rules
 undone e c r p t = refl
 
 -- "1 holds write, 2 wants read: 20; after permit (1, 2, entry, 1): 0; write still 20"
-pub permit-to-read : Gives (two (Lock 1 0 2 ∷ Lock 2 0 1 ∷ Permit 1 2 0 1 ∷ Lock 2 0 1 ∷ Lock 2 0 2 ∷ []))
+pub permit-to-read : Answered (two (Lock 1 0 2 ∷ Lock 2 0 1 ∷ Permit 1 2 0 1 ∷ Lock 2 0 1 ∷ Lock 2 0 2 ∷ []))
     (begun ((0, 0) ∷ (20, 0) ∷ (0, 0) ∷ (0, 0) ∷ (20, 0) ∷ []))
 unfolding rules
 permit-to-read e c r p t = refl
 
 -- "Wait tie led by 1 with follower 2, then the reverse: 9. So is a group tie of the two", named either way
-pub reverse-tie : Gives (two (Depend 1 1 2 ∷ Depend 1 2 1 ∷ Depend 3 1 2 ∷ Depend 3 2 1 ∷ []))
+pub reverse-tie : Answered (two (Depend 1 1 2 ∷ Depend 1 2 1 ∷ Depend 3 1 2 ∷ Depend 3 2 1 ∷ []))
     (begun ((0, 0) ∷ (9, 0) ∷ (9, 0) ∷ (9, 0) ∷ []))
 unfolding rules
 reverse-tie e c r p t = refl
 
 -- "2 completed, fall tie led by 1: commit 2 gives 20 with 1"
-pub led : Gives (two (Complete 2 ∷ Depend 2 1 2 ∷ Commit 2 ∷ []))
+pub led : Answered (two (Complete 2 ∷ Depend 2 1 2 ∷ Commit 2 ∷ []))
     (begun ((0, 0) ∷ (0, 0) ∷ (20, 1) ∷ []))
 unfolding rules
 led e c r p t = refl
 
 -- "1 writes 7 and delegates all to 2; abort 1: value 7; abort 2: value 0"
-pub delegated : Gives (two (Lock 1 0 2 ∷ Write 1 0 7 ∷ Delegate 1 2 65535 ∷ Abort 1 ∷ Value 0 ∷ Abort 2 ∷ Value 0 ∷ []))
+pub delegated : Answered (two (Lock 1 0 2 ∷ Write 1 0 7 ∷ Delegate 1 2 65535 ∷ Abort 1 ∷ Value 0 ∷ Abort 2 ∷ Value 0 ∷ []))
     (begun ((0, 0) ∷ (0, 0) ∷ (0, 0) ∷ (0, 1) ∷ (0, 7) ∷ (0, 1) ∷ (0, 0) ∷ []))
 unfolding rules
 delegated e c r p t = refl
 
 -- "1 writes 7, permits 2 to write, 2 locks and writes 9; abort 1: value 0; abort 2: value 7"
-pub two-writers : Gives (two (Lock 1 0 2 ∷ Write 1 0 7 ∷ Permit 1 2 0 2 ∷ Lock 2 0 2 ∷ Write 2 0 9 ∷ Abort 1 ∷ Value 0 ∷ Abort 2 ∷ Value 0 ∷ []))
+pub two-writers : Answered (two (Lock 1 0 2 ∷ Write 1 0 7 ∷ Permit 1 2 0 2 ∷ Lock 2 0 2 ∷ Write 2 0 9 ∷ Abort 1 ∷ Value 0 ∷ Abort 2 ∷ Value 0 ∷ []))
     (begun ((0, 0) ∷ (0, 0) ∷ (0, 0) ∷ (0, 0) ∷ (0, 0) ∷ (0, 1) ∷ (0, 0) ∷ (0, 1) ∷ (0, 7) ∷ []))
 unfolding rules
 two-writers e c r p t = refl
 
 -- "1 holds write, permits 2 to read, 2 locks to read, 3 is initiated; delegate 2 to 3 of that entry gets 10"
-pub unpermitted : Gives (two (Lock 1 0 2 ∷ Permit 1 2 0 1 ∷ Lock 2 0 1 ∷ Initiate 0 ∷ Delegate 2 3 0 ∷ []))
+pub unpermitted : Answered (two (Lock 1 0 2 ∷ Permit 1 2 0 1 ∷ Lock 2 0 1 ∷ Initiate 0 ∷ Delegate 2 3 0 ∷ []))
     (begun ((0, 0) ∷ (0, 0) ∷ (0, 0) ∷ (0, 3) ∷ (10, 0) ∷ []))
 unfolding rules
 unpermitted e c r p t = refl
 
 -- BESIDE THE STARRED ONES
 -- a group is more than direct partners, either way and in any number of steps, and commits as one
-pub whole-group : Gives (two (Initiate 0 ∷ Begin 3 ∷ Depend 3 1 2 ∷ Depend 3 3 2 ∷ Complete 1 ∷ Complete 2 ∷ Commit 1 ∷ Complete 3 ∷ Commit 1 ∷ Status 1 ∷ Status 2 ∷ Status 3 ∷ []))
+pub whole-group : Answered (two (Initiate 0 ∷ Begin 3 ∷ Depend 3 1 2 ∷ Depend 3 3 2 ∷ Complete 1 ∷ Complete 2 ∷ Commit 1 ∷ Complete 3 ∷ Commit 1 ∷ Status 1 ∷ Status 2 ∷ Status 3 ∷ []))
     (begun ((0, 3) ∷ (0, 0) ∷ (0, 0) ∷ (0, 0) ∷ (0, 0) ∷ (0, 0) ∷ (20, 3) ∷ (0, 0) ∷ (0, 3) ∷ (0, 4) ∷ (0, 4) ∷ (0, 4) ∷ []))
 unfolding rules
 whole-group e c r p t = refl
 
 -- a follower waits for a leader that is merely completed
-pub leader-completed : Gives (two (Complete 1 ∷ Complete 2 ∷ Depend 2 1 2 ∷ Commit 2 ∷ Commit 1 ∷ Commit 2 ∷ []))
+pub leader-completed : Answered (two (Complete 1 ∷ Complete 2 ∷ Depend 2 1 2 ∷ Commit 2 ∷ Commit 1 ∷ Commit 2 ∷ []))
     (begun ((0, 0) ∷ (0, 0) ∷ (0, 0) ∷ (20, 1) ∷ (0, 1) ∷ (0, 1) ∷ []))
 unfolding rules
 leader-completed e c r p t = refl
 
 -- a fall follower falls with its leader, a wait follower does not; the ended answer 0 with 0, or 21
-pub fallen : Gives (two (Initiate 0 ∷ Depend 2 1 2 ∷ Depend 1 1 3 ∷ Abort 1 ∷ Status 2 ∷ Status 3 ∷ Abort 2 ∷ Commit 2 ∷ []))
+pub fallen : Answered (two (Initiate 0 ∷ Depend 2 1 2 ∷ Depend 1 1 3 ∷ Abort 1 ∷ Status 2 ∷ Status 3 ∷ Abort 2 ∷ Commit 2 ∷ []))
     (begun ((0, 3) ∷ (0, 0) ∷ (0, 0) ∷ (0, 2) ∷ (0, 5) ∷ (0, 1) ∷ (0, 0) ∷ (21, 0) ∷ []))
 unfolding rules
 fallen e c r p t = refl
 
 -- a hand-over, a tie and the first entry together: the withdrawal gives entry 0 its old value back
-pub tied-and-delegated : Gives (two (Lock 1 0 2 ∷ Write 1 0 7 ∷ Lock 1 1 2 ∷ Write 1 1 8 ∷ Delegate 1 2 0 ∷ Depend 3 1 2 ∷ Abort 1 ∷ Value 0 ∷ Value 1 ∷ []))
+pub tied-and-delegated : Answered (two (Lock 1 0 2 ∷ Write 1 0 7 ∷ Lock 1 1 2 ∷ Write 1 1 8 ∷ Delegate 1 2 0 ∷ Depend 3 1 2 ∷ Abort 1 ∷ Value 0 ∷ Value 1 ∷ []))
     (begun ((0, 0) ∷ (0, 0) ∷ (0, 0) ∷ (0, 0) ∷ (0, 0) ∷ (0, 0) ∷ (0, 2) ∷ (0, 0) ∷ (0, 0) ∷ []))
 unfolding rules
 tied-and-delegated e c r p t = refl
 
 -- an existing tie is 0 again, a group tie also when named the other way round
-pub tie-twice : Gives (two (Depend 3 2 1 ∷ Depend 3 1 2 ∷ [])) (begun ((0, 0) ∷ (0, 0) ∷ []))
+pub tie-twice : Answered (two (Depend 3 2 1 ∷ Depend 3 1 2 ∷ [])) (begun ((0, 0) ∷ (0, 0) ∷ []))
 unfolding rules
 tie-twice e c r p t = refl
 
 -- a permit given again unites the operations; a write to an entry without a lock gets 8
-pub permit-twice : Gives (two (Permit 1 2 0 1 ∷ Permit 1 2 0 2 ∷ Lock 1 0 2 ∷ Lock 2 0 1 ∷ Lock 2 0 2 ∷ Read 2 0 ∷ Write 2 1 5 ∷ []))
+pub permit-twice : Answered (two (Permit 1 2 0 1 ∷ Permit 1 2 0 2 ∷ Lock 1 0 2 ∷ Lock 2 0 1 ∷ Lock 2 0 2 ∷ Read 2 0 ∷ Write 2 1 5 ∷ []))
     (begun ((0, 0) ∷ (0, 0) ∷ (0, 0) ∷ (0, 0) ∷ (0, 0) ∷ (0, 0) ∷ (8, 0) ∷ []))
 unfolding rules
 permit-twice e c r p t = refl

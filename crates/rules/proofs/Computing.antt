@@ -1,4 +1,4 @@
--- One name that opens the definitions that a step of the rules rests on, for proofs by computation. Assumes nothing.
+-- One name that opens the definitions on which a step of the rules, the answers of a list and the order of tables rest, for proofs by computation. Assumes nothing.
 use Rattle.rules.specs.Base.{put, put2, exceeds, allBelow, anyBelow, countBelow, lowestBelow, table, all, any, keep, insert, rising, andThen, order, isLt, byOrder, outside}
 use Rattle.rules.specs.Sets.{only, putAll, grow, times, closure, reach}
 use Rattle.rules.specs.Window.{limits, fresh, permitKey, tieKey, withValue, withStatus, withHeld, withLog, withPermits, withTies, running, live, noEntry, noChange}

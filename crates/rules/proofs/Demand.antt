@@ -6,21 +6,21 @@ use mathlib.Core.List.{List, [], _∷_, _++_}
 use Prim.Native.Nat.{ℕ, suc, _≤_, _<_}
 use native.Mathlib.Omega.{arith}
 use Rattle.rules.specs.Base.{anyBelow, all, outside}
-use Rattle.rules.specs.Window.{Limits, Window, fresh, withHeld, withPermits, withTies, withValue, isEnded, isLive, noChange, live}
+use Rattle.rules.specs.Window.{Limits, Window, fresh, withHeld, withPermits, withTies, withValue, isLive, noChange, live}
 use Rattle.rules.specs.Ties.{grouped, groupOf}
 use Rattle.rules.specs.Calls.{Call, Open, fits}
 use Rattle.rules.specs.Effects.{endAll, addChange, handOver}
 use Rattle.rules.specs.Refusals.{step}
 use Rattle.rules.specs.Events.{Event, Action, opening, initiating, nothing, locking, permitting, delegating, tying, actionOf, action, isOpening, isTying, highestAfter}
-use Rattle.rules.specs.Lists.{status, remember, event, history, tieMade, enter, strike, book, highest, isGrouped, firstOfGroup, liveGroups, walks, Demand3After, Demand3, final}
+use Rattle.rules.specs.Lists.{status, remember, event, history, tieMade, enter, strike, book, highest, isGrouped, firstOfGroup, liveGroups, walks, Demand3After, Demand3}
 use Rattle.rules.proofs.BaseLaws.{never, none-below, within-of, or-cases, and-both, and-left, and-right, any-intro, Within, count-within}
 use Rattle.rules.proofs.DemandBook.{bookOf, strike-same, book-next, clash-permitted}
 use Rattle.rules.proofs.DemandEnds.{endingOf, fresh-tie}
 use Rattle.rules.proofs.DemandMoves.{shownStatus, status-shown, Move, opened, started, calm, locked, granted, handed, depended, committed, aborted, move, live-not, live-status}
-use Rattle.rules.proofs.DemandTies.{TieHistory, Bound, stands, ended, story-next, story-fresh, story-lasts, story-groups, story-falls, story-waits}
-use Rattle.rules.proofs.DemandWalks.{final-append, firstInGroup, groupCount, all-end}
+use Rattle.rules.proofs.DemandTies.{TieHistory, Bound, stands, ended, bound-back, story-next, story-fresh, story-lasts, story-groups, story-falls, story-waits}
+use Rattle.rules.proofs.DemandWalks.{final, final-append, firstInGroup, groupCount, all-end}
 use Rattle.rules.proofs.SetLaws.{reach-closed, reach-least}
-use Rattle.rules.proofs.TieLaws.{grouped-both, group-seed}
+use Rattle.rules.proofs.TieLaws.{group-seed}
 use Rattle.rules.proofs.SoundParts.{live-below, Sound, given-live, live-change}
 use Rattle.rules.proofs.SoundStep.{step-sound, opened-sound, opened-fresh, group-live}
 
@@ -116,15 +116,11 @@ module _ (L : Limits) where
   -- grouped live changes are one group of the window
   module _ (W : Window) (p : List Event) (v : Inv L W p) where
     tied-now : (x y : ℕ) → live W x ≡ true → tieMade p 3 x y || tieMade p 3 y x ≡ true → grouped (W .ties) x y ≡ true
-    tied-now x y l e = ⊎-elim (λ q. forth (v .story .bound x y q)) (λ q. back (v .story .bound y x q)) (or-cases (tieMade p 3 x y) _ e)
+    tied-now x y l e = ⊎-elim (λ q. forth (v .story .bound x y q)) (λ q. forth (bound-back (v .story .bound y x q))) (or-cases (tieMade p 3 x y) _ e)
       where
         forth : Bound W p x y → grouped (W .ties) x y ≡ true
         forth (stands a b g) = g
         forth (ended a b t) = absurd (live-not W x l a)
-
-        back : Bound W p y x → grouped (W .ties) x y ≡ true
-        back (stands a b g) = grouped-both (W .ties) y x g
-        back (ended a b t) = absurd (live-not W x l (ap isEnded b ∙ a))
 
     group-step : (c x y : ℕ) → live W c ≡ true → x < suc (W .given) → y < suc (W .given) → groupOf W c x ≡ true → tieMade p 3 x y || tieMade p 3 y x ≡ true → groupOf W c y ≡ true
     group-step c x y lc hx hy g e = next (tied-now x y (group-live L W (v .sound) c lc x g) e)

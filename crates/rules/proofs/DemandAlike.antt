@@ -33,7 +33,7 @@ module _ {S T : Type 0} (make : S → Call → Reply S) (model : T → Call → 
 
 fits-walk : (n i : ℕ) → i + n ≤ 4294967296 → all fits (table n i Commit) ≡ true
 unfolding all fits arguments
-fits-walk n i h = all-table fits Commit n i (λ j a b. rw (lt-ltb j 4294967296 (omega arith)))
+fits-walk n i h = all-table fits Commit n i (λ j a. rw (lt-ltb j 4294967296 (omega arith)))
 
 fits-walks : (k n : ℕ) → n < 4294967296 → all fits (walks k n) ≡ true
 unfolding all walks
@@ -45,23 +45,15 @@ demand-same P Q l e f k = record { kept = rw e (k .kept); walked = rw (e, f (liv
 
 module _ {S T : Type 0} (make : S → Call → Reply S) (model : T → Call → Reply T) (R : S → T → Type 0) (A : Alike make model R)
     (opens : (s : S) (n : ℕ) → make s (Open n) .answer ≡ 0
-    → (t : T) × (model t (Open n) .answer ≡ 0) × (make s (Open n) .number ≡ model t (Open n) .number) × R (make s (Open n) .after) (model t (Open n) .after))
-    (most : (t : T) (n : ℕ) → model t (Open n) .answer ≡ 0 → (l : List Call) → all fits l ≡ true → highest (history model t [] (Open n ∷ l)) < 4294967296) where
-  -- the model that s answers like
-  pub model-of : (s : S) (n : ℕ) → make s (Open n) .answer ≡ 0 → T
-  model-of s n e = opens s n e .0
-
-  pub model-opens : (s : S) (n : ℕ) (e : make s (Open n) .answer ≡ 0) → model (model-of s n e) (Open n) .answer ≡ 0
-  unfolding model-of
-  model-opens s n e = opens s n e .1
-
-  pub history-alike : (s : S) (n : ℕ) (e : make s (Open n) .answer ≡ 0) (l : List Call) → all fits l ≡ true → history make s [] (Open n ∷ l) ≡ history model (model-of s n e) [] (Open n ∷ l)
-  unfolding history model-of
+    → (t : T) × (model t (Open n) .answer ≡ 0) × (make s (Open n) .number ≡ model t (Open n) .number) × R (make s (Open n) .after) (model t (Open n) .after)) where
+  -- after an open answered 0
+  pub history-alike : (s : S) (n : ℕ) (e : make s (Open n) .answer ≡ 0) (l : List Call) → all fits l ≡ true → history make s [] (Open n ∷ l) ≡ history model (opens s n e .0) [] (Open n ∷ l)
+  unfolding history
   history-alike s n e l f = let o = opens s n e in
       same-history make model R A l (make s (Open n) .after) (model (o .0) (Open n) .after) (remember (event make s (Open n)) []) (o .3) f
       ∙ ap (λ x. history model (model (o .0) (Open n) .after) (remember x []) l) (same-event make model R A s (o .0) (Open n) (e ∙ sym (o .1)) (o .2) (o .3))
 
-  pub demand-alike : Demand3 model → Demand3 make
-  demand-alike d s n e l f = let t = model-of s n e in let top = highest (history model t [] (Open n ∷ l)) in
+  pub demand-alike : ((t : T) (n : ℕ) → model t (Open n) .answer ≡ 0 → (l : List Call) → all fits l ≡ true → highest (history model t [] (Open n ∷ l)) < 4294967296) → Demand3 model → Demand3 make
+  demand-alike most d s n e l f = let t = opens s n e .0 in let o = opens s n e .1 in let top = highest (history model t [] (Open n ∷ l)) in
       demand-same (λ k. history make s [] (Open n ∷ k)) (λ k. history model t [] (Open n ∷ k)) l (history-alike s n e l f)
-      (λ k. history-alike s n e (l ++ walks k top) (all-join fits l (walks k top) f (fits-walks k top (most t n (model-opens s n e) l f)))) (d t n (model-opens s n e) l f)
+      (λ k. history-alike s n e (l ++ walks k top) (all-join fits l (walks k top) f (fits-walks k top (most t n o l f)))) (d t n o l f)

@@ -16,7 +16,7 @@ use Rattle.rules.specs.Effects.{released, permitStays, permitsLeft, endA
 use Rattle.rules.specs.Events.{Action, isOpening}
 use Rattle.rules.specs.Lists.{Book, enter, strike}
 use Rattle.rules.proofs.BaseLaws.{or-cases, and-left, and-right}
-use Rattle.rules.proofs.DemandEnds.{how-ended, Ending, commit-ending, abort-ending}
+use Rattle.rules.proofs.DemandEnds.{how-ended, Ending, none, same-ending, commit-ending, abort-ending}
 use Rattle.rules.proofs.DemandMoves.{shownStatus, Calm, Move, opened, started, calm, locked, granted, handed, depended, committed, aborted, live-unended, live-not}
 use Rattle.rules.proofs.SoundParts.{Sound, permit-parts, held-zero}
 
@@ -46,20 +46,6 @@ same-parties : (m : ℕ) (s a b : Set) → ((c : ℕ) → s c ≡ true → a c �
     → not (a (p .giver) || a (p .taker)) ≡ not (b (p .giver) || b (p .taker))
 same-parties m s a b f z p h = ap₂ (λ x y. not (x || y)) (f (p .giver) (permit-parts m s p h .0)) (⊎-elim (λ q. let o = eqb-true (p .taker) 0 q in ap a o ∙ z ∙ ap b (sym o)) (f (p .taker)) (or-cases (eqb (p .taker) 0) (s (p .taker)) (permit-parts m s p h .1)))
 
--- striking out the ended ones of a window changes nothing
-module _ (L : Limits) (X : Window) (z : Sound L X) (st : ℕ → ℕ) (shows : (c : ℕ) → st c ≡ shownStatus X c) where
-  pub strike-same : strike st (bookOf X) ≡ bookOf X
-  unfolding strike released putAll permitsLeft permitStays bookOf
-  strike-same = λ i. record { held = fun-ext (λ e. fun-ext (λ c. helds e c (isEnded (st c)) refl)) i; permits = permits i }
-    where
-      helds : (e c : ℕ) (b : Bool) → isEnded (st c) ≡ b → cond b 0 (X .held e c) ≡ X .held e c
-      helds e c true q = sym (ended-holds L X z e c (ap isEnded (sym (shows c)) ∙ q))
-      helds e c false q = refl
-
-      permits : keep (λ p. not (isEnded (st (p .giver)) || isEnded (st (p .taker)))) (X .permits) ≡ X .permits
-      permits = keep-same _ (λ p. not (false || false)) _ (same-parties (X .entries) (live X) (λ c. isEnded (st c)) (λ c. false) (λ c h. ap isEnded (shows c) ∙ live-unended X c h) (ap isEnded (shows 0) ∙ nobody-shown X)) (X .permits) (z .permits)
-          ∙ keep-whole (X .permits)
-
 -- striking out the ones that a call ended
 module _ (L : Limits) (W X : Window) (s : Set) (how : ℕ) (P : Ending W X s how) (z : Sound L W) (st : ℕ → ℕ) (shows : (c : ℕ) → st c ≡ shownStatus X c) where
   told : (c : ℕ) → live W c ≡ true → isEnded (st c) ≡ s c
@@ -88,6 +74,11 @@ module _ (L : Limits) (W X : Window) (s : Set) (how : ℕ) (P : Ending W X s how
   strike-ended : strike st (bookOf W) ≡ bookOf (endAll how s W)
   unfolding strike released putAll permitsLeft permitStays bookOf endAll
   strike-ended = λ i. record { held = fun-ext (λ e. fun-ext (λ c. struck-held e c)) i; permits = struck-permits i }
+
+-- where nobody has ended nothing changes
+pub strike-same : (L : Limits) (X : Window) → Sound L X → (st : ℕ → ℕ) → ((c : ℕ) → st c ≡ shownStatus X c) → strike st (bookOf X) ≡ bookOf X
+unfolding bookOf endAll released putAll permitsLeft permitStays
+strike-same L X z st shows = strike-ended L X X none 4 (same-ending L X z X refl refl (λ k l f t. t)) z st shows ∙ (λ i. record { held = X .held; permits = keep-whole (X .permits) i })
 
 -- the book after a call
 module _ (L : Limits) (W : Window) (z : Sound L W) where

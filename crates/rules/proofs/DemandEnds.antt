@@ -36,7 +36,7 @@ pub record Ending (W X : Window) (s : Set) (how : ℕ) : Type 0 where
   pub on : (c : ℕ) → s c ≡ false → live W c ≡ true → live X c ≡ true
   pub ties : (k : ℕ → Bool) (l f : ℕ) → s l ≡ false → s f ≡ false → tied (W .ties) k l f ≡ true → tied (X .ties) k l f ≡ true
   pub together : (a b : ℕ) → live W a ≡ true → live W b ≡ true → grouped (W .ties) a b ≡ true → s a ≡ true → s b ≡ true
-  pub unled : (k l f : ℕ) → isArrow k ≡ true → live W l ≡ true → tied (W .ties) (ofKind k) l f ≡ true → how ≡ 4 → s f ≡ true → ⊥
+  pub unled : (k l f : ℕ) → isArrow k ≡ true → tied (W .ties) (ofKind k) l f ≡ true → how ≡ 4 → s f ≡ true → ⊥
   pub fallen : (l f : ℕ) → live W l ≡ true → live W f ≡ true → tied (W .ties) (ofKind 2) l f ≡ true → how ≡ 5 → s l ≡ true → s f ≡ true
 
 pub how-ended : {W X : Window} {s : Set} {how : ℕ} → Ending W X s how → isEnded how ≡ true
@@ -62,7 +62,7 @@ quietly W X a b c d = record {
   on = λ x e. c x;
   ties = λ k l f p q. d k l f;
   together = λ x y p q r e. absurd (false≢true e);
-  unled = λ k l f p q r h e. false≢true e;
+  unled = λ k l f p r h e. false≢true e;
   fallen = λ l f p q r h e. absurd (false≢true e);
 }
 
@@ -77,10 +77,10 @@ tie-new t ts k e = any-insert-new tieKey (λ y. k (y .k1) && eqb (y .k2) (t .lea
 
 module _ (L : Limits) (W : Window) (z : Sound L W) where
   -- a set of live changes ends
-  module _ (how : ℕ) (s : Set) (inside : (c : ℕ) → s c ≡ true → live W c ≡ true) where
-    end-ends : (c : ℕ) → s c ≡ true → (live W c ≡ true) × (shownStatus (endAll how s W) c ≡ how)
+  module _ (how : ℕ) (s : Set) where
+    end-ends : ((c : ℕ) → s c ≡ true → live W c ≡ true) → (c : ℕ) → s c ≡ true → (live W c ≡ true) × (shownStatus (endAll how s W) c ≡ how)
     unfolding shownStatus endAll putAll noChange
-    end-ends c e = (inside c e, rw (live-change L W z c (inside c e), e))
+    end-ends inside c e = (inside c e, rw (live-change L W z c (inside c e), e))
 
     end-stays : (c : ℕ) → s c ≡ false → shownStatus (endAll how s W) c ≡ shownStatus W c
     unfolding shownStatus endAll putAll noChange
@@ -102,13 +102,13 @@ module _ (L : Limits) (W : Window) (z : Sound L W) where
   commit-ending c lc free = record {
     way = inl refl;
     ends = end-ends 4 g inside;
-    stays = λ d e h. end-stays 4 g inside d e;
-    fewer = λ d e h. ap isEnded (sym (end-stays 4 g inside d e)) ∙ h;
-    on = end-on 4 g inside;
-    ties = end-ties 4 g inside;
+    stays = λ d e h. end-stays 4 g d e;
+    fewer = λ d e h. ap isEnded (sym (end-stays 4 g d e)) ∙ h;
+    on = end-on 4 g;
+    ties = end-ties 4 g;
     together = λ a b la lb e h. reach-closed (suc (W .given)) (grouped (W .ties)) c a b (live-below W a la) (live-below W b lb) h e;
-    unled = λ k l f a ll e q h. free-of L W z c lc free .unled l f h (tied-kinds (ofKind k) isArrow (λ x p. rw (eqb-true x k p) a) (W .ties) l f e);
-    fallen = λ l f ll lf e q h. absurd (four q);
+    unled = λ k l f a e q h. free-of L W z c lc free .unled l f h (tied-kinds (ofKind k) isArrow (λ x p. rw (eqb-true x k p) a) (W .ties) l f e);
+    fallen = λ l f ll lf e q h. absurd (not-aborted q);
   }
     where
       g : Set
@@ -117,20 +117,20 @@ module _ (L : Limits) (W : Window) (z : Sound L W) where
       inside : (d : ℕ) → g d ≡ true → live W d ≡ true
       inside = unfold groupOf in group-live L W z c lc
 
-      four : _≡_ {A = ℕ} 4 5 → ⊥
-      four q = omega arith
+      not-aborted : _≡_ {A = ℕ} 4 5 → ⊥
+      not-aborted q = omega arith
 
   pub abort-ending : (c : ℕ) (v : ℕ → ℕ) → live W c ≡ true → Ending W (endAll 5 (endSet W c) (withValue W v)) (endSet W c) 5
   unfolding endSet endAll putAll withValue shownStatus live noChange falling isFall
   abort-ending c v lc = record {
     way = inr refl;
     ends = end-ends 5 g inside;
-    stays = λ d e h. end-stays 5 g inside d e;
-    fewer = λ d e h. ap isEnded (sym (end-stays 5 g inside d e)) ∙ h;
-    on = end-on 5 g inside;
-    ties = end-ties 5 g inside;
+    stays = λ d e h. end-stays 5 g d e;
+    fewer = λ d e h. ap isEnded (sym (end-stays 5 g d e)) ∙ h;
+    on = end-on 5 g;
+    ties = end-ties 5 g;
     together = λ a b la lb e h. closed a b la lb (or-left (grouped (W .ties) a b) _ e) h;
-    unled = λ k l f a ll e q h. four q;
+    unled = λ k l f a e q h. not-committed q;
     fallen = λ l f ll lf e q h. closed l f ll lf (or-right (grouped (W .ties) l f) _ e) h;
   }
     where
@@ -143,8 +143,8 @@ module _ (L : Limits) (W : Window) (z : Sound L W) where
       closed : (a b : ℕ) → live W a ≡ true → live W b ≡ true → falling (W .ties) a b ≡ true → g a ≡ true → g b ≡ true
       closed a b la lb e h = reach-closed (suc (W .given)) (falling (W .ties)) c a b (live-below W a la) (live-below W b lb) h e
 
-      four : _≡_ {A = ℕ} 5 4 → ⊥
-      four q = omega arith
+      not-committed : _≡_ {A = ℕ} 5 4 → ⊥
+      not-committed q = omega arith
 
   calm-ending : (X : Window) → Calm W X → Ending W X none 4
   calm-ending X q = quietly W X (q .stay) (q .fewer) (q .on) (λ k l f e. rw (q .ties) e)
@@ -172,7 +172,7 @@ module _ (L : Limits) (W : Window) (z : Sound L W) where
       few c (other i) (other q) (over k) (over j) h = h
 
   -- nobody ends where numbers and statuses stay and no tie is lost
-  same-ending : (X : Window) → X .given ≡ W .given → X .status ≡ W .status → ((k : ℕ → Bool) (l f : ℕ) → tied (W .ties) k l f ≡ true → tied (X .ties) k l f ≡ true) → Ending W X none 4
+  pub same-ending : (X : Window) → X .given ≡ W .given → X .status ≡ W .status → ((k : ℕ → Bool) (l f : ℕ) → tied (W .ties) k l f ≡ true → tied (X .ties) k l f ≡ true) → Ending W X none 4
   unfolding shownStatus live noChange
   same-ending X g s = quietly W X (λ c e. rw (g, s)) (λ c e. rw (g, s) at e) (λ c e. rw (g, s) e)
 

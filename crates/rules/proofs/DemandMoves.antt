@@ -109,7 +109,7 @@ calm-status W c s lc ls = record {
 }
   where
     stays : (d : ℕ) {b : Bool} → Same d c b → isEnded (shownStatus W d) ≡ true → cond (noChange W d) 0 (cond b s (W .status d)) ≡ shownStatus W d
-    stays d (same q) h = absurd (false≢true (sym (live-unended W d (rw q lc)) ∙ h))
+    stays d (same q) h = absurd (live-not W d (rw q lc) h)
     stays d (other n) h = refl
 
     none : (b : Bool) → isEnded (cond b 0 s) ≡ true → ⊥
@@ -175,7 +175,7 @@ module _ (L : Limits) (W : Window) (z : Sound L W) where
       go i v false p false q = aborted c i v (live-of L W z c h q p)
 
   does : (c : Call) → Passed (checks L W c) → Moved W (actionOf c) (effect W c)
-  unfolding effect actionOf checks _if_ done unchanged running writeEntry outside
+  unfolding effect actionOf checks _if_ done running writeEntry outside
   does (Open n) p = opened n 0
   does (Initiate q) p = started q
   does (Begin c) p = calm 0 _ (calm-status W c 2 (live-at W c 1 (p .0) (not-false _ (p .1 .0)) refl) refl)

@@ -28,6 +28,11 @@ pub data Bound (W : Window) (p : List Event) (l f : ℕ) : Type 0 where
   stands : live W l ≡ true → live W f ≡ true → grouped (W .ties) l f ≡ true → Bound W p l f
   ended : isEnded (shownStatus W l) ≡ true → shownStatus W f ≡ shownStatus W l → endedAt p f ≡ endedAt p l → Bound W p l f
 
+-- it goes both ways
+pub bound-back : {W : Window} {p : List Event} {l f : ℕ} → Bound W p l f → Bound W p f l
+bound-back {W} {l = l} {f} (stands a b g) = stands b a (grouped-both (W .ties) l f g)
+bound-back (ended a b t) = ended (ap isEnded b ∙ a) (sym b) (sym t)
+
 -- a made arrow stands, or its follower was aborted, or its leader has ended, as the kind asks, and the follower has not, or ended later
 pub data Led (W : Window) (p : List Event) (k l f : ℕ) : Type 0 where
   stands : live W l ≡ true → live W f ≡ true → tied (W .ties) (ofKind k) l f ≡ true → Led W p k l f
@@ -37,9 +42,9 @@ pub data Led (W : Window) (p : List Event) (k l f : ℕ) : Type 0 where
 -- what every call keeps of statuses, ends and made ties
 pub record TieHistory (W : Window) (p : List Event) : Type 0 where
   pub shown : (c : ℕ) → status p c ≡ shownStatus W c
-  pub past : (c : ℕ) → isEnded (shownStatus W c) ≡ true → (0 < endedAt p c) × (endedAt p c ≤ length p)
-  pub yet : (c : ℕ) → isEnded (shownStatus W c) ≡ false → endedAt p c ≡ 0
-  pub lasts : (c : ℕ) → isEnded (shownStatus W c) ≡ true → endedAs p c ≡ shownStatus W c
+  past : (c : ℕ) → isEnded (shownStatus W c) ≡ true → (0 < endedAt p c) × (endedAt p c ≤ length p)
+  yet : (c : ℕ) → isEnded (shownStatus W c) ≡ false → endedAt p c ≡ 0
+  lasts : (c : ℕ) → isEnded (shownStatus W c) ≡ true → endedAs p c ≡ shownStatus W c
   pub bound : (l f : ℕ) → tieMade p 3 l f ≡ true → Bound W p l f
   drawn : (k l f : ℕ) → isArrow k ≡ true → tieMade p k l f ≡ true → Led W p k l f
 
@@ -144,7 +149,7 @@ module _ (W X : Window) (s : Set) (how : ℕ) (P : Ending W X s how) (p : List E
 
       go : Now f → Now l → Led X (e ∷ p) k l f
       go (gone j k′ t′) y = absurd (live-not W f b j)
-      go (ending i l′ k′ x′ z t′) y = ⊎-elim (λ q. absurd (P .unled k l f r a t q i)) (λ q. fell (k′ ∙ q)) (P .way)
+      go (ending i l′ k′ x′ z t′) y = ⊎-elim (λ q. absurd (P .unled k l f r t q i)) (λ q. fell (k′ ∙ q)) (P .way)
       go (going i′ j′ k″ t″) (gone j k′ t′) = absurd (live-not W l a j)
       go (going i′ j′ k″ t″) (ending i l′ k′ x′ z t′) = leaves k′ i i′ k″ (P .way) (eqb k 2) refl
       go (going i′ j′ k″ t″) (going i j k′ t′) = stands (P .on l i a) (P .on f i′ b) (P .ties (ofKind k) l f i i′ t)
@@ -207,20 +212,16 @@ module _ (W : Window) (p : List Event) (S : TieHistory W p) where
   is-4 c h = sym (S .shown c) ∙ h
 
   never-live : (c : ℕ) → status p c ≡ 4 → live W c ≡ true → ⊥
-  never-live c h l = true≢false (sym ended-4 ∙ ap isEnded (sym (is-4 c h)) ∙ live-unended W c l)
+  never-live c h l = live-not W c l (ap isEnded (is-4 c h) ∙ ended-4)
 
   one-tie : (b c : ℕ) → Bound W p b c → status p b ≡ 4 → (status p c ≡ 4) × (endedAt p c ≡ endedAt p b)
   one-tie b c (stands x y g) h = absurd (never-live b h x)
   one-tie b c (ended x y t) h = (S .shown c ∙ y ∙ is-4 b h, t)
 
-  tie-back : (b c : ℕ) → Bound W p c b → status p b ≡ 4 → (status p c ≡ 4) × (endedAt p c ≡ endedAt p b)
-  tie-back b c (stands x y g) h = absurd (never-live b h y)
-  tie-back b c (ended x y t) h = (S .shown c ∙ sym y ∙ is-4 b h, sym t)
-
   pub story-groups : (c d : ℕ) → status p c ≡ 4 → Grouped p c d → (status p d ≡ 4) × (endedAt p d ≡ endedAt p c)
   story-groups c d h itself = (h, refl)
   story-groups c d h (along {b} {c = x} g m) = let u = story-groups c b h g in let v = one-tie b x (S .bound b x m) (u .0) in (v .0, v .1 ∙ u .1)
-  story-groups c d h (against {b} {c = x} g m) = let u = story-groups c b h g in let v = tie-back b x (S .bound x b m) (u .0) in (v .0, v .1 ∙ u .1)
+  story-groups c d h (against {b} {c = x} g m) = let u = story-groups c b h g in let v = one-tie b x (bound-back (S .bound x b m)) (u .0) in (v .0, v .1 ∙ u .1)
 
   led-before : (k c d : ℕ) → status p c ≡ 4 → Led W p k d c → (passes k (status p d) ≡ true) × (endedAt p d < endedAt p c)
   led-before k c d h (stands x y t) = absurd (never-live c h y)

@@ -5,22 +5,23 @@ use mathlib.Core.Bool.{Bool, true, false, not, cond, _&&_, false≢true, true≢
 use mathlib.Core.List.{List, [], _∷_, _++_}
 use Prim.Native.Nat.{ℕ, zero, suc, _+_, _≤_, _<_}
 use native.Mathlib.Omega.{arith}
-use lib.Dec.{ltb, eqb}
+use lib.Dec.{eqb}
+use borrow.Author.Tests.{not-true}
 use Rattle.rules.specs.Base.{anyBelow, countBelow, lowestBelow, table, outside}
 use Rattle.rules.specs.Sets.{putAll}
 use Rattle.rules.specs.Window.{Limits, Window, isEnded, noChange, live}
 use Rattle.rules.specs.Ties.{isArrow, tied, grouped, leading, groupOf}
-use Rattle.rules.specs.Calls.{Call, Commit, done, unchanged}
+use Rattle.rules.specs.Calls.{Call, Commit, Reply, done, unchanged}
 use Rattle.rules.specs.Effects.{effect, commitChange, commitBlockers, commitGroup, tiesLeft, endAll}
 use Rattle.rules.specs.Refusals.{step, settle, checks, firstFailed, _if_}
-use Rattle.rules.specs.Lists.{final, walks}
+use Rattle.rules.specs.Lists.{walks}
 use Rattle.rules.proofs.BaseLaws.{no-true, never, none-below, and-both, and-left, and-right, Same, same, other, same?, any-intro, any-elim, Within}
 use Rattle.rules.proofs.BoundLaws.{lowest-hit, lowest-below, count-more, count-none}
 use Rattle.rules.proofs.DemandEnds.{Ending, grouped-stays, commit-ending}
-use Rattle.rules.proofs.DemandMoves.{shownStatus, ended-4, live-unended}
+use Rattle.rules.proofs.DemandMoves.{shownStatus, ended-4, live-not}
 use Rattle.rules.proofs.PathLaws.{Way, stay, on, way-join, way-map, way-back, by-group, by-arrow, leading-bounded, acyclic-clear}
 use Rattle.rules.proofs.Promises.{group-ways, blocks, commit-live}
-use Rattle.rules.proofs.SoundEnd.{end-sound}
+use Rattle.rules.proofs.SoundEnd.{left, live-end, end-sound}
 use Rattle.rules.proofs.SoundParts.{live-below, Sound, live-zero, live-of, ends-live, ends-below}
 use Rattle.rules.proofs.SoundStep.{group-live}
 use Rattle.rules.proofs.SourceLaws.{source}
@@ -71,12 +72,8 @@ module _ (L : Limits) (W : Window) (z : Sound L W) where
     P = commit-ending L W z c lc clear
 
     out : (d : ℕ) → live X d ≡ true → (groupOf W c d ≡ false) × (live W d ≡ true)
-    unfolding X live endAll putAll outside
-    out d h = go (groupOf W c d) refl h
-      where
-        go : (b : Bool) → groupOf W c d ≡ b → ltb d (suc (W .given)) && not (outside 1 3 (cond b 4 (W .status d))) ≡ true → (groupOf W c d ≡ false) × (live W d ≡ true)
-        go true e q = absurd (false≢true (and-right (ltb d (suc (W .given))) false q))
-        go false e q = (e, q)
+    unfolding X outside left
+    out d h = let q = ap (λ f. f d) (sym (live-end W 4 (groupOf W c) refl)) ∙ h in (not-true _ (and-left (not (groupOf W c d)) _ q), and-right (not (groupOf W c d)) _ q)
 
     -- from outside the group, group ties lead where they did, and never into it
     still : (a : ℕ) → groupOf W c a ≡ false → {b : ℕ} → Way (grouped (W .ties)) a b → (groupOf W c b ≡ false) × Way (grouped (X .ties)) a b
@@ -123,6 +120,11 @@ module _ (L : Limits) (W : Window) (z : Sound L W) where
 data Committing (W : Window) (c : ℕ) : Window → Type 0 where
   kept : Committing W c W
   did : live W c ≡ true → anyBelow (suc (W .given)) (commitBlockers W (groupOf W c)) ≡ false → Committing W c (endAll 4 (groupOf W c) W)
+
+-- what calls leave at the end
+unfoldable pub final : {S : Type 0} → (S → Call → Reply S) → S → List Call → S
+final make s [] = s
+final make s (c ∷ l) = final make (make s c .after) l
 
 pub final-append : (L : Limits) (W : Window) (a b : List Call) → final (step L) W (a ++ b) ≡ final (step L) (final (step L) W a) b
 unfolding final
@@ -197,7 +199,7 @@ module _ (L : Limits) (W : Window) (z : Sound L W) where
       good d ld false q = inl (P L W z c l e .on d q ld)
 
       stay : (d : ℕ) → shownStatus W d ≡ 4 → (b : Bool) → groupOf W c d ≡ b → shownStatus (endAll 4 (groupOf W c) W) d ≡ 4
-      stay d h true q = absurd (true≢false (sym ended-4 ∙ ap isEnded (sym h) ∙ live-unended W d (P L W z c l e .ends d q .0)))
+      stay d h true q = absurd (live-not W d (P L W z c l e .ends d q .0) (ap isEnded h ∙ ended-4))
       stay d h false q = P L W z c l e .stays d q (ap isEnded h ∙ ended-4) ∙ h
 
   commit-fits : (c : ℕ) (X : Window) → ((d : ℕ) → live W d ≡ true → W .status d ≡ 3) → Committing W c X → Fit L W X

@@ -1,21 +1,17 @@
--- Tests of all or some of a list, of which a part is kept, of which each is changed, to which one is added. Assumes nothing.
-use mathlib.Core.Path.{_≡_, refl, ap}
+-- Tests of all or some of a list, of which a part is kept, of which each is changed, to which one is added; how long they are. Assumes nothing.
+use mathlib.Core.Path.{_≡_, refl, _∙_}
 use mathlib.Core.Logic.{⊎-elim}
 use mathlib.Core.Bool.{Bool, true, false, not, cond, _||_, false≢true}
 use mathlib.Core.List.{List, [], _∷_, _++_, map, List·Memᴰ, List·Memᴰ·head, List·Memᴰ·tail}
 use Prim.Native.Nat.{ℕ, zero, suc, _+_, _≤_, _<_}
 use native.Mathlib.Nat.{not-suc-le-zero, le-of-suc-le-suc}
+use native.Mathlib.Numerals.{add-one}
 use native.Mathlib.Omega.{arith}
-use lib.ListN.{length, getD}
+use lib.ListN.{length, getD, length-append}
 use Rattle.rules.specs.Base.{exceeds, all, any, keep, table}
-use Rattle.rules.proofs.BaseLaws.{or-left, or-right, or-cases, and-both, and-left, and-right, over-less}
+use Rattle.rules.proofs.BaseLaws.{or-left, or-right, or-cases, and-both, and-left, and-right, never, over-less}
 
 module _ {ℓ} {A : Type ℓ} where
-  pub all-weaken : (p q : A → Bool) → ((a : A) → p a ≡ true → q a ≡ true) → (l : List A) → all p l ≡ true → all q l ≡ true
-  unfolding all
-  all-weaken p q f [] e = refl
-  all-weaken p q f (x ∷ l) e = and-both (q x) (all q l) (f x (and-left (p x) (all p l) e)) (all-weaken p q f l (and-right (p x) (all p l) e))
-
   pub any-keep : (p q : A → Bool) (l : List A) → any p (keep q l) ≡ true → any p l ≡ true
   unfolding any keep
   any-keep p q [] e = e
@@ -44,18 +40,6 @@ module _ {ℓ} {A : Type ℓ} where
       go true h = or-right (p x) (any p (keep q l)) h
       go false h = h
 
-  pub length-keep : (q : A → Bool) (l : List A) → length (keep q l) ≤ length l
-  unfolding keep
-  length-keep q [] = omega arith
-  length-keep q (x ∷ l) = go (q x) (length-keep q l)
-    where
-      go : (b : Bool) → length (keep q l) ≤ length l → length (cond b (x ∷ keep q l) (keep q l)) ≤ suc (length l)
-      go true h = omega arith
-      go false h = omega arith
-
-  pub fewer : (q : A → Bool) (l : List A) (n : ℕ) → not (exceeds (length l) n) ≡ true → not (exceeds (length (keep q l)) n) ≡ true
-  fewer q l n e = over-less (length l) (length (keep q l)) n (length-keep q l) e
-
   -- a test of all, and of some, by members
   pub all-members : (p : A → Bool) (l : List A) → ((x : A) → List·Memᴰ x l → p x ≡ true) → all p l ≡ true
   unfolding all
@@ -77,6 +61,12 @@ module _ {ℓ} {A : Type ℓ} where
   unfolding any
   any-find p [] e = absurd (false≢true e)
   any-find p (x ∷ l) e = ⊎-elim (λ a. (x, List·Memᴰ·head refl, a)) (λ a. let m = any-find p l a in (m .0, List·Memᴰ·tail (m .1), m .2)) (or-cases (p x) (any p l) e)
+
+  pub all-weaken : (p q : A → Bool) → ((x : A) → p x ≡ true → q x ≡ true) → (l : List A) → all p l ≡ true → all q l ≡ true
+  all-weaken p q f l e = all-members q l (λ x m. f x (all-member p m e))
+
+  pub any-weaken : (p q : A → Bool) → ((x : A) → p x ≡ true → q x ≡ true) → (l : List A) → any p l ≡ true → any q l ≡ true
+  any-weaken p q f l e = let m = any-find p l e in any-member q (m .1) (f (m .0) (m .2))
 
   -- one that passes, of a list of which another test holds throughout
   pub find : (p q : A → Bool) (l : List A) → any p l ≡ true → all q l ≡ true → (x : A) × (p x ≡ true) × (q x ≡ true)
@@ -110,10 +100,10 @@ module _ {ℓ} {A : Type ℓ} where
   all-places p d [] h = refl
   all-places p d (x ∷ l) h = and-both (p x) (all p l) (h 0 (omega arith)) (all-places p d l (λ j m. h (suc j) (omega arith)))
 
-  pub all-table : (p : A → Bool) (f : ℕ → A) (n i : ℕ) → ((j : ℕ) → i ≤ j → j < i + n → p (f j) ≡ true) → all p (table n i f) ≡ true
+  pub all-table : (p : A → Bool) (f : ℕ → A) (n i : ℕ) → ((j : ℕ) → j < i + n → p (f j) ≡ true) → all p (table n i f) ≡ true
   unfolding all table
   all-table p f zero i h = refl
-  all-table p f (suc n) i h = and-both (p (f i)) _ (h i (omega arith) (omega arith)) (all-table p f n (suc i) (λ j a b. h j (omega arith) (omega arith)))
+  all-table p f (suc n) i h = and-both (p (f i)) _ (h i (omega arith)) (all-table p f n (suc i) (λ j a. h j (omega arith)))
 
   pub any-at : (p : A → Bool) (d : A) (l : List A) (j : ℕ) → j < length l → p (getD l j d) ≡ true → any p l ≡ true
   unfolding any
@@ -127,8 +117,7 @@ module _ {ℓ} {A : Type ℓ} where
   any-place p d (x ∷ l) e = ⊎-elim (λ q. (0, omega arith, q)) (λ q. let m = any-place p d l q in (suc (m .0), omega (arith, m .1), m .2)) (or-cases (p x) (any p l) e)
 
   pub length-append-one : (l : List A) (x : A) → length (l ++ (x ∷ [])) ≡ suc (length l)
-  length-append-one [] x = refl
-  length-append-one (y ∷ l) x = ap suc (length-append-one l x)
+  length-append-one l x = length-append l (x ∷ []) ∙ add-one (length l)
 
   -- two parts of which none is in both
   pub length-parts : (p q : A → Bool) → ((x : A) → p x ≡ true → q x ≡ true → ⊥) → (l : List A) → length (keep p l) + length (keep q l) ≤ length l
@@ -143,12 +132,13 @@ module _ {ℓ} {A : Type ℓ} where
       go false true g h = omega arith
       go false false g h = omega arith
 
+  pub length-keep : (q : A → Bool) (l : List A) → length (keep q l) ≤ length l
+  length-keep q l = omega (arith, length-parts q (λ x. not (q x)) (λ x. never (q x)) l)
+
+  pub fewer : (q : A → Bool) (l : List A) (n : ℕ) → not (exceeds (length l) n) ≡ true → not (exceeds (length (keep q l)) n) ≡ true
+  fewer q l n e = over-less (length l) (length (keep q l)) n (length-keep q l) e
+
 pub all-map {ℓ κ} : {A : Type ℓ} {B : Type κ} (p : B → Bool) (q : A → Bool) (f : A → B) → ((x : A) → q x ≡ true → p (f x) ≡ true) → (l : List A) → all q l ≡ true → all p (map f l) ≡ true
 unfolding all
 all-map p q f h [] e = refl
 all-map p q f h (x ∷ l) e = and-both (p (f x)) (all p (map f l)) (h x (and-left (q x) (all q l) e)) (all-map p q f h l (and-right (q x) (all q l) e))
-
-pub any-weaken {ℓ} : {A : Type ℓ} (p q : A → Bool) → ((x : A) → p x ≡ true → q x ≡ true) → (l : List A) → any p l ≡ true → any q l ≡ true
-unfolding any
-any-weaken p q f [] e = e
-any-weaken p q f (x ∷ l) e = ⊎-elim (λ h. or-left (q x) _ (f x h)) (λ h. or-right (q x) _ (any-weaken p q f l h)) (or-cases (p x) (any p l) e)

@@ -16,7 +16,7 @@ use Rattle.rules.proofs.ListLaws.{all-weaken, all-keep, all-members, an
 use Rattle.rules.proofs.SetLaws.{closure-to, closure-holds, closure-closed, reach-to}
 use Rattle.rules.proofs.TieLaws.{grouped-ends, falling-ends, leading-ends, stands-tied}
 
--- a path along a relation, of any number of steps
+-- a path along a relation, of any number of steps (its reflexive and transitive closure)
 pub data Way (r : Rel) (a : ℕ) : ℕ → Type 0 where
   stay : Way r a a
   on : {b c : ℕ} → Way r a b → r b c ≡ true → Way r a c
@@ -39,7 +39,7 @@ abbrev pub Bounded : ℕ → Rel → Type 0
 Bounded n r = (a b : ℕ) → r a b ≡ true → (a < n) × (b < n)
 
 -- a path that starts in the set
-abbrev pub From : Rel → Set → ℕ → Type 0
+abbrev From : Rel → Set → ℕ → Type 0
 From r s c = (d : ℕ) × (s d ≡ true) × Way r d c
 
 module _ (n : ℕ) (r : Rel) (ends : Bounded n r) where
@@ -67,7 +67,7 @@ pub record Arrow (ts : List TieRecord) (x y : ℕ) : Type 0 where
   pub tie : tied ts isArrow leader follower ≡ true
   pub enters : Way (grouped ts) follower y
 
--- a path of arrows, one or more
+-- a path of arrows, one or more (their transitive closure)
 pub data Arrows (ts : List TieRecord) (x : ℕ) : ℕ → Type 0 where
   one : {y : ℕ} → Arrow ts x y → Arrows ts x y
   more : {y z : ℕ} → Arrows ts x y → Arrow ts y z → Arrows ts x z

@@ -1,5 +1,5 @@
 -- A call that is turned back or blocked leaves the window as it was; open answers the same whatever it was. Assumes nothing.
-use mathlib.Core.Path.{_≡_, refl}
+use mathlib.Core.Path.{_≡_, refl, sym, _∙_}
 use mathlib.Core.Logic.{_≢_}
 use mathlib.Core.Bool.{Bool, true, false, cond, _||_, false≢true}
 use Prim.Native.Nat.{ℕ, zero, suc}
@@ -80,14 +80,18 @@ is-open (Status c) e = absurd (false≢true e)
 is-open (Parent c) e = absurd (false≢true e)
 is-open (Value x) e = absurd (false≢true e)
 
--- open answers the same whatever the window was
-pub open-answer : (L : Limits) (W X : Window) (n : ℕ) → step L W (Open n) .answer ≡ step L X (Open n) .answer
+-- open answers 2 or 0
+pub open-is : (L : Limits) (W : Window) (n : ℕ) → step L W (Open n) .answer ≡ cond (ltb n 1 || exceeds n L.entries) 2 0
 unfolding step checks _if_ firstFailed effect settle done unchanged
-open-answer L W X n = go (ltb n 1 || exceeds n L.entries)
+open-is L W n = go (ltb n 1 || exceeds n L.entries)
   where
-    go : (b : Bool) → settle (cond b 2 0) W (done 0 (fresh n)) .answer ≡ settle (cond b 2 0) X (done 0 (fresh n)) .answer
+    go : (b : Bool) → settle (cond b 2 0) W (done 0 (fresh n)) .answer ≡ cond b 2 0
     go true = refl
     go false = refl
+
+-- the same whatever the window was
+pub open-answer : (L : Limits) (W X : Window) (n : ℕ) → step L W (Open n) .answer ≡ step L X (Open n) .answer
+open-answer L W X n = open-is L W n ∙ sym (open-is L X n)
 
 pub open-number : (L : Limits) (W : Window) (n : ℕ) → step L W (Open n) .number ≡ 0
 unfolding step checks _if_ firstFailed effect settle done unchanged

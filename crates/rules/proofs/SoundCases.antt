@@ -19,7 +19,7 @@ log1 o e b = record { owner = o; entry = e; before = b }
 abbrev tie1 : ℕ → ℕ → ℕ → TieRecord
 tie1 k l f = record { kind = k; leader = l; follower = f }
 
--- one entry; 1, 2 and 3 live, 2 the child of 1; 1 writes and lets 2 read; 2 waits for 1 and is grouped with 3
+-- one entry; 1, 2 and 3 live, 2 the child of 1; 1 writes, lets anybody write and 2 read; 2 waits for 1 and is grouped with 3
 abbrev good : Window
 good = record {
   entries = 1;

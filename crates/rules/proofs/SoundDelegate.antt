@@ -38,7 +38,7 @@ pub hand-room : (from to : ℕ) (on : Set) (ps : List PermitRecord) → length (
 unfolding movePermits addPermit
 hand-room from to on ps = omega (
   arith,
-  length-inserts permitKey unitePermits (map (movedPermit to) (keep (permitMoves from to on) ps)) (keep (permitKept from on) ps),
+  length-inserts permitKey unitePermits (map (movedPermit to) (keep (permitMoves from to on) ps)) (keep (permitKept from on) ps) .1,
   length-map (keep (permitMoves from to on) ps) (movedPermit to),
   hand-parts from to on ps,
 )
@@ -101,7 +101,7 @@ module _ (L : Limits) (W : Window) (from to : ℕ) (on : Set) (k : Sound L W) (l
     parents = k .parents;
     helds = hand-held;
     records = all-map _ (recordSound W.entries (live W) W.held) (movedRecord from to on) hand-record W.log (k .records);
-    permits = all-inserts permitKey unitePermits (permitSound W.entries (live W)) (λ p q a b. unite-sound W.entries (live W) p q b) (map (movedPermit to) (keep (permitMoves from to on) W.permits)) (keep (permitKept from on) W.permits)
+    permits = all-inserts permitKey unitePermits (permitSound W.entries (live W)) (unite-sound W.entries (live W)) (map (movedPermit to) (keep (permitMoves from to on) W.permits)) (keep (permitKept from on) W.permits)
         (all-map (permitSound W.entries (live W)) (λ p. permitSound W.entries (live W) (movedPermit to p)) (movedPermit to) (λ p h. h) (keep (permitMoves from to on) W.permits) (all-keep (permitSound W.entries (live W)) (permitMoves from to on) _ hand-permit W.permits (k .permits)))
         (all-keep (permitSound W.entries (live W)) (permitKept from on) _ (λ p a b. a) W.permits (k .permits));
     ties = k .ties;

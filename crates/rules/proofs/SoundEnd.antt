@@ -17,22 +17,22 @@ use Rattle.rules.proofs.PathLaws.{acyclic-keep}
 use Rattle.rules.proofs.SortLaws.{rising-keep}
 use Rattle.rules.proofs.SoundParts.{Sound, clash-left, clash-right, live-zero, live-change, fits-on, ends-below}
 
+-- who lives on when the changes of a set end
+unfoldable pub left : Window → Set → Set
+left W s c = not (s c) && live W c
+
+pub live-end : (W : Window) (how : ℕ) (s : Set) → outside 1 3 how ≡ true → live (endAll how s W) ≡ left W s
+unfolding live endAll putAll left
+live-end W how s ended = fun-ext (λ c. go c (s c))
+  where
+    go : (c : ℕ) (b : Bool) → ltb c (suc W.given) && not (outside 1 3 (cond b how (W .status c))) ≡ not b && (ltb c (suc W.given) && not (outside 1 3 (W .status c)))
+    go c true = rw ended (and-false (ltb c (suc W.given)))
+    go c false = refl
+
 module _ (L : Limits) (W : Window) (how : ℕ) (s : Set) (ended : outside 1 3 how ≡ true) (ranged : outside 1 5 how ≡ false)
     (lives : (c : ℕ) → s c ≡ true → live W c ≡ true) (k : Sound L W) where
   none : s 0 ≡ false
   none = no-true (s 0) (λ e. false≢true (sym (live-zero L W k) ∙ lives 0 e))
-
-  -- who lives on
-  left : Set
-  left c = not (s c) && live W c
-
-  live-end : live (endAll how s W) ≡ left
-  unfolding live endAll putAll left
-  live-end = fun-ext (λ c. go c (s c))
-    where
-      go : (c : ℕ) (b : Bool) → ltb c (suc W.given) && not (outside 1 3 (cond b how (W .status c))) ≡ not b && (ltb c (suc W.given) && not (outside 1 3 (W .status c)))
-      go c true = rw ended (and-false (ltb c (suc W.given)))
-      go c false = refl
 
   end-statuses : (c : ℕ) → statusSound W.given (λ d. cond (s d) how (W .status d)) c ≡ true
   unfolding statusSound noChange
@@ -42,7 +42,7 @@ module _ (L : Limits) (W : Window) (how : ℕ) (s : Set) (ended : outside 1 3 ho
       go true f = rw (live-change L W k c (lives c f), ranged)
       go false f = k .statuses c
 
-  end-helds : (e c : ℕ) → heldSound W.entries left (released s W.held) e c ≡ true
+  end-helds : (e c : ℕ) → heldSound W.entries (left W s) (released s W.held) e c ≡ true
   unfolding heldSound left released putAll
   end-helds e c = go (s c)
     where
@@ -50,15 +50,15 @@ module _ (L : Limits) (W : Window) (how : ℕ) (s : Set) (ended : outside 1 3 ho
       go true = refl
       go false = k .helds e c
 
-  end-record : (r : LogRecord) → recordSound W.entries (live W) W.held r ≡ true → isUnowned s r ≡ true → recordSound W.entries left (released s W.held) r ≡ true
+  end-record : (r : LogRecord) → recordSound W.entries (live W) W.held r ≡ true → isUnowned s r ≡ true → recordSound W.entries (left W s) (released s W.held) r ≡ true
   unfolding recordSound left released putAll isUnowned
   end-record r h q = rw (not-true (s r.owner) q) h
 
-  end-permit : (p : PermitRecord) → permitSound W.entries (live W) p ≡ true → permitStays s p ≡ true → permitSound W.entries left p ≡ true
+  end-permit : (p : PermitRecord) → permitSound W.entries (live W) p ≡ true → permitStays s p ≡ true → permitSound W.entries (left W s) p ≡ true
   unfolding permitSound left permitStays
   end-permit p h q = let n = or-none (s p.giver) (s p.taker) (not-true _ q) in rw (n .0, n .1) h
 
-  end-tie : (t : TieRecord) → tieSound (live W) t ≡ true → tieStays s t ≡ true → tieSound left t ≡ true
+  end-tie : (t : TieRecord) → tieSound (live W) t ≡ true → tieStays s t ≡ true → tieSound (left W s) t ≡ true
   unfolding tieSound left tieStays
   end-tie t h q = let n = or-none (s t.leader) (s t.follower) (not-true _ q) in rw (n .0, n .1) h
 
@@ -93,10 +93,10 @@ module _ (L : Limits) (W : Window) (how : ℕ) (s : Set) (ended : outside 1 3 ho
     values = k .values;
     statuses = end-statuses;
     parents = k .parents;
-    helds = rw live-end end-helds;
-    records = rw live-end (all-keep (recordSound W.entries (live W) W.held) (isUnowned s) (recordSound W.entries left (released s W.held)) end-record W.log (k .records));
-    permits = rw live-end (all-keep (permitSound W.entries (live W)) (permitStays s) (permitSound W.entries left) end-permit W.permits (k .permits));
-    ties = rw live-end (all-keep (tieSound (live W)) (tieStays s) (tieSound left) end-tie W.ties (k .ties));
+    helds = rw (live-end W how s ended) end-helds;
+    records = rw (live-end W how s ended) (all-keep (recordSound W.entries (live W) W.held) (isUnowned s) (recordSound W.entries (left W s) (released s W.held)) end-record W.log (k .records));
+    permits = rw (live-end W how s ended) (all-keep (permitSound W.entries (live W)) (permitStays s) (permitSound W.entries (left W s)) end-permit W.permits (k .permits));
+    ties = rw (live-end W how s ended) (all-keep (tieSound (live W)) (tieStays s) (tieSound (left W s)) end-tie W.ties (k .ties));
     permit-order = rising-keep permitKey (permitStays s) W.permits (k .permit-order);
     tie-order = rising-keep tieKey (tieStays s) W.ties (k .tie-order);
     no-cycle = acyclic-keep (suc W.given) W.ties (ends-below W (k .ties)) (k .no-cycle) (tieStays s);

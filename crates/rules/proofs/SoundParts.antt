@@ -45,11 +45,11 @@ pub record Blank (L : Limits) (W : Window) : Type 0 where
   pub held-change : (e c : ℕ) → L .changes < c → W .held e c ≡ 0
 
 -- tests that all pass, one by one
-abbrev pub Each : List Bool → Type 0
+abbrev Each : List Bool → Type 0
 Each [] = Unit {0}
 Each (b ∷ l) = (b ≡ true) × Each l
 
-pub each : (l : List Bool) → all (λ b. b) l ≡ true → Each l
+each : (l : List Bool) → all (λ b. b) l ≡ true → Each l
 unfolding all
 each [] e = tt
 each (b ∷ l) e = (and-left b (all (λ x. x) l) e, each l (and-right b (all (λ x. x) l) e))
@@ -248,7 +248,7 @@ module _ (L : Limits) (W : Window) where
   unfolding statusSound
   status-none k c h = no-place (W .given) c (W .status c) _ h (k .statuses c)
 
-  pub parent-none : Sound L W → (c : ℕ) → W .given < c → W .parent c ≡ 0
+  parent-none : Sound L W → (c : ℕ) → W .given < c → W .parent c ≡ 0
   unfolding parentSound
   parent-none k c h = no-place (W .given) c (W .parent c) _ h (k .parents c)
 

@@ -59,7 +59,7 @@ value-put m v i x h l f e = go (same? e i)
     go (same q) = rw (q, h, l)
     go (other n) = f e
 
-pub undo-values : (m : ℕ) (lives : Set) (held : ℕ → ℕ → ℕ) (s : Set) (l : List LogRecord) (v : ℕ → ℕ) → all (recordSound m lives held) l ≡ true
+undo-values : (m : ℕ) (lives : Set) (held : ℕ → ℕ → ℕ) (s : Set) (l : List LogRecord) (v : ℕ → ℕ) → all (recordSound m lives held) l ≡ true
     → ((e : ℕ) → valueSound m v e ≡ true) → (e : ℕ) → valueSound m (undo s l v) e ≡ true
 unfolding all undo
 undo-values m lives held s [] v a f = f
@@ -90,6 +90,10 @@ value-sound L W v f k = record {
   no-cycle = k .no-cycle;
   locks = k .locks;
 }
+
+-- log records undone
+pub undo-sound : (L : Limits) (W : Window) (s : Set) → Sound L W → Sound L (withValue W (undo s W.log W.value))
+undo-sound L W s k = value-sound L W (undo s W.log W.value) (undo-values W.entries (live W) W.held s W.log W.value (k .records) (k .values)) k
 
 -- one more record
 pub log-sound : (L : Limits) (W : Window) (r : LogRecord) → recordSound W.entries (live W) W.held r ≡ true → not (exceeds (suc (length W.log)) L.records) ≡ true

@@ -22,7 +22,7 @@ use Rattle.rules.proofs.SoundEnd.{end-sound}
 use Rattle.rules.proofs.SoundLock.{lock-sound}
 use Rattle.rules.proofs.SoundParts.{Blank, Sound, sound-parts, parts-sound, sound-blank, value-most, inside-of, live-at, live-of, ends-live}
 use Rattle.rules.proofs.SoundPermit.{permit-sound}
-use Rattle.rules.proofs.SoundPlain.{fresh-sound, value-put, undo-values, value-sound, log-sound, status-sound, start-sound}
+use Rattle.rules.proofs.SoundPlain.{fresh-sound, value-put, value-sound, undo-sound, log-sound, status-sound, start-sound}
 use Rattle.rules.proofs.TieLaws.{grouped-ends, falling-ends}
 
 -- no check of a list fails
@@ -123,7 +123,7 @@ module _ (L : Limits) (W : Window) (k : Sound L W) where
   unfolding checks _if_ effect abortChange done unchanged abortAll outside withValue live
   aborts c p = either L (eqb (W .status c) 5) _ _ (λ h. k) (λ h. either L (eqb (W .status c) 4) _ _ (λ q. k)
       (λ q. end-sound L (withValue W (undo (endSet W c) W.log W.value)) 5 (endSet W c) refl refl (fall-live c (live-of L W k c (p .0) q h))
-      (value-sound L W (undo (endSet W c) W.log W.value) (undo-values W.entries (live W) W.held (endSet W c) W.log W.value (k .records) (k .values)) k)))
+      (undo-sound L W (endSet W c) k)))
 
   effect-sound : (c : Call) → fits c ≡ true → Passed (checks L W c) → Sound L (effect W c .after)
   unfolding effect done checks _if_ running outside

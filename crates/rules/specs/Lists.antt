@@ -28,14 +28,10 @@ module _ {S : Type 0} (make : S → Call → Reply S) where
   history s p [] = p
   history s p (c ∷ l) = history (make s c .after) (remember (event s c) p) l
 
-  -- the answers with their second numbers, and what is left at the end
+  -- the answers with their second numbers
   unfoldable pub answers : S → List Call → List (ℕ × ℕ)
   answers s [] = []
   answers s (c ∷ l) = (make s c .answer, make s c .number) ∷ answers (make s c .after) l
-
-  unfoldable pub final : S → List Call → S
-  final s [] = s
-  final s (c ∷ l) = final (make s c .after) l
 
 -- "A change's status after any part of the list is the second number that a status call would give there"
 unfoldable pub status : List Event → ℕ → ℕ
@@ -92,7 +88,7 @@ unfoldable pub highest : List Event → ℕ
 highest [] = 0
 highest (e ∷ p) = highestAfter (action e) e.number (highest p)
 
--- a test of `Grouped`, of the numbers given (proofs/DemandGroups: it says the same)
+-- a test of `Grouped` (proofs/DemandGroups: it says the same)
 unfoldable pub isGrouped : List Event → ℕ → ℕ → Bool
 isGrouped p = reach (suc (highest p)) (λ a b. tieMade p 3 a b || tieMade p 3 b a)
 

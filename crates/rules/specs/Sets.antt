@@ -33,7 +33,7 @@ unfoldable pub times : ℕ → (Set → Set) → Set → Set
 times zero f s = s
 times (suc k) f s = times k f (f s)
 
--- the least set that holds s and is closed under r, of numbers below n (a transitive closure).
+-- the least set that holds s and is closed under r, of numbers below n (what is reachable from s).
 -- proofs/SetLaws shows that it holds s, is closed, and lies within every closed set that holds s; proofs/PathLaws says it by paths
 unfoldable pub closure : ℕ → Rel → Set → Set
 closure n r s = times n (grow n r) s

@@ -1,4 +1,5 @@
-// The script program: standard input is a script, standard output its listing. All that matters is in the crate listing.
+// The script program: standard input is a script, standard output its listing. What is printed is the crate listing's; that all of the input is read,
+// and what each piece prints written once and in order, rests on the loop here.
 use layout::Window;
 use libc::STDIN_FILENO;
 use libc::STDOUT_FILENO;
@@ -94,16 +95,16 @@ fn main() {
     flush(&out, used);
     let s = run(
         Stand {
-            held: 0,
-            place: 0,
-            over: false,
+            held: begun.held,
+            place: begun.place,
+            over: begun.over,
             used: 0,
         },
         &mut line,
         &mut memory,
         &mut out,
     );
-    let last = listing::finish(s, &mut line, &mut memory, &mut out);
+    let last = listing::finish(s, &line, &mut memory, &mut out);
     let left = last.used;
     flush(&out, left);
 }

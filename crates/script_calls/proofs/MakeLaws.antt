@@ -2,13 +2,13 @@
 use mathlib.Core.Path.{_≡_, refl}
 use mathlib.Core.Logic.{_≢_}
 use mathlib.Core.Bool.{Bool, true, false, cond, _&&_, _||_}
-use mathlib.Core.List.{List, [], _∷_}
+use mathlib.Core.List.{List, _∷_}
 use mathlib.Core.Option.{Option, none, some}
-use Prim.Native.Nat.{ℕ, zero, suc, _+_, _*_, _-_, _≤_, _<_}
+use Prim.Native.Nat.{ℕ, _+_, _*_, _-_, _≤_, _<_}
 use native.Mathlib.Omega.{arith}
 use borrow.Author.Tests.{ltb-true, leb-true, le-ltb, lt-leb, le-leb, ne-eqb}
 use lib.Dec.{eqb, ltb, leb}
-use lib.ListN.{length}
+use lib.ListN.{List·getD-eq-default}
 use Rattle.rules.specs.Calls.{Call}
 use Rattle.rules.specs.Base.{allBelow}
 use Rattle.rules.proofs.BaseLaws.{Below, under, over, below, allBelow-at}
@@ -71,16 +71,9 @@ made-asked (four f) a b c d = rw (le-leb (lastField b c d) 4 (last-most b c d))
 unfoldable pub fieldsRead : (call : ℕ) → ℕ
 fieldsRead k = fieldsOf (placed k readings)
 
-past-all : (k : ℕ) (rs : List Reads) → length rs < k → placed k rs ≡ nothing
-unfolding placed
-past-all k [] h = refl
-past-all zero (r ∷ rs) h = refl
-past-all (suc zero) (r ∷ rs) h = absurd (omega arith)
-past-all (suc (suc k)) (r ∷ rs) h = past-all (suc k) rs (omega arith)
-
 above-read : (k : ℕ) → 16 ≤ k → fieldsRead k ≡ 0
-unfolding fieldsRead fieldsOf readings
-above-read k h = rw (past-all k readings h)
+unfolding fieldsRead fieldsOf placed readings
+above-read k h = rw (List·getD-eq-default (nothing ∷ readings) nothing {n = k} h)
 
 most-read : (k : ℕ) → fieldsRead k ≤ 4
 unfolding fieldsRead fieldsOf

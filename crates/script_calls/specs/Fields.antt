@@ -2,8 +2,9 @@
 use mathlib.Core.Bool.{cond, _&&_}
 use mathlib.Core.List.{List, [], _∷_}
 use mathlib.Core.Option.{Option, none, some}
-use Prim.Native.Nat.{ℕ, zero, suc}
+use Prim.Native.Nat.{ℕ}
 use lib.Dec.{eqb}
+use lib.ListN.{getD}
 use Rattle.rules.specs.Calls.{Call, Open, Initiate, Begin, Complete, Lock, Read, Write, Permit, Delegate, Depend, Commit, Abort, Status, Parent, Value, Reply}
 use Rattle.layout.specs.Memory.{handBack, perform}
 
@@ -23,10 +24,7 @@ readings =
 
 -- at a place from 1; at 0, and past the end, nothing
 unfoldable pub placed : ℕ → List Reads → Reads
-placed k [] = nothing
-placed zero (r ∷ rs) = nothing
-placed (suc zero) (r ∷ rs) = r
-placed (suc (suc k)) (r ∷ rs) = placed (suc k) rs
+placed k rs = getD (nothing ∷ rs) k nothing
 
 -- "unused fields must be 0, or the line is broken"
 unfoldable pub made : Reads → (a b c d : ℕ) → Option Call

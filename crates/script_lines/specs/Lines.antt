@@ -18,7 +18,7 @@ names =
     ascii "open" ∷ ascii "initiate" ∷ ascii "begin" ∷ ascii "complete" ∷ ascii "lock" ∷ ascii "read" ∷ ascii "write" ∷ ascii "permit" ∷ ascii "delegate"
     ∷ ascii "depend" ∷ ascii "commit" ∷ ascii "abort" ∷ ascii "status" ∷ ascii "parent" ∷ ascii "value" ∷ []
 
--- the place of a text among others, from 1; 0 if it is not there
+-- the place of a text among others, of which the first has place k; 0 if it is not there
 unfoldable pub placeAmong : ℕ → List (List ℕ) → List ℕ → ℕ
 placeAmong k [] l = 0
 placeAmong k (n ∷ ns) l = cond (sameBytes l n) k (placeAmong (suc k) ns l)

@@ -1,14 +1,13 @@
 -- The locks: readers and writers of each entry, live and apart, and zeros. Assumes nothing.
 use mathlib.Core.Path.{_≡_, refl, sym, _∙_, ap}
-use mathlib.Core.Logic.{⊎-elim}
+use mathlib.Core.Logic.{_↔_, ⊎-elim}
 use mathlib.Core.Bool.{Bool, true, false, not, cond, _&&_, _||_, false≢true, and-false}
 use mathlib.Core.List.{List}
-use Prim.Native.Nat.{ℕ, zero, suc, _+_, _-_, _*_, _/_, _%_, _^_, _≤_, _<_}
+use Prim.Native.Nat.{ℕ, zero, suc, _+_, _*_, _/_, _%_, _^_, _≤_, _<_}
 use native.Mathlib.Omega.{arith}
 use lib.Dec.{leb, ltb, eqb}
 use lib.ListN.{getD, length}
 use borrow.Author.Tests.{not-true, not-false, eqb-true, lt-ltb, le-ltb, ltb-true}
-use Rattle.rules.specs.Base.{allBelow}
 use Rattle.rules.specs.Sets.{Set}
 use Rattle.rules.specs.Sound.{heldSound}
 use Rattle.rules.proofs.BaseLaws.{and-left, and-right, or-cases, no-true, allBelow-at, allBelow-intro, Same, same, other, same?, Below, under, over, below}
@@ -16,14 +15,13 @@ use Rattle.layout.specs.Codec.{bit, pack, unpack, lockByte, lockSection}
 use Rattle.layout.proofs.CodecLaws.{pack-most, pack-same, pack-none, unpack-pack}
 use Rattle.layout.proofs.SectionLaws.{Bytes, getD-table0, table-list}
 use Rattle.cells.specs.Bits.{bytesHave}
-use Rattle.cells.specs.Part.{byteIs}
 use Rattle.cells.proofs.Digits.{unpack-zero, unpack-ext}
-use Rattle.cells.proofs.ZeroLaws.{zeros-at, zeros-all}
+use Rattle.cells.proofs.ZeroLaws.{zeros-at, zeros-all, Tested}
 use Rattle.locks.proofs.BitLaws.{lockBits, lock-bits, bits-read}
-use Rattle.sections.specs.Cells.{reads, writes, lockFits, rowFits}
+use Rattle.sections.specs.Fits.{reads, writes, lockFits, rowFits}
 use Rattle.sections.specs.Sections.{LocksSound}
 
--- eight bits of a byte are the byte
+-- n bits of a number below 2 ^ n are the number
 pack-unpack : (n x : ℕ) → x < 2 ^ n → pack n (unpack x) ≡ x
 pack-unpack n x h = unpack-ext n (pack n (unpack x)) x (pack-most n (unpack x)) h (unpack-pack n (unpack x))
 
@@ -33,7 +31,7 @@ unfolding heldSound
 held-live {entries = entries} {lives = lives} s e c n = ⊎-elim (λ q. absurd (n (eqb-true (s .held e c) 0 q))) (λ q. (ltb-true e entries (and-left (ltb e entries) (lives c) q), and-right (ltb e entries) (lives c) q))
     (or-cases (eqb (s .held e c) 0) _ (and-right (leb (s .held e c) 2) _ (s .fine e c)))
 
--- a bit of an entry's is the lock
+-- a bit of an entry says whether the lock has its mode
 module _ {bs : List ℕ} {entries : ℕ} {lives : Set} (s : LocksSound bs entries lives) (e c : ℕ) (he : e < 256) (hc : c < 256) where
   bit-read : (m at : ℕ) → m < 2 → at ≡ e * 64 + m * 32 → bytesHave bs at c ≡ eqb (s .held e c) (suc m)
   unfolding lockBits
@@ -49,9 +47,8 @@ module _ {bs : List ℕ} {entries : ℕ} {lives : Set} (s : LocksSound bs entrie
 
 module _ (bs : List ℕ) (b : Bytes bs) (size : length bs ≡ 16384) (entries : ℕ) (lives : Set) (most : entries ≤ 256) where
   -- both tests
-  pub record LockTests : Type 0 where
-    pub fine : allBelow entries (rowFits bs lives) ≡ true
-    pub rest : allBelow (16384 - entries * 64) (byteIs bs (entries * 64) 0) ≡ true
+  abbrev LockTests : Type 0
+  LockTests = Tested entries (rowFits bs lives) bs (entries * 64) 16384
 
   heldAt : ℕ → ℕ → ℕ
   heldAt e c = cond (ltb e 256 && ltb c 256) (cond (writes bs e c) 2 (bit (reads bs e c))) 0
@@ -113,7 +110,7 @@ module _ (bs : List ℕ) (b : Bytes bs) (size : length bs ≡ 16384) (entries : 
       go : (i : ℕ) → i < 16384 → pack 8 (λ j. eqb (heldAt (i / 64) (i % 32 * 8 + j)) (suc (i % 64 / 32))) ≡ getD bs i 0
       go i h = pack-same 8 _ (unpack (getD bs i 0)) (λ j l. one i j h l) ∙ pack-unpack 8 (getD bs i 0) (b i)
 
-  pub locks-of : LockTests → LocksSound bs entries lives
+  locks-of : LockTests → LocksSound bs entries lives
   unfolding heldSound
   locks-of t = record { held = heldAt; bytes = locks-bytes t; fine = λ e c. fine e c (below e 256) (below c 256) }
     where
@@ -145,5 +142,5 @@ module _ (bs : List ℕ) (b : Bytes bs) (size : length bs ≡ 16384) (entries : 
         none-there : (e c m : ℕ) → entries ≤ e → 0 < m → eqb (s .held e c) m ≡ false
         none-there e c m q p = no-true (eqb (s .held e c) m) (λ x. let y : s .held e c ≡ m = eqb-true (s .held e c) m x in let z = held-live s e c (λ w. omega (arith, y, w, p)) .0 in omega arith)
 
-    pub of-locks : LockTests
-    of-locks = record { fine = allBelow-intro entries (rowFits bs lives) row-of; rest = zeros-all bs (entries * 64) 16384 rest-of }
+  pub locks-sound : LockTests ↔ LocksSound bs entries lives
+  locks-sound = (locks-of, λ s. record { fine = allBelow-intro entries (rowFits bs lives) (row-of s); rest = zeros-all bs (entries * 64) 16384 (rest-of s) })

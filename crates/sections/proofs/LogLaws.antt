@@ -1,13 +1,14 @@
 -- The log: records of owners that hold the write lock, and zeros. Assumes nothing.
 use mathlib.Core.Path.{_≡_, refl, sym, _∙_, ap}
+use mathlib.Core.Logic.{_↔_}
 use mathlib.Core.Bool.{true}
 use mathlib.Core.List.{List}
-use Prim.Native.Nat.{ℕ, zero, suc, _+_, _-_, _*_, _≤_, _<_}
+use Prim.Native.Nat.{ℕ, zero, suc, _+_, _*_, _≤_, _<_}
 use native.Mathlib.Omega.{arith}
 use lib.Dec.{eqb}
 use lib.ListN.{getD, length, replicate}
 use borrow.Author.Tests.{eqb-true, lt-ltb}
-use Rattle.rules.specs.Base.{allBelow, table}
+use Rattle.rules.specs.Base.{table}
 use Rattle.rules.specs.Sets.{Set}
 use Rattle.rules.specs.Window.{LogRecord}
 use Rattle.rules.specs.Sound.{recordSound}
@@ -17,9 +18,8 @@ use Rattle.rules.proofs.SoundParts.{record-parts}
 use Rattle.layout.specs.Codec.{byte, join4, recordIn, noRecord, recordBytes, logByte, logSection}
 use Rattle.layout.proofs.RecordLaws.{placed, place-at, places-again, places-rest, first-byte}
 use Rattle.layout.proofs.SectionLaws.{Bytes, length-table}
-use Rattle.cells.specs.Part.{byteIs}
-use Rattle.cells.proofs.ZeroLaws.{zeros-at, zeros-all}
-use Rattle.sections.specs.Cells.{writes, recordFits}
+use Rattle.cells.proofs.ZeroLaws.{zeros-at, zeros-all, Tested}
+use Rattle.sections.specs.Fits.{writes, recordFits}
 use Rattle.sections.specs.Sections.{LocksSound, LogSound}
 use Rattle.sections.proofs.ByteLaws.{join4-below, byte-join4}
 use Rattle.sections.proofs.LockLaws.{held-live, writes-held}
@@ -35,11 +35,6 @@ blank = refl
 
 module _ (bs : List ℕ) (b : Bytes bs) (size : length bs ≡ 12288) (n : ℕ) (fits : n ≤ 2048)
     (locks : List ℕ) (entries : ℕ) (lives : Set) (z : LocksSound locks entries lives) where
-  -- both tests
-  pub record LogTests : Type 0 where
-    pub fine : allBelow n (recordFits bs locks) ≡ true
-    pub rest : allBelow (12288 - n * 6) (byteIs bs (n * 6) 0) ≡ true
-
   -- the record at a place has the bytes of the place
   whole : (j k : ℕ) → k < 6 → getD (recordBytes (recordAt bs j)) k 0 ≡ getD bs (j * 6 + k) 0
   unfolding recordBytes
@@ -61,13 +56,13 @@ module _ (bs : List ℕ) (b : Bytes bs) (size : length bs ≡ 12288) (n : ℕ) (
       let l = held-live z e o (λ none. omega (arith, two, none)) in
       rw (l .1, lt-ltb e entries (l .0), lt-ltb (join4 (λ k. getD bs (j * 6 + (k + 2)) 0)) 4294967296 (join4-below (λ k. getD bs (j * 6 + (k + 2)) 0) (λ k. b (j * 6 + (k + 2)))), w)
 
-  pub log-of : LogTests → LogSound bs n entries lives (z .held)
+  log-of : Tested n (recordFits bs locks) bs (n * 6) 12288 → LogSound bs n entries lives (z .held)
   unfolding logSection logByte placed
   log-of t = record {
     log = table n 0 (recordAt bs);
     size = length-table n 0 (recordAt bs);
     bytes = places-again 6 (omega arith) recordBytes noRecord 2048 blank n bs (recordAt bs) size (λ j k h l. whole j k l) (zeros-at bs (n * 6) 12288 (t .rest));
-    fine = all-table (recordSound entries lives (z .held)) (recordAt bs) n 0 (λ j h l. record-fine j (allBelow-at n (recordFits bs locks) (t .fine) j (omega arith)));
+    fine = all-table (recordSound entries lives (z .held)) (recordAt bs) n 0 (λ j l. record-fine j (allBelow-at n (recordFits bs locks) (t .fine) j (omega arith)));
   }
 
   module _ (s : LogSound bs n entries lives (z .held)) where
@@ -89,5 +84,5 @@ module _ (bs : List ℕ) (b : Bytes bs) (size : length bs ≡ 12288) (n : ℕ) (
     unfolding logSection logByte placed
     rest-of = places-rest 6 (omega arith) recordBytes noRecord 2048 blank n bs (s .log) (s .size) (s .bytes)
 
-    pub of-log : LogTests
-    of-log = record { fine = allBelow-intro n (recordFits bs locks) fits-of; rest = zeros-all bs (n * 6) 12288 rest-of }
+  pub log-sound : Tested n (recordFits bs locks) bs (n * 6) 12288 ↔ LogSound bs n entries lives (z .held)
+  log-sound = (log-of, λ s. record { fine = allBelow-intro n (recordFits bs locks) (fits-of s); rest = zeros-all bs (n * 6) 12288 (rest-of s) })

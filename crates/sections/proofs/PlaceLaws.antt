@@ -13,7 +13,7 @@ use Rattle.rules.specs.Sound.{valueSound}
 use Rattle.rules.proofs.BaseLaws.{Below, under, over, below}
 use Rattle.rules.proofs.SoundParts.{no-value}
 use Rattle.layout.specs.Codec.{byte, join4, valueByte, lineByte, valueSection, lineSection}
-use Rattle.layout.proofs.CodecLaws.{byte-zero}
+use Rattle.layout.proofs.CodecLaws.{byte-zero, join4-same}
 use Rattle.layout.proofs.RecordLaws.{by-cells}
 use Rattle.layout.proofs.SectionLaws.{Bytes, getD-table0, table-list}
 use Rattle.cells.specs.Part.{byteIs}
@@ -22,10 +22,10 @@ use Rattle.cells.proofs.NumLaws.{le-byte}
 use Rattle.cells.proofs.ZeroLaws.{zeros-at, zeros-all}
 use Rattle.places.proofs.TableLaws.{value-places}
 use Rattle.sections.specs.Sections.{ValuesSound}
-use Rattle.sections.proofs.ByteLaws.{join4-below, byte-join4, join4-zero}
+use Rattle.sections.proofs.ByteLaws.{join4-below, byte-join4}
 
 -- VALUES
-module _ (bs : List ℕ) (b : Bytes bs) (size : length bs ≡ 1024) (entries : ℕ) (most : entries ≤ 256) where
+module _ (bs : List ℕ) (b : Bytes bs) (size : length bs ≡ 1024) (entries : ℕ) where
   valueAt : ℕ → ℕ
   valueAt e = cond (ltb e 256) (join4 (λ k. getD bs (e * 4 + k) 0)) 0
 
@@ -39,7 +39,7 @@ module _ (bs : List ℕ) (b : Bytes bs) (size : length bs ≡ 1024) (entries : �
   values-fine z e = go (below e 256) (below e entries)
     where
       rest : (x : ℕ) → entries ≤ x → x < 256 → join4 (λ k. getD bs (x * 4 + k) 0) ≡ 0
-      rest x h t = join4-zero (λ k. getD bs (x * 4 + k) 0) (λ k u. zeros-at bs (entries * 4) 1024 z (x * 4 + k) (omega arith) (omega arith))
+      rest x h t = unfold join4 in join4-same (λ k. getD bs (x * 4 + k) 0) (λ _. 0) (λ k u. zeros-at bs (entries * 4) 1024 z (x * 4 + k) (omega arith) (omega arith))
 
       go : {p q : Bool} → Below e 256 p → Below e entries q
           → ltb (cond p (join4 (λ k. getD bs (e * 4 + k) 0)) 0) (2 ^ 32) && (q || eqb (cond p (join4 (λ k. getD bs (e * 4 + k) 0)) 0) 0) ≡ true

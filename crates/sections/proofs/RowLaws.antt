@@ -17,7 +17,7 @@ use Rattle.sets.specs.Members.{stored}
 use Rattle.rules.proofs.BoundLaws.{all-ext, none-as}
 use Rattle.sets.proofs.GatherLaws.{Gathered, gathered-more, gathered-all}
 use Rattle.sets.proofs.Bytes.{stored-have}
-use Rattle.sections.specs.Cells.{reads, writes, lockFits, rowFits}
+use Rattle.sections.specs.Fits.{reads, writes, lockFits, rowFits}
 
 -- a change whose locks on an entry do not fit
 unfoldable pub misfits : List ℕ → Set → ℕ → Set

@@ -20,7 +20,7 @@ ghost use Rattle.rules.specs.Sets.{Set};
 ghost use Rattle.layout.specs.Codec.{headSize, valuesSize, changesSize, lineSize, locksSize, logSize, lineSection};
 ghost use Rattle.cells.specs.Bits.{bytesHave};
 ghost use Rattle.sets.specs.Members.{members};
-ghost use Rattle.sections.specs.Cells.{changeFits, nextFits, writes, rowFits, recordFits};
+ghost use Rattle.sections.specs.Fits.{changeFits, nextFits, writes, rowFits, recordFits};
 ghost use Rattle.sections.specs.Sections.{HeadSound, ValuesSound, ChangesSound, LocksSound, LogSound};
 
 // Every figure is in its range, and the rest of the header is 0.

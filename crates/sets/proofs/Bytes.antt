@@ -12,14 +12,13 @@ use lib.Pow.{pow-pos}
 use Rattle.rules.specs.Base.{table}
 use Rattle.rules.specs.Sets.{Set}
 use Rattle.layout.specs.Codec.{byte, pack, unpack}
-use Rattle.layout.proofs.SectionLaws.{length-table, getD-table0}
+use Rattle.layout.proofs.SectionLaws.{length-table, getD-table0, table-same}
 use Rattle.layout.proofs.RecordLaws.{table-append}
 use Rattle.layout.proofs.CodecLaws.{pack-most, unpack-pack}
 use Rattle.cells.specs.Part.{patch}
 use Rattle.cells.specs.Num.{le}
 use Rattle.cells.specs.Bits.{bytesHave}
 use Rattle.cells.proofs.PartLaws.{patch-append, getD-patch}
-use Rattle.cells.proofs.TableLaws.{table-same}
 use Rattle.cells.proofs.NumLaws.{length-le, le-bytes}
 use Rattle.cells.proofs.Digits.{unpack-ext}
 use Rattle.cells.proofs.WordLaws.{unpack-byte}
@@ -77,7 +76,7 @@ byte-word s i = unpack-ext 8 (byte (i % 8) (getD (s .words) (i / 8) 0)) (pack 8 
     digit b = members s (i * 8 + b)
 
 -- how many bytes there are, and each
-pub length-bytes : (s : Set) → length (setBytes s) ≡ 32
+length-bytes : (s : Set) → length (setBytes s) ≡ 32
 unfolding setBytes
 length-bytes s = length-table 32 0 (setByte s)
 

@@ -14,6 +14,7 @@ use Rattle.rules.specs.Window.{TieRecord}
 use Rattle.rules.specs.Ties.{isWait, isFall, isGroup, isArrow, tied, grouped, falling, leading}
 use Rattle.rules.proofs.BaseLaws.{or-left, or-right, or-cases, both-ways, count-same, count-le, Below, under, over, below, Same, same, other, same?}
 use Rattle.rules.proofs.SetLaws.{closure-holds, closure-closed, closure-to}
+use Rattle.rules.proofs.TieLaws.{tied-kinds}
 use Rattle.layout.specs.Codec.{noTie, tieSection}
 use Rattle.layout.specs.Records.{tieAt}
 use Rattle.layout.proofs.ReadLaws.{Stands, tied-place, tied-at, section-read, section-ends}
@@ -96,24 +97,20 @@ module _ (ts : List TieRecord) where
   unfolding grouped
   relation-back along j h e = by-group along _ _ (or-right (tied ts isGroup (getD ts j noTie .follower) (getD ts j noTie .leader)) _ (tied-at ts isGroup j h e))
 
-  -- a tie of a kind is one of any wider kind
-  on-kind : {f g : ℕ → Bool} {a b : ℕ} → ((k : ℕ) → f k ≡ true → g k ≡ true) → Stands ts f a b → Stands ts g a b
-  on-kind w m = record { place = m .place; below = m .below; has = w _ (m .has); leads = m .leads; follow = m .follow }
-
   -- a step of the relation, by the place of its tie
   abbrev Step : Along → ℕ → ℕ → Type 0
   Step along a b = Stands ts (follows (lowKind along)) a b ⊎ Stands ts isGroup b a
 
   group-step : (along : Along) (a b : ℕ) → grouped ts a b ≡ true → Step along a b
   unfolding grouped
-  group-step along a b e = ⊎-elim (λ q. inl (on-kind (group-follows along) (tied-place ts isGroup a b q))) (λ q. inr (tied-place ts isGroup b a q)) (or-cases (tied ts isGroup a b) (tied ts isGroup b a) e)
+  group-step along a b e = ⊎-elim (λ q. inl (tied-place ts _ a b (tied-kinds isGroup _ (group-follows along) ts a b q))) (λ q. inr (tied-place ts isGroup b a q)) (or-cases (tied ts isGroup a b) (tied ts isGroup b a) e)
 
   -- each step of the relation is one
   relation-step : (along : Along) (a b : ℕ) → relation along ts a b ≡ true → Step along a b
   unfolding relation falling leading
   relation-step Groups a b e = group-step Groups a b e
-  relation-step Falls a b e = ⊎-elim (group-step Falls a b) (λ q. inl (on-kind fall-follows (tied-place ts isFall a b q))) (or-cases (grouped ts a b) (tied ts isFall a b) e)
-  relation-step Arrows a b e = ⊎-elim (group-step Arrows a b) (λ q. inl (on-kind arrow-follows (tied-place ts isArrow a b q))) (or-cases (grouped ts a b) (tied ts isArrow a b) e)
+  relation-step Falls a b e = ⊎-elim (group-step Falls a b) (λ q. inl (tied-place ts _ a b (tied-kinds isFall _ fall-follows ts a b q))) (or-cases (grouped ts a b) (tied ts isFall a b) e)
+  relation-step Arrows a b e = ⊎-elim (group-step Arrows a b) (λ q. inl (tied-place ts _ a b (tied-kinds isArrow _ arrow-follows ts a b q))) (or-cases (grouped ts a b) (tied ts isArrow a b) e)
 
   -- the least stable set that holds the seed is the closure, where the ends are below the bound
   module _ (m : ℕ) (along : Along) (ends : (j : ℕ) → j < length ts → (getD ts j noTie .leader < m) × (getD ts j noTie .follower < m)) (seed r : Set)

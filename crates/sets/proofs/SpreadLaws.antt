@@ -92,7 +92,7 @@ module _ (rows : List ℕ) (seed s left : Set) (c : ℕ) (g : Spreading rows see
   left-not : (k : ℕ) → s k ≡ true → not (eqb k c) && left k ≡ false → left′ k ≡ false
   left-not k p q = el k ∙ rw (rest-without left c (g .lowest) rest et k ∙ q, ef k, p, and-false (row k))
 
-  pub spreading-on : (c′ : ℕ) → c′ ≡ lowestBelow 256 left′ → Spreading rows seed s′ left′ c′
+  spreading-on : (c′ : ℕ) → c′ ≡ lowestBelow 256 left′ → Spreading rows seed s′ left′ c′
   spreading-on c′ e = record {
     holds = λ k q. keeps k (g .holds k q);
     least = λ u z w k q. ⊎-elim (g .least u z w k) (λ r. z c k (g .least u z w c (g .inside c here)) (sym (er k) ∙ r)) (or-cases (s k) (row k) (sym (es k) ∙ q));
@@ -113,7 +113,7 @@ module _ (rows : List ℕ) (seed s left : Set) (c : ℕ) (g : Spreading rows see
           go false m t = absurd (false≢true (sym q ∙ el a ∙ or-right (rest a) (fresh a) (ef a ∙ rw (t, m))))
 
   -- and more rows have been taken in, which leaves fewer of the 256
-  pub spreading-less : 256 - countBelow 256 (λ k. s′ k && not (left′ k)) < 256 - countBelow 256 (λ k. s k && not (left k))
+  spreading-less : 256 - countBelow 256 (λ k. s′ k && not (left′ k)) < 256 - countBelow 256 (λ k. s k && not (left k))
   spreading-less = omega (
     arith,
     count-le 256 (λ k. s′ k && not (left′ k)),
@@ -124,6 +124,10 @@ module _ (rows : List ℕ) (seed s left : Set) (c : ℕ) (g : Spreading rows see
       more k h q =
           let p = and-left (s k) (not (left k)) q in
           rw (keeps k p, left-not k p (rw (not-true (left k) (and-right (s k) (not (left k)) q), and-false (not (eqb k c)))))
+
+  -- a turn
+  pub spreading-turn : (c′ : ℕ) → c′ ≡ lowestBelow 256 left′ → (256 - countBelow 256 (λ k. s′ k && not (left′ k)) < 256 - countBelow 256 (λ k. s k && not (left k))) × Spreading rows seed s′ left′ c′
+  spreading-turn c′ e = (spreading-less, spreading-on c′ e)
 
 pub spreading-end : (rows : List ℕ) (seed s left : Set) (c : ℕ) → Spreading rows seed s left c → 256 ≤ c → ((k : ℕ) → 256 ≤ k → s k ≡ false) → Spread rows seed s
 spreading-end rows seed s left c g h above = record { holds = g .holds; closed = λ a b p r. g .done a b p (nobody a p (decLt a 256)) r; least = g .least }

@@ -1,7 +1,7 @@
 -- A walk over the members of a set of changes, the lowest first. Assumes nothing.
 use mathlib.Core.Path.{_≡_, refl, sym, _∙_}
 use mathlib.Core.Bool.{Bool, true, false, not, _&&_, false≢true}
-use Prim.Native.Nat.{ℕ, _≤_, _<_}
+use Prim.Native.Nat.{ℕ, _-_, _≤_, _<_}
 use native.Mathlib.Decide.{decLt}
 use native.Mathlib.Omega.{arith}
 use lib.Dec.{eqb}
@@ -26,7 +26,7 @@ rest-without left a low left′ e k = e k ∙ rw (lowest-is left 256 a (low .wit
 -- the walk goes on without a: `left` are those still to come
 module _ (left : Set) (a : ℕ) (low : Lowest left a) (left′ : Set) (without : (k : ℕ) → left′ k ≡ not (eqb k a) && left k) where
   -- nobody up to a is to come
-  pub gone : (k : ℕ) → k ≤ a → left′ k ≡ false
+  gone : (k : ℕ) → k ≤ a → left′ k ≡ false
   gone k h = without k ∙ go (same? k a)
     where
       go : {b : Bool} → Same k a b → not b && left k ≡ false
@@ -40,3 +40,7 @@ module _ (left : Set) (a : ℕ) (low : Lowest left a) (left′ : Set) (without :
       go : Dec (a < a′) → a < a′
       go (yes h) = h
       go (no h) = absurd (false≢true (sym (gone a′ (omega arith)) ∙ next .hit (omega arith)))
+
+-- what is left of 256 falls from a turn to the next
+pub walk-less : (left : Set) (a : ℕ) → Lowest left a → a < 256 → (left′ : Set) → ((k : ℕ) → left′ k ≡ not (eqb k (lowestBelow 256 left)) && left k) → (a′ : ℕ) → a′ ≡ lowestBelow 256 left′ → 256 - a′ < 256 - a
+walk-less left a low h left′ e a′ l = omega (arith, lowest-rises left a low left′ (rest-without left a low left′ e) h a′ (lowest-of left′ a′ l))

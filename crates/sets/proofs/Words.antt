@@ -4,6 +4,7 @@ use mathlib.Core.Bool.{Bool, true, false, cond}
 use mathlib.Core.List.{List, [], _∷_}
 use Prim.Native.Nat.{ℕ, zero, suc, _+_, _-_, _*_, _/_, _%_, _^_, _<_}
 use native.Mathlib.Decide.{decLt}
+use native.Mathlib.Numerals.{one-add}
 use native.Mathlib.Omega.{arith}
 use borrow.Author.Count.{below-none, below-more}
 use lib.Bits.{bitOr, bitXor, xor-add-and, and-le-l, and-le-r}
@@ -89,17 +90,11 @@ low-at s i h fits p z = (omega (arith, hit .0), place s i (trailingZeros 64 w) (
 -- how many of the numbers below a bound pass, the first counted apart
 count-first : (p : ℕ → Bool) (n : ℕ) → countBelow (suc n) p ≡ bit (p 0) + countBelow n (λ k. p (suc k))
 unfolding countBelow
-count-first p zero = go (p 0)
+count-first p n = ap (λ (m : ℕ). countBelow m p) (sym (one-add n)) ∙ count-add p 1 n ∙ ap₂ _+_ (go (p 0)) (count-ext _ _ n (λ k l. ap p (one-add k)))
   where
-    go : (b : Bool) → cond b 1 0 ≡ bit b + 0
+    go : (b : Bool) → cond b 1 0 ≡ bit b
     go true = refl
     go false = refl
-count-first p (suc n) = go (p (suc n)) (count-first p n)
-  where
-    go : (b : Bool) → countBelow (suc n) p ≡ bit (p 0) + countBelow n (λ k. p (suc k))
-        → cond b (suc (countBelow (suc n) p)) (countBelow (suc n) p) ≡ bit (p 0) + cond b (suc (countBelow n (λ k. p (suc k)))) (countBelow n (λ k. p (suc k)))
-    go true e = omega arith
-    go false e = e
 
 -- the ones of a word are its digits that are set
 ones-count : (n w : ℕ) → w < 2 ^ n → ones w ≡ countBelow n (unpack w)

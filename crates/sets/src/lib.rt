@@ -23,7 +23,7 @@ ghost use Rattle.sets.specs.Closure.{relation, lowKind, Spread};
 // From so many ties on a closure notes them in rows.
 const FEW: usize = 32;
 
-// A set of change numbers: bit c % 64 of word c / 64 says whether c is a member.
+// A set of change numbers (a bit set): bit c % 64 of word c / 64 says whether c is a member.
 pub struct ChangeSet {
     pub words: [u64; 4],
 }

@@ -31,34 +31,33 @@ Decided bs entries permits ties records m r = (z : LocksSound (part bs locksAt l
 abbrev Says : List ℕ → ℕ → ℕ → ℕ → Bool → Type 0
 Says bs entries permits ties r = (w : Window) → Listed bs entries permits ties w → r ≡ acyclic (suc (w .given)) (w .ties) && clashesPermitted w
 
-module _ (bs : List ℕ) where
-  module _ (f : Figures) (read : (h : HeadSound (part bs headAt headSize)) → AreFigures h f) (s : soundBytes bs ≡ true) where
-    figures-known : AreFigures (head-known bs s) f
-    figures-known = read (head-known bs s)
+module _ (bs : List ℕ) (f : Figures) (read : (h : HeadSound (part bs headAt headSize)) → AreFigures h f) (s : soundBytes bs ≡ true) where
+  figures-known : AreFigures (head-known bs s) f
+  figures-known = read (head-known bs s)
 
-    pub changes-asked : ChangesSound (part bs changesAt changesSize) (f .given)
+  pub changes-asked : ChangesSound (part bs changesAt changesSize) (f .given)
+  unfolding head-known
+  changes-asked = rw (figures-known .given) (changes-known bs s)
+
+  module _ (m : Set) (live : Lives bs (f .given) m) where
+    members-known : m ≡ lives (W bs s .given) (W bs s .status)
+    unfolding head-known changes-known
+    members-known = fun-ext (λ k. live _ _ (changes-known bs s .bytes) k ∙ ap (λ g. lives g (W bs s .status) k) (figures-known .given))
+
+    pub front-asked : FrontSound bs (f .entries) m
     unfolding head-known
-    changes-asked = rw (figures-known .given) (changes-known bs s)
+    front-asked = rw (figures-known .entries, members-known) (front-known bs s)
 
-    module _ (m : Set) (live : Lives bs (f .given) m) where
-      members-known : m ≡ lives (W bs s .given) (W bs s .status)
-      unfolding head-known changes-known
-      members-known = fun-ext (λ k. live _ _ (changes-known bs s .bytes) k ∙ ap (λ g. lives g (W bs s .status) k) (figures-known .given))
+    pub back-asked : (r : Bool) → Decided bs (f .entries) (f .permits) (f .ties) (f .records) m r → r ≡ true
+    unfolding head-known front-known
+    back-asked r d =
+        let k = W bs s in
+        let d′ : Decided bs (k .entries) (length (k .permits)) (length (k .ties)) (length (k .log)) (lives (k .given) (k .status)) r = rw (figures-known .entries, figures-known .permits, figures-known .ties, figures-known .records, members-known) at d in
+        d′ (front-known bs s .locks) .1 (back-known bs s)
 
-      pub front-asked : FrontSound bs (f .entries) m
-      unfolding head-known
-      front-asked = rw (figures-known .entries, members-known) (front-known bs s)
-
-      pub back-asked : (r : Bool) → Decided bs (f .entries) (f .permits) (f .ties) (f .records) m r → r ≡ true
-      unfolding head-known front-known
-      back-asked r d =
-          let k = W bs s in
-          let d′ : Decided bs (k .entries) (length (k .permits)) (length (k .ties)) (length (k .log)) (lives (k .given) (k .status)) r = rw (figures-known .entries, figures-known .permits, figures-known .ties, figures-known .records, members-known) at d in
-          d′ (front-known bs s .locks) .1 (back-known bs s)
-
-    pub related-asked : (r : Bool) → Says bs (f .entries) (f .permits) (f .ties) r → r ≡ true
-    unfolding head-known
-    related-asked r d = d (W bs s) (rw (figures-known .entries, figures-known .permits, figures-known .ties) (listed-known bs s)) ∙ relations-known bs s
+  pub related-asked : (r : Bool) → Says bs (f .entries) (f .permits) (f .ties) r → r ≡ true
+  unfolding head-known
+  related-asked r d = d (W bs s) (rw (figures-known .entries, figures-known .permits, figures-known .ties) (listed-known bs s)) ∙ relations-known bs s
 
 module _ (bs : List ℕ) (size : length bs ≡ windowSize) (h : HeadSound (part bs headAt headSize)) where
   -- all passed: the sections are sound, and the last two tests say so

@@ -20,14 +20,14 @@ pub record FrontSound (bs : List ℕ) (entries : ℕ) (live : Set) : Type 0 wher
   pub locks : LocksSound (part bs locksAt locksSize) entries live
 
 -- the permits, the ties and the log
-pub record BackSound (bs : List ℕ) (entries permitted tied written : ℕ) (live : Set) (held : ℕ → ℕ → ℕ) : Type 0 where
-  pub permits : PermitsSound (part bs permitsAt permitsSize) permitted entries live
-  pub ties : TiesSound (part bs tiesAt tiesSize) tied live
-  pub log : LogSound (part bs logAt logSize) written entries live held
+pub record BackSound (bs : List ℕ) (entries permit-count tie-count record-count : ℕ) (live : Set) (held : ℕ → ℕ → ℕ) : Type 0 where
+  pub permits : PermitsSound (part bs permitsAt permitsSize) permit-count entries live
+  pub ties : TiesSound (part bs tiesAt tiesSize) tie-count live
+  pub log : LogSound (part bs logAt logSize) record-count entries live held
 
 -- a window whose locks, permits and ties are in the bytes: locks in range, permits in order, ties between changes that were given
-pub record Listed (bs : List ℕ) (entries permitted tied : ℕ) (W : Window) : Type 0 where
-  pub held : LocksAndPermits (part bs locksAt locksSize) (part bs permitsAt permitsSize) entries permitted W
+pub record Listed (bs : List ℕ) (entries permits ties : ℕ) (W : Window) : Type 0 where
+  pub held : LocksAndPermits (part bs locksAt locksSize) (part bs permitsAt permitsSize) entries permits W
   pub tie-bytes : part bs tiesAt tiesSize ≡ tieSection (W .ties)
-  pub tie-count : length (W .ties) ≡ tied
+  pub tie-count : length (W .ties) ≡ ties
   pub ends : endsBelow (suc (W .given)) (W .ties) ≡ true

@@ -27,11 +27,11 @@ ghost use Rattle.soundness.specs.Read.{AreFigures};
 
 // The figures of a header.
 struct Figures {
-    pub entries: usize,
-    pub given: usize,
-    pub records: usize,
-    pub permits: usize,
-    pub ties: usize,
+    entries: usize,
+    given: usize,
+    records: usize,
+    permits: usize,
+    ties: usize,
 }
 
 // The figures of a window.

@@ -16,13 +16,12 @@ use Rattle.text.specs.Decimal.{isDigit, valueAfter, leadingZero, isNumbe
 
 -- READING: i bytes of l have been read, all of them digits that say v
 pub record Reading (l : List ℕ) (v i : ℕ) : Type 0 where
-  pub within : i ≤ length l
   pub digits : all isDigit (drop i l) ≡ all isDigit l
   pub value : valueAfter v (drop i l) ≡ valueAfter 0 l
   pub small : v < 10 ^ i
 
 pub reading-none : (l : List ℕ) → Reading l 0 0
-reading-none l = record { within = omega arith; digits = refl; value = refl; small = rw pow-zero (omega arith) }
+reading-none l = record { digits = refl; value = refl; small = rw pow-zero (omega arith) }
 
 -- digits with one more to come are nine at most, so below 1,000,000,000
 pub reading-room : {l : List ℕ} {v i : ℕ} → Reading l v i → i < length l → length l ≤ 10 → v < 1000000000
@@ -48,7 +47,6 @@ pub reading-next : {l : List ℕ} {v i : ℕ} → Reading l v i → i < length l
 unfolding all valueAfter isDigit
 reading-next {l} {v} {i} r h a b =
     record {
-      within = omega (arith, h);
       digits = sym (rw (add-one i, ← r .digits, drop-cons l i 0 h, le-leb 48 (getD l i 0) a, le-leb (getD l i 0) 57 b) refl);
       value = sym (rw (add-one i, ← r .value, drop-cons l i 0 h) refl);
       small = rw (add-one i, pow-suc) (omega (arith, r .small));
@@ -86,7 +84,7 @@ leading (x ∷ l) h e = rw (eq-eqb x 48 e, ne-eqb (length l) 0 (λ z. omega (ari
 pub number-zero : (l : List ℕ) → 1 < length l → getD l 0 0 ≡ 48 → number l ≡ noNumber
 number-zero l h z = none l (λ e. false≢true (sym (not-true (leadingZero l) (parts l e .3)) ∙ leading l h z))
 
--- none
+-- no leading zero
 pub not-leading : (l : List ℕ) → (1 < length l → getD l 0 0 ≡ 48 → ⊥) → leadingZero l ≡ false
 unfolding leadingZero
 not-leading [] f = refl

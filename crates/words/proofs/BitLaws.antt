@@ -3,18 +3,16 @@ use mathlib.Core.Path.{_≡_, refl, sym, ap, _∙_}
 use mathlib.Core.Bool.{Bool, false, not, _&&_, _||_, and-comm, or-comm}
 use mathlib.Core.List.{List, [], _∷_}
 use Prim.Native.Nat.{ℕ, zero, suc, _+_, _-_, _*_, _/_, _%_, _^_, _<_}
-use native.Mathlib.Nat.{mod-eq-of-lt, one-mul}
 use native.Mathlib.Decide.{ℕ-discrete}
 use native.Mathlib.Omega.{arith}
 use borrow.Author.Tests.{ne-eqb}
 use lib.Bits.{bitAnd, bitOr}
 use lib.Dec.{eqb}
 use lib.ListN.{length, getD, set, List·getD-eq-default}
-use lib.Pow.{pow-lt}
 use lib.Seq.{getD-set-same, getD-set-other}
 use Rattle.rules.proofs.BaseLaws.{eqb-iff}
 use Rattle.layout.specs.Codec.{unpack}
-use Rattle.cells.proofs.Digits.{unpack-zero, unpack-power, unpack-or, unpack-and, unpack-not}
+use Rattle.cells.proofs.Digits.{unpack-zero, unpack-one, unpack-or, unpack-and, unpack-not}
 use Rattle.words.specs.Members.{wordsHave, FourWords}
 
 -- two lists of four words joined word by word: P of the two old digits
@@ -37,10 +35,7 @@ words-joined f P nothing a b la lb each k = go (k / 64) (k % 64) (omega arith)
 
 -- `1 << (c % 64)` is the word of c alone that has its digit
 pub bit-here : (c i j : ℕ) → c / 64 ≡ i → j < 64 → unpack ((1 * 2 ^ (c % 64)) % 2 ^ 64) j ≡ eqb (64 * i + j) c
-bit-here c i j e h =
-    let l : c % 64 < 64 = omega arith in
-    ap (λ (x : ℕ). unpack x j) (ap (λ (x : ℕ). x % 2 ^ 64) (one-mul (2 ^ (c % 64))) ∙ mod-eq-of-lt (pow-lt l))
-    ∙ unpack-power (c % 64) j ∙ eqb-iff j (c % 64) (64 * i + j) c (λ q. omega arith) (λ q. omega arith)
+bit-here c i j e h = unpack-one (c % 64) j h ∙ eqb-iff j (c % 64) (64 * i + j) c (λ q. omega arith) (λ q. omega arith)
 
 -- the others are 0
 pub bit-elsewhere : (c i j : ℕ) → (c / 64 ≡ i → ⊥) → j < 64 → unpack 0 j ≡ eqb (64 * i + j) c
@@ -51,10 +46,8 @@ pub word-minus : (a b : ℕ) → b < 2 ^ 64 → (j : ℕ) → j < 64 → unpack 
 word-minus a b h j l = unpack-and a (2 ^ 64 - 1 - b) j ∙ ap (λ (t : Bool). unpack a j && t) (unpack-not 64 b j h l)
 
 -- `a & !(1 << t)` is a without digit t
-pub word-without : (a t : ℕ) → t < 64 → (j : ℕ) → j < 64 → unpack (bitAnd a (2 ^ 64 - 1 - (1 * 2 ^ t) % 2 ^ 64)) j ≡ not (eqb j t) && unpack a j
-word-without a t h j l =
-    let e : (1 * 2 ^ t) % 2 ^ 64 ≡ 2 ^ t = ap (λ (x : ℕ). x % 2 ^ 64) (one-mul (2 ^ t)) ∙ mod-eq-of-lt (pow-lt h) in
-    rw e (word-minus a (2 ^ t) (pow-lt h) j l ∙ and-comm (unpack a j) _ ∙ rw (unpack-power t j))
+pub word-without : (a t j : ℕ) → j < 64 → unpack (bitAnd a (2 ^ 64 - 1 - (1 * 2 ^ t) % 2 ^ 64)) j ≡ not (eqb j t) && unpack a j
+word-without a t j l = word-minus a ((1 * 2 ^ t) % 2 ^ 64) (omega arith) j l ∙ and-comm (unpack a j) _ ∙ ap (λ (b : Bool). not b && unpack a j) (unpack-one t j l)
 
 -- the word of c in place of the old one: where its digits are P of whether they are c's and of the old digits, so are the members
 word-changed : (P : Bool → Bool → Bool) → ((b : Bool) → P false b ≡ b) → (ws : List ℕ) (c w : ℕ) → c / 64 < length ws

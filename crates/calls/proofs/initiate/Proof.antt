@@ -3,7 +3,7 @@ use mathlib.Core.Path.{refl, sym, _∙_}
 use Rattle.rules.specs.Calls.{Initiate}
 use Rattle.rules.specs.Events.{actionOf, isOpening, isOpen}
 use Rattle.replies.proofs.GiveLaws.{unsound, on-memory}
-use Rattle.calls.proofs.LentLaws.{lent-room, lent-size, lent-sound}
+use Rattle.calls.proofs.LentLaws.{lent-room, lent-window}
 use borrow.Author.Needs.{needs}
 use borrow.Author.Tests.{not-true, not-false}
 use Rattle.calls.proofs.initiate.Statement.{statement}
@@ -16,7 +16,7 @@ part-initiate-end : tie.Need-part-initiate-end
 part-initiate-end c = lent-room (c .before .before .before .before .args .memory .now) (sym (c .before .sound-memory .ensures) ∙ not-false _ (c .if1 .left))
 
 initiate-requires : tie.Need-initiate-requires
-initiate-requires c κs = (lent-size (c .before .before .before .before .before .args .memory .now) (sym (c .before .before .sound-memory .ensures) ∙ not-false _ (c .before .if1 .left)), lent-sound (c .before .before .before .before .before .args .memory .now) (sym (c .before .before .sound-memory .ensures) ∙ not-false _ (c .before .if1 .left)))
+initiate-requires c κs = lent-window (c .before .before .before .before .before .args .memory .now) (sym (c .before .before .sound-memory .ensures) ∙ not-false _ (c .before .if1 .left))
 
 returns-2 : tie.Need-returns-2
 returns-2 c = on-memory (c .before .before .before .before .before .before .before .before .args .memory .now) (Initiate (c .before .before .before .before .before .before .before .before .args .parent)) (sym (c .before .before .before .before .before .sound-memory .ensures) ∙ not-false _ (c .before .before .before .before .if1 .left)) _ _ (c .before .before .initiate .ensures)

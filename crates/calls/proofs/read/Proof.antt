@@ -3,7 +3,7 @@ use mathlib.Core.Path.{refl, sym, _∙_}
 use Rattle.rules.specs.Calls.{Read}
 use Rattle.rules.specs.Events.{actionOf, isOpening, isOpen}
 use Rattle.replies.proofs.GiveLaws.{unsound}
-use Rattle.calls.proofs.LentLaws.{lent-room, lent-size, lent-sound, looked-at}
+use Rattle.calls.proofs.LentLaws.{lent-room, lent-window, looked-at}
 use borrow.Author.Needs.{needs}
 use borrow.Author.Tests.{not-true, not-false}
 use Rattle.calls.proofs.read.Statement.{statement}
@@ -16,7 +16,7 @@ part-read-end : tie.Need-part-read-end
 part-read-end c = lent-room (c .before .before .before .before .before .args .memory .now) (sym (c .before .before .sound-memory .ensures) ∙ not-false _ (c .before .if1 .left))
 
 read-requires : tie.Need-read-requires
-read-requires c κs = (lent-size (c .before .before .before .before .before .before .args .memory .now) (sym (c .before .before .before .sound-memory .ensures) ∙ not-false _ (c .before .before .if1 .left)), lent-sound (c .before .before .before .before .before .before .args .memory .now) (sym (c .before .before .before .sound-memory .ensures) ∙ not-false _ (c .before .before .if1 .left)))
+read-requires c κs = lent-window (c .before .before .before .before .before .before .args .memory .now) (sym (c .before .before .before .sound-memory .ensures) ∙ not-false _ (c .before .before .if1 .left))
 
 returns-2 : tie.Need-returns-2
 returns-2 c = looked-at (c .before .before .before .before .before .before .before .args .memory .now) (Read (c .before .before .before .before .before .before .before .args .change) (c .before .before .before .before .before .before .before .args .entry)) (sym (c .before .before .before .before .sound-memory .ensures) ∙ not-false _ (c .before .before .before .if1 .left)) _ (c .read .ensures)

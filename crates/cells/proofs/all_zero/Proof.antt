@@ -34,7 +34,7 @@ loop-again c =
 returns-3 : tie.Need-returns-3 Inv-loop μ-loop
 returns-3 c =
     let l = c .before .before .loop in let a = c .before .before .before .before .before .args in
-    block-last (a .s .now) (a .from) (l .i) 1024 (a .to) _ (omega arith) (omega arith) (l .inv .1) (l .inv .2) (c .run-zero2 .ensures)
+    block-last (a .s .now) (a .from) (l .i) 1024 (a .to) _ (omega arith) (omega arith) (l .inv .2) (c .run-zero2 .ensures)
 
 pub all-zero-spec : {M : Type 1} → statement M
 all-zero-spec =

@@ -19,7 +19,7 @@ unfolding allBelow
 returns-3 c =
     let a = c .before .before .before .before .before .args in
     let half = block-passed (a .s .now) (a .from) (a .from) 512 _ (omega arith) (rw (sub-self (a .from)) refl) (c .before .before .run-zero2 .ensures) (c .before .if2 .left) in
-    block-last (a .s .now) (a .from) (a .from + 512) 512 (a .to) _ (omega arith) (omega arith) (omega arith) half (c .run-zero3 .ensures)
+    block-last (a .s .now) (a .from) (a .from + 512) 512 (a .to) _ (omega arith) (omega arith) half (c .run-zero3 .ensures)
 
 pub few-zero-spec : {M : Type 1} → statement M
 few-zero-spec =

@@ -40,7 +40,7 @@ loop-holds : tie.Need-loop-holds Inv-loop μ-loop
 loop-holds c = let t = c .before .before .before .before .before .before in (room t .counts, t .link-ties .ensures .0, eliminating-none _ _ (lists t) (t .link-ties .ensures .1))
 
 returns : tie.Need-returns Inv-loop μ-loop
-unfolding members wordsHave
+unfolding members
 returns c =
     let a = c .before .before .before .before .before .before .before .before .before .before .before .before .before .before .before .before .before .before .before .before .before .args in
     let l = c .before .before .before .loop in

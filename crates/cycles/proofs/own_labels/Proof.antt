@@ -2,6 +2,7 @@
 use mathlib.Core.Path.{refl}
 use Prim.Native.Nat.{_-_, _≤_}
 use native.Mathlib.Omega.{arith}
+use borrow.Author.Needs.{needs}
 use Rattle.cycles.specs.Graph.{ownLabels}
 use Rattle.cycles.proofs.LoopLaws.{Filled, filled-none, filled-next, filled-all}
 use Rattle.cycles.proofs.own_labels.Statement.{statement}
@@ -27,10 +28,10 @@ own-labels-spec =
     Inv-loop
     μ-loop
     (λ c. (omega arith, filled-none _ _))
-    (λ c. omega arith)
-    (λ c. omega arith)
-    (λ c. omega arith)
-    (λ c. omega arith)
+    (λ c. search needs)
+    (λ c. search needs)
+    (λ c. search needs)
+    (λ c. search needs)
     loop-again
-    (λ c. omega arith)
+    (λ c. search needs)
     returns)

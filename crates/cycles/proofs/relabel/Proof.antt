@@ -3,6 +3,7 @@ use mathlib.Core.Path.{_∙_, ap}
 use Prim.Native.Nat.{_-_, _≤_}
 use native.Mathlib.Nat.{le-refl}
 use native.Mathlib.Omega.{arith}
+use borrow.Author.Needs.{needs}
 use lib.ListN.{getD}
 use Rattle.cycles.specs.Graph.{instead}
 use Rattle.cycles.proofs.LoopLaws.{Filled, filled-none, filled-next, filled-all, map-table}
@@ -38,11 +39,11 @@ relabel-spec =
     Inv-loop
     μ-loop
     (λ c. (omega arith, filled-none _ _))
-    (λ c. omega arith)
-    (λ c κs. search)
-    (λ c. omega arith)
-    (λ c. omega arith)
-    (λ c. omega arith)
+    (λ c. search needs)
+    (λ c κs. search needs)
+    (λ c. search needs)
+    (λ c. search needs)
+    (λ c. search needs)
     loop-again
-    (λ c. omega arith)
+    (λ c. search needs)
     returns)

@@ -1,6 +1,6 @@
 -- `cycles::remove_arrows` meets its contract: the arrows from place e on are gone. The measure is e, which falls from an arrow to the one before. Assumes nothing.
 use mathlib.Core.Path.{_≡_, refl}
-use Prim.Native.Nat.{_-_, _<_}
+use Prim.Native.Nat.{_+_, _-_, _*_, _<_}
 use native.Mathlib.Omega.{arith}
 use borrow.Author.Needs.{needs}
 use lib.ListN.{length, getD}
@@ -25,15 +25,14 @@ unfolding graphOf arrowAt tieAt
 remove-arrow-requires c κs =
     let s = c .before .before .before .before .before .before .before .before .before .before .before .before in
     let a = s .args in
-    let l = c .before .before .before .before .before .loop in
-    let t = c .before .before .label-of in (
+    let l = c .before .before .before .before .before .loop in (
       (l .inv .1 .long, l .inv .0),
       removing-pos (graphOf (a .ties .now) (a .labels .now)) (a .v) (getD (a .heads .now) (a .v) 0) (a .next .now) (a .incoming .now) (wordsHave (a .blocked .now)) (s .pre .5)
-          (l .incoming) (wordsHave (l .blocked)) (l .e) (l .e - 1) (omega arith) (l .inv .1) (t .result) (t .ensures) (omega arith),
+          (l .incoming) (wordsHave (l .blocked)) (l .e) (l .e - 1) (omega arith) (l .inv .1) _ refl (omega (arith, c .before .before .shared-slice-known7 .given (getD (a .ties .now) ((l .e - 1) * 4 + 2) 0))),
     )
 
--- one turn: the arrow before the one that was let go
-turn : (c : tie.After-shared-slice-known7 Inv-loop μ-loop) →
+-- one turn: what holds at the arrow before the one that was removed
+turn : (c : tie.After-shared-slice-known8 Inv-loop μ-loop) →
     let s = c .before .before .before .before .before .before .before .before .before .before .before .before .before .before .before .before in
     let a = s .args in
     let l = c .before .before .before .before .before .before .before .before .before .loop in
@@ -45,10 +44,9 @@ turn c =
     let s = c .before .before .before .before .before .before .before .before .before .before .before .before .before .before .before .before in
     let a = s .args in
     let l = c .before .before .before .before .before .before .before .before .before .loop in
-    let t = c .before .before .before .before .before .before .label-of in
     let g = c .before .before .before .remove-arrow in
     removing-next (graphOf (a .ties .now) (a .labels .now)) (a .v) (getD (a .heads .now) (a .v) 0) (a .next .now) (a .incoming .now) (wordsHave (a .blocked .now)) (s .pre .5)
-    (l .incoming) (wordsHave (l .blocked)) (l .e) (l .e - 1) (omega arith) (l .inv .1) (t .result) (t .ensures) (omega arith) (g .last .0) (wordsHave (g .last .1 .0)) _ (g .ensures .1 .0) (g .ensures .1 .1) refl
+    (l .incoming) (wordsHave (l .blocked)) (l .e) (l .e - 1) (omega arith) (l .inv .1) _ refl (omega (arith, c .before .before .before .before .before .before .shared-slice-known7 .given (getD (a .ties .now) ((l .e - 1) * 4 + 2) 0))) (g .last .0) (wordsHave (g .last .1 .0)) _ (g .ensures .1 .0) (g .ensures .1 .1) refl
 
 returns : tie.Need-returns Inv-loop μ-loop
 returns c = let l = c .before .loop in (l .inv .0, removing-all (l .inv .1) (omega arith))
@@ -67,7 +65,8 @@ remove-arrows-spec =
     (λ c. search needs)
     (λ c. search needs)
     (λ c. search needs)
-    (λ c κs. search needs)
+    (λ c. omega (arith, c .shared-slice-known6 .given ((c .before .before .loop .e - 1) * 4 + 2)))
+    (λ c. omega (arith, c .before .shared-slice-known6 .given ((c .before .before .before .loop .e - 1) * 4 + 2)))
     remove-arrow-requires
     (λ c. search needs)
     (λ c. search needs)

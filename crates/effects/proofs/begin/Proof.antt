@@ -1,12 +1,15 @@
 -- `effects::begin` meets its contract. Assumes nothing.
+use Rattle.rules.specs.Calls.{Begin}
 use Rattle.rules.specs.Effects.{effect}
-use Rattle.effects.proofs.ArgumentLaws.{begin-known}
+use Rattle.rules.specs.Refusals.{_if_, checks}
+use Rattle.replies.proofs.GiveLaws.{unrefused}
 use borrow.Author.Needs.{needs}
 use Rattle.effects.proofs.begin.Statement.{statement}
 use Rattle.effects.proofs.begin.Tie as tie
 
 set-status-requires : tie.Need-set-status-requires
-set-status-requires c κs = let s = c .before .before in (s .pre .0, (s .pre .1 .0, begin-known (s .args .w .now) (s .pre .1 .0) (s .args .change) (s .pre .1 .1)))
+unfolding checks _if_
+set-status-requires c κs = let s = c .before .before in (s .pre .0, (s .pre .1 .0, unrefused _ (Begin _) (s .pre .1 .1) .0))
 
 returns : tie.Need-returns
 unfolding effect

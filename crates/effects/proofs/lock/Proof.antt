@@ -34,7 +34,7 @@ cast-grant-3 c = let s = c .before .before .before .before .before .before .befo
 returns-3 : tie.Need-returns-3
 returns-3 c = let s = c .before .before .before .before .before .before .before .before .before .before .before .before in
     lock-taken (s .args .w .now) (s .pre .1 .0) (c .done2 .result) (s .args .change) (s .args .entry) (s .args .mode) _ _ _
-    (c .before .before .before .before .before .before .before .before .before .held .ensures) (c .before .before .before .before .before .before .before .before .if1 .left) (c .before .before .before .before .before .before .grantable .ensures) (not-false _ (c .before .before .before .before .before .if2 .left)) (lock-known (s .args .w .now) (s .pre .1 .0) (s .args .change) (s .args .entry) (s .args .mode) (s .pre .1 .1) .3) (c .before .before .before .grant .ensures) (c .done2 .ensures)
+    (c .before .before .before .before .before .before .before .before .before .held .ensures) (c .before .before .before .before .before .before .before .before .if1 .left) (c .before .before .before .before .before .before .grantable .ensures) (not-false _ (c .before .before .before .before .before .if2 .left)) (c .before .before .before .grant .ensures) (c .done2 .ensures)
 
 pub lock-spec : {M : Type 1} → statement M
 lock-spec =

@@ -15,14 +15,14 @@ undo-requires c κs =
     let s = c .before .before .before .before .before .before .before .before .before .before .before in
     let w = s .args .w .now in
     let copy = c .before .before .before .before .copy-in in
-    (copy-size w (s .pre .1) (s .pre .0) (copy .last .1 .0) (copy .ensures), (length-part w logAt logSize (omega arith), omega (arith, c .before .before .before .before .before .before .before .before .records .ensures .1)))
+    (copy-size w (s .pre .0) (copy .last .1 .0) (copy .ensures), (length-part w logAt logSize (omega arith), omega (arith, c .before .before .before .before .before .before .before .before .records .ensures .1)))
 
 returns : tie.Need-returns
 returns c =
     let s = c .before .before .before .before .before .before .before .before .before .before .before .before .before .before .before .before .before .before in
     let count = c .before .before .before .before .before .before .before .before .before .before .before .before .before .before .before .records in
     let copy = c .before .before .before .before .before .before .before .before .before .before .before .copy-in in
-    undone (s .args .w .now) (s .pre .1) (s .pre .0) (copy .last .1 .0) (copy .ensures) (members (s .args .ended)) (count .result) (count .ensures .0) (c .before .before .before .before .before .before .undo .ensures) (c .before .before .copy-in2 .ensures)
+    undone (s .args .w .now) (s .pre .0) (copy .last .1 .0) (copy .ensures) (s .pre .1) (members (s .args .ended)) (count .result) (count .ensures .0) (c .before .before .before .before .before .before .undo .ensures) (c .before .before .copy-in2 .ensures)
 
 pub undo-spec : {M : Type 1} → statement M
 undo-spec =

@@ -1,14 +1,17 @@
 -- `endings::abort` meets its contract. Assumes nothing.
 use native.Mathlib.Omega.{arith}
 use borrow.Author.Needs.{needs}
+use Rattle.rules.specs.Calls.{Abort}
 use Rattle.rules.specs.Effects.{abortChange, effect}
+use Rattle.rules.specs.Refusals.{_if_, checks}
 use Rattle.layout.specs.Codec.{tiesAt, tiesSize}
 use Rattle.layout.proofs.MemoryLaws.{bytes-sound}
 use Rattle.cells.specs.Part.{part}
 use Rattle.cells.proofs.PartLaws.{length-part}
 use Rattle.sets.specs.Members.{members}
+use Rattle.replies.proofs.GiveLaws.{unrefused}
 use Rattle.reads.proofs.ReadLaws.{change-fits}
-use Rattle.endings.proofs.CallLaws.{abort-known, ended-so, ended-else, end-set-read, abort-done}
+use Rattle.endings.proofs.CallLaws.{ended-so, ended-else, end-set-read, abort-done}
 use Rattle.endings.proofs.abort.Statement.{statement}
 use Rattle.endings.proofs.abort.Tie as tie
 
@@ -18,7 +21,7 @@ unfolding effect abortChange
 returns c =
     let s = c .before .before .before .before .before in
     let status = c .before .before .status in
-    ended-so (s .args .w .now) (s .pre .1 .0) (s .args .change) (status .result) (status .ensures) 5 4 _ (c .before .if1 .taken) (c .done .result) (c .done .ensures)
+    ended-so (s .args .w .now) (s .args .change) (status .result) (status .ensures) 5 4 _ (s .pre .1 .0) (c .before .if1 .taken) (c .done .result) (c .done .ensures)
 
 -- it is committed
 returns-2 : tie.Need-returns-2
@@ -26,13 +29,14 @@ unfolding effect abortChange
 returns-2 c =
     let s = c .before .before .before .before .before .before in
     let status = c .before .before .before .status in
-    ended-else (s .args .w .now) (s .pre .1 .0) (s .args .change) (status .result) (status .ensures) 5 4 _ (c .before .before .if1 .left) (c .before .if2 .taken) (c .unchanged .result) (c .unchanged .ensures)
+    ended-else (s .args .w .now) (s .args .change) (status .result) (status .ensures) 5 4 _ (s .pre .1 .0) (c .before .before .if1 .left) (c .before .if2 .taken) (c .unchanged .result) (c .unchanged .ensures)
 
 cast-end-set : tie.Need-cast-end-set
+unfolding checks _if_
 cast-end-set c =
     let s = c .before .before .before .before .before .before .before .before .before in
     let w = s .args .w .now in
-    record { fits = change-fits _ (bytes-sound w (s .pre .1 .0)) (s .args .change) (abort-known w (s .pre .1 .0) (s .args .change) (s .pre .1 .1)) }
+    record { fits = change-fits _ (bytes-sound w (s .pre .1 .0)) (s .args .change) (unrefused _ (Abort _) (s .pre .1 .1) .0) }
 
 end-set-requires : tie.Need-end-set-requires
 unfolding part

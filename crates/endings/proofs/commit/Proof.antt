@@ -3,14 +3,17 @@ use mathlib.Core.Path.{refl}
 use native.Mathlib.Omega.{arith}
 use borrow.Author.Needs.{needs}
 use borrow.Author.Tests.{not-true, not-false}
+use Rattle.rules.specs.Calls.{Commit}
 use Rattle.rules.specs.Effects.{commitChange, effect}
+use Rattle.rules.specs.Refusals.{_if_, checks}
 use Rattle.layout.specs.Codec.{tiesAt, tiesSize}
 use Rattle.layout.proofs.MemoryLaws.{bytes-sound}
 use Rattle.cells.specs.Part.{part}
 use Rattle.cells.proofs.PartLaws.{length-part}
 use Rattle.sets.specs.Members.{members}
+use Rattle.replies.proofs.GiveLaws.{unrefused}
 use Rattle.reads.proofs.ReadLaws.{change-fits}
-use Rattle.endings.proofs.CallLaws.{commit-known, ended-so, ended-else, group-read, commit-waits, commit-ends}
+use Rattle.endings.proofs.CallLaws.{ended-so, ended-else, group-read, commit-waits, commit-ends}
 use Rattle.endings.proofs.commit.Statement.{statement}
 use Rattle.endings.proofs.commit.Tie as tie
 
@@ -20,7 +23,7 @@ unfolding effect commitChange
 returns c =
     let s = c .before .before .before .before .before in
     let status = c .before .before .status in
-    ended-so (s .args .w .now) (s .pre .1 .0) (s .args .change) (status .result) (status .ensures) 4 5 _ (c .before .if1 .taken) (c .done .result) (c .done .ensures)
+    ended-so (s .args .w .now) (s .args .change) (status .result) (status .ensures) 4 5 _ (s .pre .1 .0) (c .before .if1 .taken) (c .done .result) (c .done .ensures)
 
 -- it is aborted
 returns-2 : tie.Need-returns-2
@@ -28,13 +31,14 @@ unfolding effect commitChange
 returns-2 c =
     let s = c .before .before .before .before .before .before in
     let status = c .before .before .before .status in
-    ended-else (s .args .w .now) (s .pre .1 .0) (s .args .change) (status .result) (status .ensures) 4 5 _ (c .before .before .if1 .left) (c .before .if2 .taken) (c .unchanged .result) (c .unchanged .ensures)
+    ended-else (s .args .w .now) (s .args .change) (status .result) (status .ensures) 4 5 _ (s .pre .1 .0) (c .before .before .if1 .left) (c .before .if2 .taken) (c .unchanged .result) (c .unchanged .ensures)
 
 cast-group : tie.Need-cast-group
+unfolding checks _if_
 cast-group c =
     let s = c .before .before .before .before .before .before .before .before .before in
     let w = s .args .w .now in
-    record { fits = change-fits _ (bytes-sound w (s .pre .1 .0)) (s .args .change) (commit-known w (s .pre .1 .0) (s .args .change) (s .pre .1 .1)) }
+    record { fits = change-fits _ (bytes-sound w (s .pre .1 .0)) (s .args .change) (unrefused _ (Commit _) (s .pre .1 .1) .0) }
 
 group-requires : tie.Need-group-requires
 unfolding part

@@ -10,38 +10,39 @@ use lib.ListN.{length, getD}
 use Rattle.layout.specs.Records.{permitAt}
 use Rattle.words.specs.Members.{wordsHave}
 use Rattle.sets.specs.Members.{members}
-use Rattle.sets.proofs.WalkLaws.{lowest-of, rest-without, lowest-rises}
+use Rattle.sets.proofs.WalkLaws.{lowest-of, rest-without, walk-less}
 use Rattle.beside.specs.Beside.{othersFit, entryFits}
 use Rattle.beside.proofs.WriterLaws.{Walked, walk-start, walk-failed, walk-next, walk-done}
 use Rattle.few_permits.proofs.few_permitted.Statement.{statement}
 use Rattle.few_permits.proofs.few_permitted.Tie as tie
 
 abbrev Inv-loop : tie.InvT-loop
-Inv-loop permits count readers writers left₀ writer₀ left writer = Walked (wordsHave writers) (othersFit count (permitAt permits) (wordsHave readers) (wordsHave writers)) (members left) writer
+Inv-loop permits count readers writers holders left₀ writer₀ left writer = Walked (wordsHave writers) (othersFit count (permitAt permits) (wordsHave readers) (wordsHave writers)) (members left) writer
 
 abbrev μ-loop : tie.MeasureT-loop
-μ-loop permits count readers writers left₀ writer₀ left writer = 256 - writer
+μ-loop permits count readers writers holders left₀ writer₀ left writer = 256 - writer
 
 loop-holds : tie.Need-loop-holds Inv-loop μ-loop
-unfolding members wordsHave
+unfolding members
 loop-holds c =
-    let a = c .before .before .before .before .args in
+    let a = c .before .before .before .before .before .args in
     let fits = othersFit (a .count) (permitAt (a .permits .now)) (members (a .readers)) (members (a .writers)) in
     walk-start (members (a .writers)) fits (c .lowest .result) (lowest-of (members (a .writers)) (c .lowest .result) (c .lowest .ensures))
 
 others-permitted-requires : tie.Need-others-permitted-requires Inv-loop μ-loop
+unfolding members
 others-permitted-requires c κs =
-    let a = c .before .before .before .before .before .before .before .before .args in
+    let a = c .before .before .before .before .before .before .before .before .before .args in
     let four : length (a .readers .words) ≡ 4 = search needs in
     let fit : (i : ℕ) → Fits w64 (getD (a .readers .words) i 0) = search needs in
     let four′ : length (a .writers .words) ≡ 4 = search needs in
     let fit′ : (i : ℕ) → Fits w64 (getD (a .writers .words) i 0) = search needs in
-    ((record { four = four; fit = λ i. fit i .fits }, record { four = four′; fit = λ i. fit′ i .fits }), search needs)
+    ((record { four = four; fit = λ i. fit i .fits }, record { four = four′; fit = λ i. fit′ i .fits }, c .before .before .before .before .before .unite .ensures), search needs)
 
 returns : tie.Need-returns Inv-loop μ-loop
-unfolding entryFits members wordsHave
+unfolding entryFits members
 returns c =
-    let a = c .before .before .before .before .before .before .before .before .before .before .args in
+    let a = c .before .before .before .before .before .before .before .before .before .before .before .args in
     let fits = othersFit (a .count) (permitAt (a .permits .now)) (members (a .readers)) (members (a .writers)) in
     let l = c .before .before .before .before .before .loop in
     let e = c .before .others-permitted in
@@ -50,14 +51,12 @@ returns c =
 loop-less : tie.Need-loop-less Inv-loop μ-loop
 loop-less c =
     let l = c .before .before .before .before .before .before .before .loop in
-    let r = c .before .rest in
-    let left = rest-without (members (l .left)) (l .writer) (l .inv .lowest) (members (r .result)) (r .ensures) in
-    omega (arith, lowest-rises (members (l .left)) (l .writer) (l .inv .lowest) (members (r .result)) left (omega arith) (c .lowest2 .result) (lowest-of (members (r .result)) (c .lowest2 .result) (c .lowest2 .ensures)))
+    walk-less (members (l .left)) (l .writer) (l .inv .lowest) (omega arith) (members (c .before .rest .result)) (c .before .rest .ensures) (c .lowest2 .result) (c .lowest2 .ensures)
 
 loop-again : tie.Need-loop-again Inv-loop μ-loop
-unfolding members wordsHave
+unfolding members
 loop-again c =
-    let a = c .before .before .before .before .before .before .before .before .before .before .before .before .args in
+    let a = c .before .before .before .before .before .before .before .before .before .before .before .before .before .args in
     let fits = othersFit (a .count) (permitAt (a .permits .now)) (members (a .readers)) (members (a .writers)) in
     let l = c .before .before .before .before .before .before .before .loop in
     let e = c .before .before .before .others-permitted in
@@ -66,9 +65,9 @@ loop-again c =
     (e .result) (e .ensures) (not-false _ (c .before .before .if1 .left))
 
 returns-2 : tie.Need-returns-2 Inv-loop μ-loop
-unfolding entryFits members wordsHave
+unfolding entryFits members
 returns-2 c =
-    let a = c .before .before .before .before .before .before .args in
+    let a = c .before .before .before .before .before .before .before .args in
     let fits = othersFit (a .count) (permitAt (a .permits .now)) (members (a .readers)) (members (a .writers)) in
     let l = c .before .loop in
     walk-done (members (a .writers)) fits (members (l .left)) (l .writer) (l .inv) (omega arith)
@@ -79,6 +78,7 @@ few-permitted-spec =
     (tie.spec
     Inv-loop
     μ-loop
+    (λ c κs. search needs)
     (λ c κs. search needs)
     loop-holds
     (λ c. search needs)

@@ -1,5 +1,5 @@
 -- `graph::with_leader` meets its contract: the leader is added where the tie is an arrow to a member. Assumes nothing.
-use mathlib.Core.Path.{_≡_, ap, ap₂, _∙_}
+use mathlib.Core.Path.{ap, ap₂, _∙_}
 use mathlib.Core.Bool.{Bool, _&&_, _||_}
 use lib.Dec.{eqb}
 use borrow.Author.Needs.{needs}

@@ -49,12 +49,9 @@ returns c =
     let three = c .before .before .show-before3 .ensures in
     let m : length (d .before .before .show-before .last .0) ≡ 64 = omega (arith, simp length-set at (d .before .text .given), s .pre) in
     let l : length (e .before .before .show-before2 .last .0) ≡ 64 = omega (arith, simp length-set at (e .before .text2 .given), m) in (
-      omega (arith, three .0, two .0, one .0),
-      (
-        omega (arith, three .1 .0, two .1 .0, one .1 .0),
-        line-printed (s .args .place) (s .args .answer) (s .args .number) (s .args .text .now) (d .before .before .show-before .last .0) (e .before .before .show-before2 .last .0) (c .before .before .show-before3 .last .0) (d .before .before .show-before .result) (e .before .before .show-before2 .result) (c .before .before .show-before3 .result) (s .pre) m l (omega (arith, one .0)) (one .1 .0) (omega (arith, two .0, one .0)) (omega (arith, two .1 .0, one .1 .0))
-            (one .1 .1) (two .1 .1) (three .1 .1),
-      ),
+      omega (arith, three .1 .0, two .1 .0, one .1 .0),
+      line-printed (s .args .place) (s .args .answer) (s .args .number) (s .args .text .now) (d .before .before .show-before .last .0) (e .before .before .show-before2 .last .0) (c .before .before .show-before3 .last .0) (d .before .before .show-before .result) (e .before .before .show-before2 .result) (c .before .before .show-before3 .result) (s .pre) m l (omega (arith, one .0)) (one .1 .0) (omega (arith, two .0, one .0)) (omega (arith, two .1 .0, one .1 .0))
+          (one .1 .1) (two .1 .1) (three .1 .1),
     )
 
 pub print-line-spec : {M : Type 1} → statement M

@@ -11,7 +11,7 @@ returns c =
     let s = p .before .before .before in (
       omega arith,
       line-put (s .args .out .now) (p .print-line .last .0) (c .before .before .copy-in .last .1 .0) (s .args .used) (p .print-line .result) (s .args .place) (s .args .answer) (s .args .number)
-          (omega (arith, s .pre)) (omega (arith, c .before .before .before .before .before .before .text2 .given)) (p .print-line .ensures .1 .1) (c .before .before .copy-in .ensures),
+          (omega (arith, s .pre)) (omega (arith, c .before .before .before .before .before .before .text2 .given)) (p .print-line .ensures .1) (c .before .before .copy-in .ensures),
     )
 
 pub put-line-spec : {M : Type 1} → statement M

@@ -8,10 +8,10 @@ use Rattle.locks.proofs.grant.Statement.{statement}
 use Rattle.locks.proofs.grant.Tie as tie
 
 returns : tie.Need-returns
-returns c held m e =
+returns c held e =
     let a = c .before .before .before .before .before .before .before .before .args in
     c .before .before .store .ensures held (put (held (a .entry)) (a .change) (a .mode)) e
-    (c .before .before .before .before .with-mode .ensures (held (a .entry)) m (c .before .before .before .before .before .load .ensures held e))
+    (c .before .before .before .before .with-mode .ensures (held (a .entry)) (c .before .before .before .before .before .load .ensures held e))
     ∙ ap lockSection (put2-row held (a .entry) (a .change) (a .mode))
 
 pub grant-spec : {M : Type 1} → statement M

@@ -1,12 +1,11 @@
 -- `locks::hand_over` meets its contract: a change that holds nothing gives nothing; otherwise its lock is taken away and the greater set. Assumes nothing.
 use mathlib.Core.Path.{_≡_, sym, _∙_, ap}
 use Prim.Native.Nat.{suc, max}
-use native.Mathlib.Omega.{arith}
 use lib.Dec.{eqb}
 use Rattle.rules.specs.Base.{put}
 use Rattle.rules.specs.Effects.{moveHeld}
 use Rattle.layout.specs.Codec.{lockSection}
-use Rattle.locks.specs.Held.{Modes, changedOn}
+use Rattle.locks.specs.Held.{changedOn}
 use Rattle.locks.proofs.SectionLaws.{row-same}
 use Rattle.locks.proofs.ChangeLaws.{on-entry, moved, moved-none}
 use borrow.Author.Needs.{needs}
@@ -22,14 +21,14 @@ returns c held modes e =
     ∙ ap lockSection (on-entry (moved (a .from) (a .to)) held (a .entry))
 
 returns-2 : tie.Need-returns-2
-unfolding Modes moveHeld changedOn moved put
+unfolding moveHeld changedOn moved put
 returns-2 c held modes e =
     let a = c .before .before .before .before .before .before .before .before .before .before .before .before .before .before .before .args in
     let most = c .before .before .before .before .before .before .before .before .greater .result in
     let is : most ≡ max (held (a .entry) (a .from)) (held (a .entry) (a .to)) =
     c .before .before .before .before .before .before .before .before .greater .ensures ∙ rw (c .before .before .before .before .before .before .before .before .before .before .before .before .mode .ensures held modes e, c .before .before .before .before .before .before .before .before .before .mode2 .ensures held modes e) in
-    let l = c .before .before .before .before .with-mode2 .ensures (put (held (a .entry)) (a .from) 0) (rw is (omega (arith, modes (a .entry) (a .from), modes (a .entry) (a .to))))
-    (c .before .before .before .before .before .with-mode .ensures (held (a .entry)) (omega arith) (c .before .before .before .before .before .before .load .ensures held e)) in
+    let l = c .before .before .before .before .with-mode2 .ensures (put (held (a .entry)) (a .from) 0)
+    (c .before .before .before .before .before .with-mode .ensures (held (a .entry)) (c .before .before .before .before .before .before .load .ensures held e)) in
     c .before .before .store .ensures held (moved (a .from) (a .to) (held (a .entry))) e (rw is at l)
     ∙ ap lockSection (on-entry (moved (a .from) (a .to)) held (a .entry))
 

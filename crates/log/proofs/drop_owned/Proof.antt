@@ -36,7 +36,7 @@ loop-again c =
     )
 
 returns : tie.Need-returns Inv-loop μ-loop
-unfolding members wordsHave
+unfolding members
 returns c =
     let s = c .before .before .before .before .before .before .before .before in let a = s .args in let l = c .before .before .before .before .before .loop in
     let done : l .i ≡ a .count = omega arith in

@@ -35,7 +35,7 @@ loop-again c =
     )
 
 returns : tie.Need-returns Inv-loop μ-loop
-unfolding members wordsHave
+unfolding members
 returns c =
     let l = c .before .loop in
     let done : l .i ≡ 0 = omega arith in

@@ -2,9 +2,9 @@
 use Prim.Native.Nat.{_≤_, _-_}
 use native.Mathlib.Omega.{arith}
 use borrow.Author.Needs.{needs}
-use Rattle.beside.proofs.PlaceLaws.{Skipped, skipped-none, none-before}
+use Rattle.beside.proofs.PlaceLaws.{Skipped, skipped-none, skipped-run, none-before}
 use Rattle.many_permits.specs.Named.{involves}
-use Rattle.many_permits.proofs.BlockLaws.{skipped-run, block-none}
+use Rattle.many_permits.proofs.BlockLaws.{block-none}
 use Rattle.many_permits.proofs.skip_blocks.Statement.{statement}
 use Rattle.many_permits.proofs.skip_blocks.Tie as tie
 

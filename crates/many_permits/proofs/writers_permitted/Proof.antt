@@ -5,7 +5,7 @@ use borrow.Author.Needs.{needs}
 use borrow.Author.Tests.{not-true, not-false}
 use Rattle.layout.specs.Records.{permitAt}
 use Rattle.sets.specs.Members.{members}
-use Rattle.sets.proofs.WalkLaws.{lowest-of, rest-without, lowest-rises}
+use Rattle.sets.proofs.WalkLaws.{lowest-of, rest-without, walk-less}
 use Rattle.beside.proofs.WriterLaws.{Walked, walk-start, walk-failed, walk-next, walk-done}
 use Rattle.many_permits.specs.Named.{writerFits, writersFit}
 use Rattle.many_permits.proofs.writers_permitted.Statement.{statement}
@@ -34,9 +34,7 @@ returns c =
 loop-less : tie.Need-loop-less Inv-loop μ-loop
 loop-less c =
     let l = c .before .before .before .before .before .loop in
-    let r = c .before .rest in
-    let left = rest-without (members (l .left)) (l .writer) (l .inv .lowest) (members (r .result)) (r .ensures) in
-    omega (arith, lowest-rises (members (l .left)) (l .writer) (l .inv .lowest) (members (r .result)) left (omega arith) (c .lowest2 .result) (lowest-of (members (r .result)) (c .lowest2 .result) (c .lowest2 .ensures)))
+    walk-less (members (l .left)) (l .writer) (l .inv .lowest) (omega arith) (members (c .before .rest .result)) (c .before .rest .ensures) (c .lowest2 .result) (c .lowest2 .ensures)
 
 loop-again : tie.Need-loop-again Inv-loop μ-loop
 loop-again c =

@@ -2,9 +2,9 @@
 use mathlib.Core.Path.{refl}
 use Rattle.rules.specs.Refusals.{_if_, checks}
 use borrow.Author.Needs.{needs}
-use Rattle.reads.proofs.ReadLaws.{reads-same, reads-other}
+use borrow.Author.Tests.{eq-eqb, ne-eqb}
 use Rattle.refusals.proofs.RefusalLaws.{all-passed, fails, passes, first}
-use Rattle.pair_refusals.proofs.PairLaws.{unless-every, neither}
+use Rattle.pair_refusals.proofs.PairLaws.{unless-every, not-both}
 use Rattle.pair_refusals.proofs.delegate.Statement.{statement}
 use Rattle.pair_refusals.proofs.delegate.Tie as tie
 
@@ -41,7 +41,7 @@ returns-4 c =
     (passes (c1 .before .no-change .ensures) (c1 .if1 .left)
     (passes (c2 .before .no-change2 .ensures) (c2 .if2 .left)
     (passes (unless-every (a .entry) (c3 .before .no-entry .ensures)) (c3 .if3 .left)
-    (fails refl (reads-same refl (a .to) (c .if4 .taken))))))
+    (fails refl (eq-eqb _ _ (c .if4 .taken))))))
 
 returns-5 : tie.Need-returns-5
 unfolding checks _if_
@@ -55,8 +55,8 @@ returns-5 c =
     (passes (c1 .before .no-change .ensures) (c1 .if1 .left)
     (passes (c2 .before .no-change2 .ensures) (c2 .if2 .left)
     (passes (unless-every (a .entry) (c3 .before .no-entry .ensures)) (c3 .if3 .left)
-    (passes refl (reads-other refl (a .to) (c4 .if4 .left))
-    (fails (neither (c .before .before .is-live .ensures) (c .before .is-live2 .ensures)) (c .if5 .taken))))))
+    (passes refl (ne-eqb _ _ (c4 .if4 .left))
+    (fails (not-both (c .before .before .is-live .ensures) (c .before .is-live2 .ensures)) (c .if5 .taken))))))
 
 returns-6 : tie.Need-returns-6
 unfolding checks _if_
@@ -70,8 +70,8 @@ returns-6 c =
     (passes (c1 .before .no-change .ensures) (c1 .if1 .left)
     (passes (c2 .before .no-change2 .ensures) (c2 .if2 .left)
     (passes (unless-every (a .entry) (c3 .before .no-entry .ensures)) (c3 .if3 .left)
-    (passes refl (reads-other refl (a .to) (c4 .if4 .left))
-    (passes (neither (c .before .before .is-live .ensures) (c .before .is-live2 .ensures)) (c .if5 .left) all-passed)))))
+    (passes refl (ne-eqb _ _ (c4 .if4 .left))
+    (passes (not-both (c .before .before .is-live .ensures) (c .before .is-live2 .ensures)) (c .if5 .left) all-passed)))))
 
 pub delegate-spec : {M : Type 1} → statement M
 delegate-spec =

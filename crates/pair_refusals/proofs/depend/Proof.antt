@@ -1,4 +1,4 @@
--- `pair_refusals::depend` meets its contract: each return has the checks before it passed, and its own failed. Assumes nothing.
+-- `pair_refusals::depend` meets its contract: the first checks decide, or one of the others. Assumes nothing.
 use mathlib.Core.Path.{refl}
 use Rattle.rules.specs.Window.{limits}
 use Rattle.rules.specs.Calls.{Depend}
@@ -6,7 +6,7 @@ use Rattle.rules.specs.Refusals.{_if_, checks}
 use Rattle.layout.specs.Codec.{decode}
 use borrow.Author.Needs.{needs}
 use Rattle.refusals.proofs.RefusalLaws.{stopped, all-passed, fails, passes}
-use Rattle.pair_refusals.proofs.PairLaws.{depend-numbers, depend-rest, neither, no-room, has-room}
+use Rattle.pair_refusals.proofs.PairLaws.{depend-numbers, depend-rest, not-both, no-room, has-room}
 use Rattle.pair_refusals.proofs.depend.Statement.{statement}
 use Rattle.pair_refusals.proofs.depend.Tie as tie
 
@@ -25,7 +25,6 @@ tie-fits-requires c κs =
     (s .pre .0, (s .pre .1, depend-numbers (decode (a .w .now)) (a .kind) (a .leader) (a .follower) _ (n .depend-numbers .ensures) (c .before .before .before .before .before .if1 .left)))
 
 returns : tie.Need-returns
-unfolding checks _if_
 returns c =
     let a = c .before .before .before .args in
     stopped 4 (checks limits (decode (a .w .now)) (Depend (a .kind) (a .leader) (a .follower))) _ (c .before .depend-numbers .ensures) (c .if1 .taken)
@@ -36,7 +35,7 @@ returns-2 c =
     let c1 = c .before .before .before in
     let a = c1 .before .before .before .args in
     depend-rest (decode (a .w .now)) (a .kind) (a .leader) (a .follower) _ (c1 .before .depend-numbers .ensures) (c1 .if1 .left)
-    (fails (neither (c .before .before .is-live .ensures) (c .before .is-live2 .ensures)) (c .if2 .taken))
+    (fails (not-both (c .before .before .is-live .ensures) (c .before .is-live2 .ensures)) (c .if2 .taken))
 
 returns-3 : tie.Need-returns-3
 unfolding checks _if_
@@ -45,7 +44,7 @@ returns-3 c =
     let c1 = c2 .before .before .before in
     let a = c1 .before .before .before .args in
     depend-rest (decode (a .w .now)) (a .kind) (a .leader) (a .follower) _ (c1 .before .depend-numbers .ensures) (c1 .if1 .left)
-    (passes (neither (c2 .before .before .is-live .ensures) (c2 .before .is-live2 .ensures)) (c2 .if2 .left)
+    (passes (not-both (c2 .before .before .is-live .ensures) (c2 .before .is-live2 .ensures)) (c2 .if2 .left)
     (fails (c .before .tie-returns .ensures) (c .if3 .taken)))
 
 returns-4 : tie.Need-returns-4
@@ -56,7 +55,7 @@ returns-4 c =
     let c1 = c2 .before .before .before in
     let a = c1 .before .before .before .args in
     depend-rest (decode (a .w .now)) (a .kind) (a .leader) (a .follower) _ (c1 .before .depend-numbers .ensures) (c1 .if1 .left)
-    (passes (neither (c2 .before .before .is-live .ensures) (c2 .before .is-live2 .ensures)) (c2 .if2 .left)
+    (passes (not-both (c2 .before .before .is-live .ensures) (c2 .before .is-live2 .ensures)) (c2 .if2 .left)
     (passes (c3 .before .tie-returns .ensures) (c3 .if3 .left)
     (fails refl (no-room (c .before .tie-fits .ensures) (c .if4 .taken)))))
 
@@ -68,7 +67,7 @@ returns-5 c =
     let c1 = c2 .before .before .before in
     let a = c1 .before .before .before .args in
     depend-rest (decode (a .w .now)) (a .kind) (a .leader) (a .follower) _ (c1 .before .depend-numbers .ensures) (c1 .if1 .left)
-    (passes (neither (c2 .before .before .is-live .ensures) (c2 .before .is-live2 .ensures)) (c2 .if2 .left)
+    (passes (not-both (c2 .before .before .is-live .ensures) (c2 .before .is-live2 .ensures)) (c2 .if2 .left)
     (passes (c3 .before .tie-returns .ensures) (c3 .if3 .left)
     (passes refl (has-room (c .before .tie-fits .ensures) (c .if4 .left)) all-passed)))
 

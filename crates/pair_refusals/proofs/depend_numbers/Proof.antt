@@ -2,7 +2,7 @@
 use mathlib.Core.Path.{refl}
 use Rattle.rules.specs.Refusals.{_if_, checks}
 use borrow.Author.Needs.{needs}
-use Rattle.reads.proofs.ReadLaws.{reads-same, reads-other}
+use borrow.Author.Tests.{eq-eqb, ne-eqb}
 use Rattle.refusals.proofs.RefusalLaws.{all-passed, fails, passes, first}
 use Rattle.pair_refusals.proofs.depend_numbers.Statement.{statement}
 use Rattle.pair_refusals.proofs.depend_numbers.Tie as tie
@@ -39,7 +39,7 @@ returns-4 c =
     (passes (c1 .before .no-change .ensures) (c1 .if1 .left)
     (passes (c2 .before .no-change2 .ensures) (c2 .if2 .left)
     (passes (c3 .before .outside .ensures) (c3 .if3 .left)
-    (fails refl (reads-same refl (c1 .before .before .before .args .follower) (c .if4 .taken))))))
+    (fails refl (eq-eqb _ _ (c .if4 .taken))))))
 
 returns-5 : tie.Need-returns-5
 unfolding checks _if_
@@ -51,7 +51,7 @@ returns-5 c =
     (passes (c1 .before .no-change .ensures) (c1 .if1 .left)
     (passes (c2 .before .no-change2 .ensures) (c2 .if2 .left)
     (passes (c3 .before .outside .ensures) (c3 .if3 .left)
-    (passes refl (reads-other refl (c1 .before .before .before .args .follower) (c .if4 .left)) all-passed))))
+    (passes refl (ne-eqb _ _ (c .if4 .left)) all-passed))))
 
 pub depend-numbers-spec : {M : Type 1} → statement M
 depend-numbers-spec =

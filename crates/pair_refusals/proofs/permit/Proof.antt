@@ -1,4 +1,4 @@
--- `pair_refusals::permit` meets its contract: each return has the checks before it passed, and its own failed. Assumes nothing.
+-- `pair_refusals::permit` meets its contract: the first checks decide, or one of the others. Assumes nothing.
 use mathlib.Core.Path.{refl, ap}
 use mathlib.Core.Bool.{not}
 use Rattle.rules.specs.Window.{limits}
@@ -19,7 +19,6 @@ permit-fits-requires c κs =
     (s .pre .0, (s .pre .1, permit-numbers (decode (a .w .now)) (a .giver) (a .taker) (a .entry) (a .operations) _ (n .permit-numbers .ensures) (c .before .before .before .before .if1 .left)))
 
 returns : tie.Need-returns
-unfolding checks _if_
 returns c =
     let a = c .before .before .before .args in
     stopped 5 (checks limits (decode (a .w .now)) (Permit (a .giver) (a .taker) (a .entry) (a .operations))) _ (c .before .permit-numbers .ensures) (c .if1 .taken)

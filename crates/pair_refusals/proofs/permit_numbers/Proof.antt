@@ -2,7 +2,7 @@
 use mathlib.Core.Path.{refl}
 use Rattle.rules.specs.Refusals.{_if_, checks}
 use borrow.Author.Needs.{needs}
-use Rattle.reads.proofs.ReadLaws.{reads-same, reads-other}
+use borrow.Author.Tests.{eq-eqb, ne-eqb}
 use Rattle.refusals.proofs.RefusalLaws.{all-passed, fails, passes, first, reads-below, reads-not-below}
 use Rattle.pair_refusals.proofs.permit_numbers.Statement.{statement}
 use Rattle.pair_refusals.proofs.permit_numbers.Tie as tie
@@ -53,7 +53,7 @@ returns-5 c =
     (passes refl (reads-not-below (c2 .before .given .ensures .0) _ (c2 .if2 .left))
     (passes (c3 .before .no-entry .ensures) (c3 .if3 .left)
     (passes (c4 .before .outside .ensures) (c4 .if4 .left)
-    (fails refl (reads-same refl (c1 .before .before .before .args .taker) (c .if5 .taken)))))))
+    (fails refl (eq-eqb _ _ (c .if5 .taken)))))))
 
 returns-6 : tie.Need-returns-6
 unfolding checks _if_
@@ -67,7 +67,7 @@ returns-6 c =
     (passes refl (reads-not-below (c2 .before .given .ensures .0) _ (c2 .if2 .left))
     (passes (c3 .before .no-entry .ensures) (c3 .if3 .left)
     (passes (c4 .before .outside .ensures) (c4 .if4 .left)
-    (passes refl (reads-other refl (c1 .before .before .before .args .taker) (c .if5 .left)) all-passed)))))
+    (passes refl (ne-eqb _ _ (c .if5 .left)) all-passed)))))
 
 pub permit-numbers-spec : {M : Type 1} → statement M
 permit-numbers-spec =

@@ -7,7 +7,7 @@ use borrow.Author.Needs.{needs}
 use Rattle.rules.specs.Sets.{putAll}
 use Rattle.layout.specs.Codec.{changeSection}
 use Rattle.sets.specs.Members.{members}
-use Rattle.sets.proofs.WalkLaws.{lowest-of, rest-without, lowest-rises}
+use Rattle.sets.proofs.WalkLaws.{lowest-of, rest-without, walk-less}
 use Rattle.places.proofs.StatusLaws.{passed, Walk, statuses-none, walk-next, statuses-turn, statuses-all}
 use Rattle.places.proofs.set_statuses.Statement.{statement}
 use Rattle.places.proofs.set_statuses.Tie as tie
@@ -31,9 +31,7 @@ loop-holds c =
 loop-less : tie.Need-loop-less Inv-loop μ-loop
 loop-less c =
     let l = c .before .before .before .before .before .before .before .loop in
-    let w = c .before .rest in
-    let left = rest-without (members (l .left)) (l .member) (l .inv .1 .lowest) (members (w .result)) (w .ensures) in
-    omega (arith, lowest-rises (members (l .left)) (l .member) (l .inv .1 .lowest) (members (w .result)) left (omega arith) (c .lowest2 .result) (lowest-of (members (w .result)) (c .lowest2 .result) (c .lowest2 .ensures)))
+    walk-less (members (l .left)) (l .member) (l .inv .1 .lowest) (omega arith) (members (c .before .rest .result)) (c .before .rest .ensures) (c .lowest2 .result) (c .lowest2 .ensures)
 
 loop-again : tie.Need-loop-again Inv-loop μ-loop
 loop-again c =
@@ -42,8 +40,8 @@ loop-again c =
     let w = c .before .rest in
     let left = rest-without (members (l .left)) (l .member) (l .inv .1 .lowest) (members (w .result)) (w .ensures) in (
       search needs,
-      walk-next (members (a .ended)) (members (l .left)) (l .member) (l .inv .1) (omega arith) (members (w .result)) left (c .lowest2 .result) (lowest-of (members (w .result)) (c .lowest2 .result) (c .lowest2 .ensures)),
-      λ st pa e. statuses-turn (members (a .ended)) (members (l .left)) (l .member) (l .inv .1) (omega arith) (members (w .result)) left (a .s) (l .changes) _ st pa (l .inv .2 st pa e) (c .before .before .before .before .store-status .ensures),
+      walk-next (members (a .ended)) (members (l .left)) (l .member) (l .inv .1) (members (w .result)) left (c .lowest2 .result) (lowest-of (members (w .result)) (c .lowest2 .result) (c .lowest2 .ensures)),
+      λ st pa e. statuses-turn (members (a .ended)) (members (l .left)) (l .member) (l .inv .1) (members (w .result)) left (omega arith) (a .s) (l .changes) _ st pa (l .inv .2 st pa e) (c .before .before .before .before .store-status .ensures),
     )
 
 returns : tie.Need-returns Inv-loop μ-loop

@@ -1,6 +1,7 @@
 -- `records::depend` meets its contract. Assumes nothing.
+use Rattle.rules.specs.Effects.{effect}
+use Rattle.replies.proofs.GiveLaws.{given-done}
 use Rattle.records.proofs.ArgumentLaws.{depend-known}
-use Rattle.records.proofs.RecordLaws.{depend-given}
 use borrow.Author.Needs.{needs}
 use Rattle.records.proofs.depend.Statement.{statement}
 use Rattle.records.proofs.depend.Tie as tie
@@ -21,9 +22,8 @@ enter-tie-requires c κs =
     (s .pre .0, (s .pre .1 .0, (n .ensures .0, (n .ensures .1, depend-known (s .args .w .now) (s .pre .1 .0) (s .args .kind) (s .args .leader) (s .args .follower) (s .pre .1 .1) .3))))
 
 returns : tie.Need-returns
-returns c =
-    let d = c .before .before .before .before .before .before .before .before in
-    depend-given _ (c .done .result) (d .args .kind) (d .args .leader) (d .args .follower) (c .before .before .before .enter-tie .ensures) (c .done .ensures)
+unfolding effect
+returns c = given-done 0 _ (c .done .result) _ (c .done .ensures) (c .before .before .before .enter-tie .ensures)
 
 pub depend-spec : {M : Type 1} → statement M
 depend-spec =

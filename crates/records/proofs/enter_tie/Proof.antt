@@ -1,8 +1,7 @@
 -- `records::enter_tie` meets its contract. Assumes nothing.
-use mathlib.Core.Path.{_∙_}
-use native.Mathlib.Omega.{arith}
+use mathlib.Core.Path.{sym, _∙_}
+use native.Mathlib.Nat.{le-of-eq, le-trans, lt-of-le-of-lt}
 use lib.Dec.{lit≤}
-use Rattle.records.proofs.ArgumentLaws.{ends-within}
 use Rattle.records.proofs.RecordLaws.{tie-entered}
 use borrow.Author.Needs.{needs}
 use Rattle.records.proofs.enter_tie.Statement.{statement}
@@ -12,10 +11,10 @@ add-requires : tie.Need-add-requires
 add-requires c κs = (c .add-arg .given .2, c .before .before .pre .1 .1 .1 .0)
 
 part-store-figure-end : tie.Need-part-store-figure-end
-part-store-figure-end c = ends-within (lit≤ tt) (c .before .w .given .1 ∙ c .before .before .before .before .before .pre .0)
+part-store-figure-end c = le-trans (lit≤ tt) (le-of-eq (sym (c .before .w .given .1 ∙ c .before .before .before .before .before .pre .0)))
 
 cast-store-figure : tie.Need-cast-store-figure
-cast-store-figure c = record { fits = omega (arith, c .before .before .before .add .ensures .0, c .before .before .before .before .before .before .pre .1 .1 .1 .0) }
+cast-store-figure c = record { fits = lt-of-le-of-lt (c .before .before .before .add .ensures .0) (lit≤ tt) }
 
 store-figure-requires : tie.Need-store-figure-requires
 store-figure-requires c κs = (c .store-figure-arg .given .2, lit≤ tt)

@@ -1,8 +1,8 @@
 -- `records::log_record` meets its contract. Assumes nothing.
-use mathlib.Core.Path.{_∙_}
+use mathlib.Core.Path.{sym, _∙_}
+use native.Mathlib.Nat.{le-of-eq, le-trans}
 use native.Mathlib.Omega.{arith}
 use lib.Dec.{lit≤}
-use Rattle.records.proofs.ArgumentLaws.{ends-within}
 use Rattle.records.proofs.RecordLaws.{record-logged}
 use borrow.Author.Needs.{needs}
 use Rattle.records.proofs.log_record.Statement.{statement}
@@ -12,7 +12,7 @@ append-requires : tie.Need-append-requires
 append-requires c κs = (c .append-arg .given .2, c .before .before .pre .1 .1 .1)
 
 part-store-figure-end : tie.Need-part-store-figure-end
-part-store-figure-end c = ends-within (lit≤ tt) (c .before .w .given .1 ∙ c .before .before .before .before .before .pre .0)
+part-store-figure-end c = le-trans (lit≤ tt) (le-of-eq (sym (c .before .w .given .1 ∙ c .before .before .before .before .before .pre .0)))
 
 add-store-figure : tie.Need-add-store-figure
 add-store-figure c = record { fits = omega (arith, c .before .before .before .before .before .before .pre .1 .1 .1) }

@@ -1,6 +1,7 @@
 -- `records::permit` meets its contract. Assumes nothing.
+use Rattle.rules.specs.Effects.{effect}
+use Rattle.replies.proofs.GiveLaws.{given-done}
 use Rattle.records.proofs.ArgumentLaws.{permit-known}
-use Rattle.records.proofs.RecordLaws.{permit-given}
 use borrow.Author.Needs.{needs}
 use Rattle.records.proofs.permit.Statement.{statement}
 use Rattle.records.proofs.permit.Tie as tie
@@ -24,9 +25,8 @@ enter-permit-requires c κs =
     (s .pre .0, (s .pre .1 .0, (n .ensures .0, (n .ensures .1, permit-known (s .args .w .now) (s .pre .1 .0) (s .args .giver) (s .args .taker) (s .args .entry) (s .args .operations) (s .pre .1 .1) .4))))
 
 returns : tie.Need-returns
-returns c =
-    let d = c .before .before .before .before .before .before .before .before in
-    permit-given _ (c .done .result) (d .args .giver) (d .args .taker) (d .args .entry) (d .args .operations) (c .before .before .before .enter-permit .ensures) (c .done .ensures)
+unfolding effect
+returns c = given-done 0 _ (c .done .result) _ (c .done .ensures) (c .before .before .before .enter-permit .ensures)
 
 pub permit-spec : {M : Type 1} → statement M
 permit-spec =

@@ -1,32 +1,12 @@
--- `refusals::begin` meets its contract: each return has the checks before it passed, and its own failed. Assumes nothing.
-use mathlib.Core.Path.{refl, ap}
-use mathlib.Core.Bool.{not}
-use Rattle.rules.specs.Refusals.{_if_, checks}
+-- `refusals::begin` meets its contract: its checks are those of `in_status`. Assumes nothing.
+use Rattle.rules.specs.Refusals.{checks}
 use borrow.Author.Needs.{needs}
-use Rattle.reads.proofs.ReadLaws.{reads-same, reads-other}
-use Rattle.refusals.proofs.RefusalLaws.{all-passed, fails, passes, first}
 use Rattle.refusals.proofs.begin.Statement.{statement}
 use Rattle.refusals.proofs.begin.Tie as tie
 
 returns : tie.Need-returns
-unfolding checks _if_
-returns c = first (fails (c .before .no-change .ensures) (c .if1 .taken))
-
-returns-2 : tie.Need-returns-2
-unfolding checks _if_
-returns-2 c =
-    let c1 = c .before .before in
-    first
-    (passes (c1 .before .no-change .ensures) (c1 .if1 .left)
-    (fails refl (ap not (reads-other (c .before .status .ensures) 1 (c .if2 .taken)))))
-
-returns-3 : tie.Need-returns-3
-unfolding checks _if_
-returns-3 c =
-    let c1 = c .before .before in
-    first
-    (passes (c1 .before .no-change .ensures) (c1 .if1 .left)
-    (passes refl (ap not (reads-same (c .before .status .ensures) 1 (c .if2 .left))) all-passed))
+unfolding checks
+returns c = c .in-status .ensures
 
 pub begin-spec : {M : Type 1} → statement M
-begin-spec = tie.close (tie.spec (λ c κs. search needs) returns (λ c κs. search needs) returns-2 returns-3)
+begin-spec = tie.close (tie.spec (λ c κs. search needs) returns)

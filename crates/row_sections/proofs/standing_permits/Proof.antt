@@ -5,7 +5,7 @@ use native.Mathlib.Omega.{arith}
 use borrow.Author.Needs.{needs}
 use Rattle.words.specs.Members.{wordsHave}
 use Rattle.rules.proofs.TurnLaws.{turns-done}
-use Rattle.row_sections.specs.Rows.{permitFits}
+use Rattle.row_sections.specs.Fits.{permitFits}
 use Rattle.row_sections.proofs.RiseLaws.{rank-small, Risen, none-risen, row-fails, row-low, row-rises}
 use Rattle.row_sections.proofs.standing_permits.Statement.{statement}
 use Rattle.row_sections.proofs.standing_permits.Tie as tie

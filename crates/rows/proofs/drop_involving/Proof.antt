@@ -34,7 +34,7 @@ same-length : tie.Need-same-length Inv-loop μ-loop
 same-length c = c .before .before .clear .kept .0 ∙ c .before .before .before .before .before .loop .inv .2
 
 returns : tie.Need-returns Inv-loop μ-loop
-unfolding members wordsHave
+unfolding members
 returns c =
     let s = c .before .before .before .before .before .before .before .before in
     let a = s .args in

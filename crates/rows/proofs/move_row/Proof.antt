@@ -1,19 +1,14 @@
--- `rows::move_row` meets its contract: four stores of what was read. Assumes nothing.
-use mathlib.Core.Path.{_∙_, ap, sym}
-use Prim.Native.Nat.{_*_}
-use native.Mathlib.Omega.{arith}
+-- `rows::move_row` meets its contract: the row that was read is stored. Assumes nothing.
 use borrow.Author.Needs.{needs}
-use lib.ListN.{length-set}
-use Rattle.cells.specs.Part.{patch}
-use Rattle.cells.proofs.NumLaws.{part4, patch4}
+use Rattle.rows.specs.Rows.{rowAt}
+use Rattle.rows.proofs.RowLaws.{row-part}
 use Rattle.rows.proofs.move_row.Statement.{statement}
 use Rattle.rows.proofs.move_row.Tie as tie
 
 returns : tie.Need-returns
+unfolding rowAt
 returns c =
-    let s = c .before .before .before .before in
-    let a = s .args in
-    patch4 (a .s .now) (4 * a .j) _ _ _ _ (omega arith) ∙ ap (patch (a .s .now) (4 * a .j)) (sym (part4 (a .s .now) (4 * a .i) (s .pre .0)))
+    let s = c .before .before .before .before .before .before .before .before .before in rw (← row-part (s .args .s .now) (s .args .i) (s .pre .0)) (c .before .before .write-row .ensures)
 
 pub move-row-spec : {M : Type 1} → statement M
 move-row-spec =
@@ -28,12 +23,6 @@ move-row-spec =
     (λ c. search needs)
     (λ c. search needs)
     (λ c. search needs)
-    (λ c. search needs)
-    (λ c. search needs)
-    (λ c. simp length-set (omega arith))
-    (λ c. search needs)
-    (λ c. simp length-set (omega arith))
-    (λ c. search needs)
-    (λ c. simp length-set (omega arith))
+    (λ c κs. search needs)
     (λ c. search needs)
     returns)

@@ -1,6 +1,6 @@
 -- `sections::change` meets its contract. Assumes nothing.
 use Rattle.rules.specs.Base.{outside}
-use Rattle.sections.specs.Cells.{changeFits}
+use Rattle.sections.specs.Fits.{changeFits}
 use borrow.Author.Needs.{needs}
 use Rattle.sections.proofs.change.Statement.{statement}
 use Rattle.sections.proofs.change.Tie as tie

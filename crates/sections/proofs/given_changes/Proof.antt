@@ -5,7 +5,7 @@ use Prim.Native.Nat.{_≤_, _-_}
 use borrow.Author.Needs.{needs}
 use Rattle.rules.specs.Base.{allBelow}
 use Rattle.rules.proofs.TurnLaws.{none-yet, turn-failed, turn-passed, turns-done}
-use Rattle.sections.specs.Cells.{nextFits}
+use Rattle.sections.specs.Fits.{nextFits}
 use native.Mathlib.Omega.{arith}
 use Rattle.sections.proofs.given_changes.Statement.{statement}
 use Rattle.sections.proofs.given_changes.Tie as tie

@@ -49,7 +49,7 @@ returns-7 c =
           (omega (arith, c .before .before .before .before .before .before .read-u163 .ensures, c .before .before .before .before .before .if4 .left))
           (omega (arith, c .before .before .before .before .read-u164 .ensures, c .before .before .before .if5 .left))
           (omega (arith, c .before .before .read-u165 .ensures, c .before .if6 .left)),
-      λ s. c .all-zero .ensures ∙ head-zeros bs size s,
+      λ s. c .all-zero .ensures ∙ head-zeros bs s,
     )
 
 pub header-spec : {M : Type 1} → statement M

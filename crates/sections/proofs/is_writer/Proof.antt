@@ -1,6 +1,6 @@
 -- `sections::is_writer` meets its contract. Assumes nothing.
 use Rattle.layout.specs.Codec.{unpack}
-use Rattle.sections.specs.Cells.{writes}
+use Rattle.sections.specs.Fits.{writes}
 use borrow.Author.Needs.{needs}
 use Rattle.sections.proofs.is_writer.Statement.{statement}
 use Rattle.sections.proofs.is_writer.Tie as tie

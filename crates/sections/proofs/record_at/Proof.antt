@@ -1,5 +1,5 @@
 -- `sections::record_at` meets its contract. Assumes nothing.
-use Rattle.sections.specs.Cells.{recordFits}
+use Rattle.sections.specs.Fits.{recordFits}
 use borrow.Author.Needs.{needs}
 use Rattle.sections.proofs.record_at.Statement.{statement}
 use Rattle.sections.proofs.record_at.Tie as tie

@@ -7,7 +7,7 @@ use borrow.Author.Needs.{needs}
 use Rattle.rules.specs.Base.{allBelow}
 use Rattle.cells.specs.Bits.{bytesHave}
 use Rattle.rules.proofs.TurnLaws.{none-yet, turn-failed, turn-passed, turns-done}
-use Rattle.sections.specs.Cells.{rowFits}
+use Rattle.sections.specs.Fits.{rowFits}
 use Rattle.sections.proofs.rows_against.Statement.{statement}
 use Rattle.sections.proofs.rows_against.Tie as tie
 

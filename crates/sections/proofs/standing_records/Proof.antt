@@ -6,7 +6,7 @@ use native.Mathlib.Omega.{arith}
 use borrow.Author.Needs.{needs}
 use Rattle.rules.specs.Base.{allBelow}
 use Rattle.rules.proofs.TurnLaws.{none-yet, turn-failed, turn-passed, turns-done}
-use Rattle.sections.specs.Cells.{recordFits}
+use Rattle.sections.specs.Fits.{recordFits}
 use Rattle.sections.proofs.standing_records.Statement.{statement}
 use Rattle.sections.proofs.standing_records.Tie as tie
 

@@ -8,7 +8,7 @@ use Rattle.sections.proofs.values.Tie as tie
 returns : tie.Need-returns
 returns c =
     let a = c .before .before .args in
-    let s = values-sound (a .values .now) (λ i. c .before .shared-slice-known .given i .fits) (c .before .before .pre .0) (a .entries) (c .before .before .pre .1) in
+    let s = values-sound (a .values .now) (λ i. c .before .shared-slice-known .given i .fits) (c .before .before .pre .0) (a .entries) in
     (λ e. s .0 (sym (c .all-zero .ensures) ∙ e), λ v. c .all-zero .ensures ∙ s .1 v)
 
 pub values-spec : {M : Type 1} → statement M

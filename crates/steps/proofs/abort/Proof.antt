@@ -14,7 +14,7 @@ abort-requires : tie.Need-abort-requires
 abort-requires c κs = (c .before .before .before .before .before .pre .0, (c .before .before .before .before .before .pre .1, sym (c .before .before .change .ensures .abort) ∙ c .before .if1 .left))
 
 returns-2 : tie.Need-returns-2
-returns-2 c = let-through (decode (c .before .before .before .before .before .before .before .before .args .w .now)) (Abort (c .before .before .before .before .before .before .before .before .args .change)) _ (c .before .before .before .before .before .change .ensures .abort) (c .before .before .before .before .if1 .left) (λ z. c .before .before .abort .ensures)
+returns-2 c = let-through (decode (c .before .before .before .before .before .before .before .before .args .w .now)) (Abort (c .before .before .before .before .before .before .before .before .args .change)) _ (c .before .before .before .before .before .change .ensures .abort) (c .before .before .before .before .if1 .left) (c .before .before .abort .ensures)
 
 pub abort-spec : {M : Type 1} → statement M
 abort-spec =

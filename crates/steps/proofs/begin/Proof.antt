@@ -14,7 +14,7 @@ begin-requires-2 : tie.Need-begin-requires-2
 begin-requires-2 c κs = (c .before .before .before .before .before .pre .0, (c .before .before .before .before .before .pre .1, sym (c .before .before .begin .ensures) ∙ c .before .if1 .left))
 
 returns-2 : tie.Need-returns-2
-returns-2 c = let-through (decode (c .before .before .before .before .before .before .before .before .args .w .now)) (Begin (c .before .before .before .before .before .before .before .before .args .change)) _ (c .before .before .before .before .before .begin .ensures) (c .before .before .before .before .if1 .left) (λ z. c .before .before .begin2 .ensures)
+returns-2 c = let-through (decode (c .before .before .before .before .before .before .before .before .args .w .now)) (Begin (c .before .before .before .before .before .before .before .before .args .change)) _ (c .before .before .before .before .before .begin .ensures) (c .before .before .before .before .if1 .left) (c .before .before .begin2 .ensures)
 
 pub begin-spec : {M : Type 1} → statement M
 begin-spec =

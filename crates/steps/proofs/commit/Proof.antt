@@ -14,7 +14,7 @@ commit-requires : tie.Need-commit-requires
 commit-requires c κs = (c .before .before .before .before .before .pre .0, (c .before .before .before .before .before .pre .1, sym (c .before .before .change .ensures .commit) ∙ c .before .if1 .left))
 
 returns-2 : tie.Need-returns-2
-returns-2 c = let-through (decode (c .before .before .before .before .before .before .before .before .args .w .now)) (Commit (c .before .before .before .before .before .before .before .before .args .change)) _ (c .before .before .before .before .before .change .ensures .commit) (c .before .before .before .before .if1 .left) (λ z. c .before .before .commit .ensures)
+returns-2 c = let-through (decode (c .before .before .before .before .before .before .before .before .args .w .now)) (Commit (c .before .before .before .before .before .before .before .before .args .change)) _ (c .before .before .before .before .before .change .ensures .commit) (c .before .before .before .before .if1 .left) (c .before .before .commit .ensures)
 
 pub commit-spec : {M : Type 1} → statement M
 commit-spec =

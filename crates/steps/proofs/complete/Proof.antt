@@ -14,7 +14,7 @@ complete-requires-2 : tie.Need-complete-requires-2
 complete-requires-2 c κs = (c .before .before .before .before .before .pre .0, (c .before .before .before .before .before .pre .1, sym (c .before .before .complete .ensures) ∙ c .before .if1 .left))
 
 returns-2 : tie.Need-returns-2
-returns-2 c = let-through (decode (c .before .before .before .before .before .before .before .before .args .w .now)) (Complete (c .before .before .before .before .before .before .before .before .args .change)) _ (c .before .before .before .before .before .complete .ensures) (c .before .before .before .before .if1 .left) (λ z. c .before .before .complete2 .ensures)
+returns-2 c = let-through (decode (c .before .before .before .before .before .before .before .before .args .w .now)) (Complete (c .before .before .before .before .before .before .before .before .args .change)) _ (c .before .before .before .before .before .complete .ensures) (c .before .before .before .before .if1 .left) (c .before .before .complete2 .ensures)
 
 pub complete-spec : {M : Type 1} → statement M
 complete-spec =

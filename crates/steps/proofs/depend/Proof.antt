@@ -14,7 +14,7 @@ depend-requires-2 : tie.Need-depend-requires-2
 depend-requires-2 c κs = (c .before .before .before .before .before .pre .0, (c .before .before .before .before .before .pre .1, sym (c .before .before .depend .ensures) ∙ c .before .if1 .left))
 
 returns-2 : tie.Need-returns-2
-returns-2 c = let-through (decode (c .before .before .before .before .before .before .before .before .args .w .now)) (Depend (c .before .before .before .before .before .before .before .before .args .kind) (c .before .before .before .before .before .before .before .before .args .leader) (c .before .before .before .before .before .before .before .before .args .follower)) _ (c .before .before .before .before .before .depend .ensures) (c .before .before .before .before .if1 .left) (λ z. c .before .before .depend2 .ensures)
+returns-2 c = let-through (decode (c .before .before .before .before .before .before .before .before .args .w .now)) (Depend (c .before .before .before .before .before .before .before .before .args .kind) (c .before .before .before .before .before .before .before .before .args .leader) (c .before .before .before .before .before .before .before .before .args .follower)) _ (c .before .before .before .before .before .depend .ensures) (c .before .before .before .before .if1 .left) (c .before .before .depend2 .ensures)
 
 pub depend-spec : {M : Type 1} → statement M
 depend-spec =

@@ -14,7 +14,7 @@ initiate-requires-2 : tie.Need-initiate-requires-2
 initiate-requires-2 c κs = (c .before .before .before .before .before .pre .0, (c .before .before .before .before .before .pre .1, sym (c .before .before .initiate .ensures) ∙ c .before .if1 .left))
 
 returns-2 : tie.Need-returns-2
-returns-2 c = let-through (decode (c .before .before .before .before .before .before .before .before .args .w .now)) (Initiate (c .before .before .before .before .before .before .before .before .args .parent)) _ (c .before .before .before .before .before .initiate .ensures) (c .before .before .before .before .if1 .left) (λ z. c .before .before .initiate2 .ensures)
+returns-2 c = let-through (decode (c .before .before .before .before .before .before .before .before .args .w .now)) (Initiate (c .before .before .before .before .before .before .before .before .args .parent)) _ (c .before .before .before .before .before .initiate .ensures) (c .before .before .before .before .if1 .left) (c .before .before .initiate2 .ensures)
 
 pub initiate-spec : {M : Type 1} → statement M
 initiate-spec =

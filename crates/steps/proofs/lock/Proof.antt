@@ -14,7 +14,7 @@ lock-requires-2 : tie.Need-lock-requires-2
 lock-requires-2 c κs = (c .before .before .before .before .before .pre .0, (c .before .before .before .before .before .pre .1, sym (c .before .before .lock .ensures) ∙ c .before .if1 .left))
 
 returns-2 : tie.Need-returns-2
-returns-2 c = let-through (decode (c .before .before .before .before .before .before .before .before .args .w .now)) (Lock (c .before .before .before .before .before .before .before .before .args .change) (c .before .before .before .before .before .before .before .before .args .entry) (c .before .before .before .before .before .before .before .before .args .mode)) _ (c .before .before .before .before .before .lock .ensures) (c .before .before .before .before .if1 .left) (λ z. c .before .before .lock2 .ensures)
+returns-2 c = let-through (decode (c .before .before .before .before .before .before .before .before .args .w .now)) (Lock (c .before .before .before .before .before .before .before .before .args .change) (c .before .before .before .before .before .before .before .before .args .entry) (c .before .before .before .before .before .before .before .before .args .mode)) _ (c .before .before .before .before .before .lock .ensures) (c .before .before .before .before .if1 .left) (c .before .before .lock2 .ensures)
 
 pub lock-spec : {M : Type 1} → statement M
 lock-spec =

@@ -14,7 +14,7 @@ permit-requires-2 : tie.Need-permit-requires-2
 permit-requires-2 c κs = (c .before .before .before .before .before .pre .0, (c .before .before .before .before .before .pre .1, sym (c .before .before .permit .ensures) ∙ c .before .if1 .left))
 
 returns-2 : tie.Need-returns-2
-returns-2 c = let-through (decode (c .before .before .before .before .before .before .before .before .args .w .now)) (Permit (c .before .before .before .before .before .before .before .before .args .giver) (c .before .before .before .before .before .before .before .before .args .taker) (c .before .before .before .before .before .before .before .before .args .entry) (c .before .before .before .before .before .before .before .before .args .operations)) _ (c .before .before .before .before .before .permit .ensures) (c .before .before .before .before .if1 .left) (λ z. c .before .before .permit2 .ensures)
+returns-2 c = let-through (decode (c .before .before .before .before .before .before .before .before .args .w .now)) (Permit (c .before .before .before .before .before .before .before .before .args .giver) (c .before .before .before .before .before .before .before .before .args .taker) (c .before .before .before .before .before .before .before .before .args .entry) (c .before .before .before .before .before .before .before .before .args .operations)) _ (c .before .before .before .before .before .permit .ensures) (c .before .before .before .before .if1 .left) (c .before .before .permit2 .ensures)
 
 pub permit-spec : {M : Type 1} → statement M
 permit-spec =

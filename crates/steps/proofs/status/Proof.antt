@@ -1,8 +1,10 @@
 -- `steps::status` meets its contract. Assumes nothing.
+use mathlib.Core.Path.{refl}
 use Rattle.rules.specs.Calls.{Status}
+use Rattle.rules.specs.Effects.{effect}
 use Rattle.layout.specs.Codec.{decode}
 use Rattle.replies.proofs.GiveLaws.{turned-back, let-through}
-use Rattle.steps.proofs.LookLaws.{status-gives}
+use Rattle.steps.proofs.LookLaws.{looks}
 use borrow.Author.Needs.{needs}
 use Rattle.steps.proofs.status.Statement.{statement}
 use Rattle.steps.proofs.status.Tie as tie
@@ -11,7 +13,10 @@ returns : tie.Need-returns
 returns c = turned-back (c .before .before .before .before .args .w .now) (c .before .before .before .before .pre .1) (Status (c .before .before .before .before .args .change)) _ _ (c .before .before .change .ensures .status) (c .before .if1 .taken) (c .unchanged .ensures)
 
 returns-2 : tie.Need-returns-2
-returns-2 c = let-through (decode (c .before .before .before .before .before .args .w .now)) (Status (c .before .before .before .before .before .args .change)) _ (c .before .before .before .change .ensures .status) (c .before .before .if1 .left) (λ z. status-gives (c .before .before .before .before .before .args .w .now) (c .before .before .before .before .before .pre .1) _ _ (c .done .ensures) (c .before .before .before .before .before .args .change) (c .before .status .ensures))
+returns-2 c =
+    let s = c .before .before .before .before .before in
+    let-through (decode (s .args .w .now)) (Status (s .args .change)) _ (c .before .before .before .change .ensures .status) (c .before .before .if1 .left)
+    (looks (s .args .w .now) (s .pre .1) _ _ (c .done .ensures) (Status (s .args .change)) (c .before .status .ensures) (unfold effect in refl))
 
 pub status-spec : {M : Type 1} → statement M
 status-spec =

@@ -1,8 +1,10 @@
 -- `steps::value` meets its contract. Assumes nothing.
+use mathlib.Core.Path.{refl}
 use Rattle.rules.specs.Calls.{Value}
+use Rattle.rules.specs.Effects.{effect}
 use Rattle.layout.specs.Codec.{decode}
 use Rattle.replies.proofs.GiveLaws.{turned-back, let-through}
-use Rattle.steps.proofs.LookLaws.{value-gives}
+use Rattle.steps.proofs.LookLaws.{looks}
 use borrow.Author.Needs.{needs}
 use Rattle.steps.proofs.value.Statement.{statement}
 use Rattle.steps.proofs.value.Tie as tie
@@ -11,7 +13,10 @@ returns : tie.Need-returns
 returns c = turned-back (c .before .before .before .before .args .w .now) (c .before .before .before .before .pre .1) (Value (c .before .before .before .before .args .entry)) _ _ (c .before .before .value .ensures) (c .before .if1 .taken) (c .unchanged .ensures)
 
 returns-2 : tie.Need-returns-2
-returns-2 c = let-through (decode (c .before .before .before .before .before .args .w .now)) (Value (c .before .before .before .before .before .args .entry)) _ (c .before .before .before .value .ensures) (c .before .before .if1 .left) (λ z. value-gives (c .before .before .before .before .before .args .w .now) (c .before .before .before .before .before .pre .1) _ _ (c .done .ensures) (c .before .before .before .before .before .args .entry) (c .before .value2 .ensures))
+returns-2 c =
+    let s = c .before .before .before .before .before in
+    let-through (decode (s .args .w .now)) (Value (s .args .entry)) _ (c .before .before .before .value .ensures) (c .before .before .if1 .left)
+    (looks (s .args .w .now) (s .pre .1) _ _ (c .done .ensures) (Value (s .args .entry)) (c .before .value2 .ensures) (unfold effect in refl))
 
 pub value-spec : {M : Type 1} → statement M
 value-spec =

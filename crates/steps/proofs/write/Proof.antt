@@ -14,7 +14,7 @@ write-requires-2 : tie.Need-write-requires-2
 write-requires-2 c κs = (c .before .before .before .before .before .pre .0, (c .before .before .before .before .before .pre .1, sym (c .before .before .write .ensures (c .before .before .before .before .before .args .value)) ∙ c .before .if1 .left))
 
 returns-2 : tie.Need-returns-2
-returns-2 c = let-through (decode (c .before .before .before .before .before .before .before .before .args .w .now)) (Write (c .before .before .before .before .before .before .before .before .args .change) (c .before .before .before .before .before .before .before .before .args .entry) (c .before .before .before .before .before .before .before .before .args .value)) _ (c .before .before .before .before .before .write .ensures (c .before .before .before .before .before .before .before .before .args .value)) (c .before .before .before .before .if1 .left) (λ z. c .before .before .write2 .ensures)
+returns-2 c = let-through (decode (c .before .before .before .before .before .before .before .before .args .w .now)) (Write (c .before .before .before .before .before .before .before .before .args .change) (c .before .before .before .before .before .before .before .before .args .entry) (c .before .before .before .before .before .before .before .before .args .value)) _ (c .before .before .before .before .before .write .ensures (c .before .before .before .before .before .before .before .before .args .value)) (c .before .before .before .before .if1 .left) (c .before .before .write2 .ensures)
 
 pub write-spec : {M : Type 1} → statement M
 write-spec =

@@ -17,7 +17,7 @@ shl-result : tie.Need-shl-result
 shl-result c = low c
 
 returns : tie.Need-returns
-returns c j h = word-without (c .args .w) (trailingZeros 64 (c .args .w)) (low c) j h
+returns c j h = word-without (c .args .w) (trailingZeros 64 (c .args .w)) j h
 
 pub without-lowest-spec : {M : Type 1} → statement M
 without-lowest-spec = tie.close (tie.spec cast-result shl-result returns)

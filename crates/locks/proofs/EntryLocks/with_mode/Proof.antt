@@ -6,7 +6,7 @@ use Rattle.locks.proofs.EntryLocks.with_mode.Statement.{statement}
 use Rattle.locks.proofs.EntryLocks.with_mode.Tie as tie
 
 returns : tie.Need-returns
-returns c row m l =
+returns c row l =
     let a = c .before .before .before .before .before .before .args in
     record {
       readers = lock-joined row (a .change) (a .mode) 1 (search needs) _ _ (l .readers) (c .before .before .before .without .ensures) _ (c .add .ensures) (c .before .if1 .taken);
@@ -14,7 +14,7 @@ returns c row m l =
     }
 
 returns-2 : tie.Need-returns-2
-returns-2 c row m l =
+returns-2 c row l =
     let a = c .before .before .before .before .before .before .before .args in
     record {
       readers = lock-left row (a .change) (a .mode) 1 (search needs) _ _ (l .readers) (c .before .before .before .before .without .ensures) (omega arith);
@@ -22,7 +22,7 @@ returns-2 c row m l =
     }
 
 returns-3 : tie.Need-returns-3
-returns-3 c row m l =
+returns-3 c row l =
     let a = c .before .before .before .before .before .before .args in
     record {
       readers = lock-left row (a .change) (a .mode) 1 (search needs) _ _ (l .readers) (c .before .before .before .without .ensures) (omega arith);

@@ -25,7 +25,7 @@ loop-holds : tie.Need-loop-holds Inv-loop μ-loop
 loop-holds c = (search needs, growing-start _ _ _ _)
 
 returns : tie.Need-returns Inv-loop μ-loop
-unfolding members wordsHave
+unfolding members
 returns c =
     let a = c .before .before .before .before .before .before .before .before .args in
     let l = c .before .before .before .before .loop in
@@ -38,7 +38,7 @@ returns c =
 
 -- after a pass that added something, whichever way the next one goes
 less : (c : tie.After-is-empty Inv-loop μ-loop) → 256 - countBelow 256 (wordsHave (c .before .before .before .before .before .pass .last .0)) < 256 - countBelow 256 (wordsHave (c .before .before .before .before .before .before .before .loop .words))
-unfolding members wordsHave
+unfolding members
 less c =
     let a = c .before .before .before .before .before .before .before .before .before .before .before .args in
     let l = c .before .before .before .before .before .before .before .loop in
