@@ -4,7 +4,7 @@ use crate::model::{Permit, Record, Tie, Window};
 const GIVEN: u8 = 160;
 
 /// The numbers of the live changes: five of every eight given.
-pub fn live() -> Vec<u8> {
+fn live() -> Vec<u8> {
     (1..=GIVEN).filter(|c| ![3, 5, 6].contains(&(c % 8))).collect()
 }
 

@@ -1,6 +1,6 @@
 /*
  * What lock, write and commit do to a window's bytes, by hand and without any check: written from docs/WINDOW.md.
- * The window must be sound and the call one that is answered 0.
+ * The window must be sound, and the call one that is answered 0 and changes it.
  */
 #include <stddef.h>
 #include <stdint.h>

@@ -29,7 +29,7 @@ struct Memory([u8; SIZE]);
 #[derive(Clone, Copy)]
 enum Job {
     Pass,
-    Call,
+    Make,
     Restore,
     PlainPass,
     Memchr,
@@ -38,7 +38,7 @@ enum Job {
 }
 use Job::*;
 
-const JOBS: [Job; 7] = [Pass, Call, Restore, PlainPass, Memchr, Effect, Model];
+const JOBS: [Job; 7] = [Pass, Make, Restore, PlainPass, Memchr, Effect, Model];
 
 /// Nanoseconds of one turn, the restoring taken off.
 pub struct Times {
@@ -147,7 +147,7 @@ impl Place {
                 black_box(unsafe { memchr(black_box(self.zeros.0.as_ptr()), 1, SIZE) });
             }
             Restore => self.restore(),
-            Call => {
+            Make => {
                 self.restore();
                 black_box(make(&mut self.memory.0, self.kind));
             }
@@ -174,7 +174,7 @@ impl Place {
             PlainPass => (0..turns).for_each(|_| self.turn(PlainPass)),
             Memchr => (0..turns).for_each(|_| self.turn(Memchr)),
             Restore => (0..turns).for_each(|_| self.turn(Restore)),
-            Call => (0..turns).for_each(|_| self.turn(Call)),
+            Make => (0..turns).for_each(|_| self.turn(Make)),
             Model => (0..turns).for_each(|_| self.turn(Model)),
             Effect => (0..turns).for_each(|_| self.turn(Effect)),
         }

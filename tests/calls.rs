@@ -176,6 +176,7 @@ fn damaged(r: &mut Random, kind: &Kind, trial: &Trial, tally: &mut Tally) {
 }
 
 /// Completes all live changes; as many walks as there are live groups then commit them all.
+/// Where that would take more than 3,000 commits nothing is done.
 fn walks(trial: &mut Trial, tally: &mut Tally) {
     let story = trial.story().unwrap();
     let live: Vec<u32> = story.live().into_iter().collect();

@@ -21,7 +21,7 @@ fn broken(name: &str, line: &[u8]) -> Corner {
     behind(&format!("{name}: {}", line.escape_ascii()), &lines, "1,30,0\n2,1,0\n")
 }
 
-pub fn whole_case() -> Corner {
+fn whole_case() -> Corner {
     whole(
         "the whole case",
         b"call,a,b,c,d\nopen,2,0,0,0\ninitiate,0,0,0,0\ninitiate,0,0,0,0\nbegin,1,0,0,0\nlock,1,0,2,0\n\
@@ -224,7 +224,7 @@ fn field_counts() -> Vec<Corner> {
 /// How many fields each call reads, in the order of NAMES.
 const READS: [usize; 15] = [1, 1, 1, 1, 3, 2, 3, 4, 3, 3, 1, 1, 1, 1, 1];
 
-/// Each call before open gets 1; with something in an unused field its line is broken.
+/// Each call before open gets 1, and open itself 2 for its 300 entries; with something in an unused field the line is broken.
 fn unused_fields() -> Vec<Corner> {
     let mut corners = vec![];
     for (name, reads) in NAMES.into_iter().zip(READS) {

@@ -50,7 +50,7 @@ impl Story {
     /// The book's step for a call answered 0.
     fn enter(&mut self, call: Call) {
         match call {
-            Open(entries) => *self = Story { entries, ..Story::default() },
+            Open(entries) => self.entries = entries,
             Lock(c, e, mode) => self.raise(e, c, mode),
             Write(c, e, value) => self.writes.push((e, value, c)),
             Permit(giver, taker, e, operations) => {

@@ -47,7 +47,8 @@ fn named(name: &[u8], [a, b, c, d]: [u32; 4]) -> Option<Call> {
         "abort" => Abort(a),
         "status" => Status(a),
         "parent" => Parent(a),
-        _ => Value(a),
+        "value" => Value(a),
+        name => unreachable!("{name}"),
     })
 }
 

@@ -88,17 +88,18 @@ pub fn bytes(w: &Window) -> Vec<u8> {
     m
 }
 
-/// The window that bytes say, if every figure is in its range and every unused byte and bit is 0.
-pub fn window(m: &[u8]) -> Option<Window> {
-    if m.len() < SIZE {
-        return None;
-    }
-    let m = &m[..SIZE];
-    let [entries, given, records, permits, ties] = [0, 2, 4, 6, 8].map(|at| get16(m, at));
+fn zero(m: &[u8], from: usize, to: usize) -> bool {
+    m[from..to] == ZEROS[from..to]
+}
+
+/// The five figures, if each is in its range and every byte past what they count is 0.
+fn figures(m: &[u8]) -> Option<[usize; 5]> {
+    let figures = [0, 2, 4, 6, 8].map(|at| get16(m, at));
+    let [entries, given, records, permits, ties] = figures;
     if entries < 1 || entries > 256 || given > 255 || records > 2_048 || permits > 1_024 || ties > 512 {
         return None;
     }
-    let zero = |from: usize, to: usize| m[from..to] == ZEROS[from..to];
+    let zero = |from: usize, to: usize| zero(m, from, to);
     if !(zero(10, VALUES)
         && zero(VALUES + 4 * entries, CHANGES + 4)
         && zero(CHANGES + 4 * (given + 1), LOCKS)
@@ -109,6 +110,29 @@ pub fn window(m: &[u8]) -> Option<Window> {
     {
         return None;
     }
+    Some(figures)
+}
+
+fn locks(m: &[u8], entries: usize) -> Vec<Lock> {
+    let mut locks = vec![];
+    for e in (0..entries).filter(|e| !zero(m, LOCKS + 64 * e, LOCKS + 64 * e + 64)) {
+        for (i, byte) in m[LOCKS + 64 * e..LOCKS + 64 * e + 64].iter().enumerate() {
+            for bit in (0..8).filter(|bit| byte >> bit & 1 == 1) {
+                locks.push((e as u8, (i % 32 * 8 + bit) as u8, (i / 32 + 1) as u8));
+            }
+        }
+    }
+    locks
+}
+
+/// The window that bytes say, if every figure is in its range and every unused byte is 0.
+/// A bit that is no change's is read as a lock, which `locks_sound` refuses.
+pub fn window(m: &[u8]) -> Option<Window> {
+    if m.len() < SIZE {
+        return None;
+    }
+    let m = &m[..SIZE];
+    let [entries, given, records, permits, ties] = figures(m)?;
     let mut w = Window { entries, ..Window::default() };
     for e in 0..entries {
         let at = VALUES + 4 * e;
@@ -116,20 +140,12 @@ pub fn window(m: &[u8]) -> Option<Window> {
     }
     for c in 1..=given {
         let at = CHANGES + 4 * c;
-        if !zero(at + 2, at + 4) {
+        if !zero(m, at + 2, at + 4) {
             return None;
         }
         w.changes.push((m[at], m[at + 1]));
     }
-    for e in (0..entries).filter(|e| !zero(LOCKS + 64 * e, LOCKS + 64 * e + 64)) {
-        for (i, byte) in m[LOCKS + 64 * e..LOCKS + 64 * e + 64].iter().enumerate() {
-            for bit in 0..8 {
-                if byte >> bit & 1 == 1 {
-                    w.locks.push((e as u8, (i % 32 * 8 + bit) as u8, (i / 32 + 1) as u8));
-                }
-            }
-        }
-    }
+    w.locks = locks(m, entries);
     for p in m[PERMITS..PERMITS + 4 * permits].chunks(4) {
         w.permits.push(Permit { entry: p[0], giver: p[1], taker: p[2], operations: p[3] });
     }

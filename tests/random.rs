@@ -98,7 +98,8 @@ pub fn named(r: &mut Random, kind: &Kind, w: &Window, name: usize) -> Call {
         11 => Abort(change(r, w, 1..=5)),
         12 => Status(change(r, w, 1..=5)),
         13 => Parent(change(r, w, 1..=5)),
-        _ => Value(entry(r, w)),
+        14 => Value(entry(r, w)),
+        _ => unreachable!("{name}"),
     }
 }
 

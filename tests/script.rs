@@ -1,6 +1,5 @@
 //! The script program held to listings worked out by hand and to a model.
-//! script [--model-only] [PROGRAM]: all but the stress; script stress [PROGRAM]: the stress.
-//! PROGRAM is target/bin/script if it is not given. WINDOW_TEST_SEED sets the random scripts' seed.
+//! script: all but the stress; script stress: the stress. WINDOW_TEST_SEED sets the random scripts' seed.
 mod corners;
 mod garble;
 mod listing;
@@ -17,6 +16,9 @@ use std::io::{self, Write};
 use std::os::fd::AsRawFd;
 use std::process::{exit, Child, ChildStdin, Command, ExitStatus, Stdio};
 use std::time::Duration;
+
+/// The program under test.
+const PROGRAM: &str = "target/bin/script";
 
 const INPUT: &str = "target/script.input";
 const OUTPUT: &str = "target/script.output";
@@ -81,55 +83,47 @@ fn taken(pipe: &ChildStdin, child: &mut Child) -> bool {
     false
 }
 
-/// The program under test; none if the model is tried alone.
-struct Runner {
-    program: Option<String>,
+/// The program ended well and has printed this.
+fn judge(name: &str, script: &[u8], due: &[u8], status: io::Result<ExitStatus>) {
+    match status {
+        Ok(status) if status.success() => {}
+        other => fail(format!("{name}: the program ended with {other:?}; the script is in {INPUT}")),
+    }
+    same(name, script, due, "the program", &fs::read(OUTPUT).expect("the output"));
 }
 
-impl Runner {
-    fn judge(name: &str, script: &[u8], due: &[u8], status: io::Result<ExitStatus>) {
-        match status {
-            Ok(status) if status.success() => {}
-            other => fail(format!("{name}: the program ended with {other:?}; the script is in {INPUT}")),
+/// The program prints this when its input is a file.
+fn hold_program(name: &str, script: &[u8], due: &[u8]) {
+    fs::write(INPUT, script).expect("the input is written");
+    let (input, output) = (File::open(INPUT).expect("the input"), File::create(OUTPUT).expect("the output"));
+    judge(name, script, due, Command::new(PROGRAM).stdin(input).stdout(output).status());
+}
+
+/// The same when its input comes through a pipe in pieces of this many bytes.
+fn hold_in_pieces(name: &str, script: &[u8], due: &[u8], piece: usize) {
+    fs::write(INPUT, script).expect("the input is written");
+    let output = File::create(OUTPUT).expect("the output");
+    let child = Command::new(PROGRAM).stdin(Stdio::piped()).stdout(output).spawn();
+    let mut child = child.unwrap_or_else(|error| fail(format!("{PROGRAM}: {error}")));
+    let mut pipe = child.stdin.take().expect("a pipe");
+    for bytes in script.chunks(piece) {
+        // A program that has seen a broken first line may have ended.
+        if pipe.write_all(bytes).is_err() || !taken(&pipe, &mut child) {
+            break;
         }
-        same(name, script, due, "the program", &fs::read(OUTPUT).expect("the output"));
     }
+    drop(pipe);
+    judge(name, script, due, child.wait());
+}
 
-    /// The program prints this when its input is a file.
-    fn hold_program(&self, name: &str, script: &[u8], due: &[u8]) {
-        let Some(program) = &self.program else { return };
-        fs::write(INPUT, script).expect("the input is written");
-        let (input, output) = (File::open(INPUT).expect("the input"), File::create(OUTPUT).expect("the output"));
-        Self::judge(name, script, due, Command::new(program).stdin(input).stdout(output).status());
-    }
-
-    /// The same when its input comes through a pipe in pieces of this many bytes.
-    fn hold_in_pieces(&self, name: &str, script: &[u8], due: &[u8], piece: usize) {
-        let Some(program) = &self.program else { return };
-        fs::write(INPUT, script).expect("the input is written");
-        let output = File::create(OUTPUT).expect("the output");
-        let child = Command::new(program).stdin(Stdio::piped()).stdout(output).spawn();
-        let mut child = child.unwrap_or_else(|error| fail(format!("{program}: {error}")));
-        let mut pipe = child.stdin.take().expect("a pipe");
-        for bytes in script.chunks(piece) {
-            // A program that has seen a broken first line may have ended.
-            if pipe.write_all(bytes).is_err() || !taken(&pipe, &mut child) {
-                break;
-            }
-        }
-        drop(pipe);
-        Self::judge(name, script, due, child.wait());
-    }
-
-    /// The model and the program print what was worked out by hand.
-    fn hold(&self, (name, script, due): &Corner) {
-        same(name, script, due, "the model", &listing::listing(script));
-        self.hold_program(name, script, due);
-    }
+/// The model and the program print what was worked out by hand.
+fn hold((name, script, due): &Corner) {
+    same(name, script, due, "the model", &listing::listing(script));
+    hold_program(name, script, due);
 }
 
 /// The scripts of examples/asset with the listings beside them: names, scripts, listings.
-fn models() -> Vec<Corner> {
+fn asset_scripts() -> Vec<Corner> {
     let folder = fs::read_dir("examples/asset").expect("examples/asset");
     let mut paths: Vec<_> = folder.map(|file| file.expect("a file").path()).collect();
     paths.retain(|path| path.extension().is_some_and(|e| e == "csv"));
@@ -138,28 +132,27 @@ fn models() -> Vec<Corner> {
     paths.iter().map(|path| (path.display().to_string(), read(path), read(&path.with_extension("out")))).collect()
 }
 
-fn hold_models(runner: &Runner) {
-    runner.hold(&corners::whole_case());
-    let models = models();
-    if models.is_empty() {
+fn hold_asset_scripts() {
+    let scripts = asset_scripts();
+    if scripts.is_empty() {
         fail("no scripts in examples/asset".to_string());
     }
-    models.iter().for_each(|model| runner.hold(model));
-    println!("the whole case and {} scripts of examples/asset print what was worked out", models.len());
+    scripts.iter().for_each(hold);
+    println!("{} scripts of examples/asset print what was worked out", scripts.len());
 }
 
-fn hold_corners(runner: &Runner) {
+fn hold_corners() {
     let corners = corners::corners();
-    corners.iter().for_each(|corner| runner.hold(corner));
-    println!("{} corners print what was worked out", corners.len());
+    corners.iter().for_each(hold);
+    println!("{} corners, the whole case among them, print what was worked out", corners.len());
 }
 
-/// The models and some of the corners, the shorter ones, in pieces.
-fn hold_pieces(runner: &Runner) {
-    let mut scripts = models();
+/// The scripts of examples/asset and some of the corners, the shorter ones, in pieces.
+fn hold_pieces() {
+    let mut scripts = asset_scripts();
     scripts.extend(corners::corners().into_iter().filter(|corner| corner.1.len() < 2_000).step_by(5));
     for ((name, script, due), piece) in scripts.iter().zip([1, 2, 3, 7, 13, 64].into_iter().cycle()) {
-        runner.hold_in_pieces(name, script, due, piece);
+        hold_in_pieces(name, script, due, piece);
     }
     println!("{} scripts print the same in pieces through a pipe", scripts.len());
 }
@@ -190,11 +183,11 @@ impl Tally {
 }
 
 /// Many short scripts, and long ones that fill tables.
-fn hold_random(runner: &Runner, r: &mut Random) {
+fn hold_random(r: &mut Random) {
     let mut tally = Tally::default();
     let mut hold = |name: String, script: Vec<u8>| {
         let due = listing::listing(&script);
-        runner.hold_program(&name, &script, &due);
+        hold_program(&name, &script, &due);
         tally.count(&due);
     };
     for number in 0..SHORT {
@@ -215,28 +208,14 @@ fn hold_random(runner: &Runner, r: &mut Random) {
 }
 
 fn main() {
-    let mut arguments: Vec<String> = std::env::args().skip(1).collect();
-    let mut flag = |name: &str| {
-        let length = arguments.len();
-        arguments.retain(|a| a != name);
-        arguments.len() < length
-    };
-    let (alone, stressed) = (flag("--model-only"), flag("stress"));
-    let program = arguments.pop().unwrap_or("target/bin/script".to_string());
     let seed = random::seed();
-    fs::create_dir_all("target").expect("target/");
-    if stressed {
-        return stress::stress(&program, &mut Random(seed));
+    if std::env::args().nth(1).as_deref() == Some("stress") {
+        return stress::stress(PROGRAM, &mut Random(seed));
     }
-    let runner = Runner { program: Some(program).filter(|_| !alone) };
-    hold_models(&runner);
-    hold_corners(&runner);
+    hold_asset_scripts();
+    hold_corners();
     println!("seed {seed}");
-    hold_random(&runner, &mut Random(seed));
-    if alone {
-        println!("the model alone: no program was run");
-    } else {
-        println!("{} random scripts print what the model prints", SHORT + LONG);
-        hold_pieces(&runner);
-    }
+    hold_random(&mut Random(seed));
+    println!("{} random scripts print what the model prints", SHORT + LONG);
+    hold_pieces();
 }

@@ -117,6 +117,7 @@ impl Trial {
             self.now =
                 model::window(self.memory()).filter(|w| w.sound()).ok_or(format!("{call} leaves no sound window"))?;
         }
+        // An open answered 0 starts everything anew.
         if reply.0 == 0 && matches!(call, Call::Open(_)) {
             self.story = Some(Story::default());
         }
