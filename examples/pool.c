@@ -30,7 +30,7 @@ static uint32_t show(const char *call, window_reply reply)
     return done(reply);
 }
 
-static void print_weights(void)
+static void print_values(void)
 {
     printf("weights");
     for (uint32_t entry = 0; entry < 6; entry++)
@@ -62,7 +62,7 @@ static void hand_over_and_withdraw(uint32_t entry)
     /* The drain: a write needs the write lock. */
     show("lock", window_lock(POOL, engineer, entry, WINDOW_MODE_WRITE));
     show("write 0", window_write(POOL, engineer, entry, 0));
-    print_weights();
+    print_values();
 
     /* The lock, and the log record with the weight before, go to the colleague's change. */
     show("delegate", window_delegate(POOL, engineer, colleague, entry));
@@ -71,13 +71,13 @@ static void hand_over_and_withdraw(uint32_t entry)
     /* Number 2: both changes ended. */
     show("abort colleague's", window_abort(POOL, colleague));
     show("status of engineer's", window_status(POOL, engineer));
-    print_weights();
+    print_values();
 }
 
 int main(void)
 {
     set_up();
-    print_weights();
+    print_values();
     hand_over_and_withdraw(3);
     hand_over_and_withdraw(0);
     return EXIT_SUCCESS;

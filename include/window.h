@@ -53,7 +53,10 @@ enum window_status {
     WINDOW_STATUS_ABORTED = 5
 };
 
-/* Modes of a lock; a permit's operations are one of them, or both united with |. */
+/*
+ * Modes of a lock; a permit's operations are one of them, or both united with |.
+ * The locks of two changes on one entry clash where at least one of them is to write.
+ */
 enum window_mode {
     WINDOW_MODE_READ = 1,
     WINDOW_MODE_WRITE = 2
@@ -156,7 +159,8 @@ window_reply window_delegate(uint8_t *window, size_t length, uint32_t from, uint
 window_reply window_depend(uint8_t *window, size_t length, uint32_t kind, uint32_t leader, uint32_t follower);
 
 /*
- * Commits the change with its whole group; number: how many changes this call ended.
+ * Commits the change with its whole group, all that group ties join to it in any number of steps; number: how many changes
+ * this call ended.
  * WINDOW_BLOCKED where a member is not completed or a leader has not ended; number: the lowest of those.
  *   change  the change to commit; one that is committed is done with number 0, one that is aborted is WINDOW_ENDED
  * Answers: 3, 20, 21
@@ -164,7 +168,8 @@ window_reply window_depend(uint8_t *window, size_t length, uint32_t kind, uint32
 window_reply window_commit(uint8_t *window, size_t length, uint32_t change);
 
 /*
- * Aborts the change with all that must fall with it and undoes their writes; number: how many changes this call ended.
+ * Aborts the change with its group and all that fall ties lead to, step by step, and undoes their writes; number: how many
+ * changes this call ended.
  *   change  the change to abort; one that is aborted is done with number 0, one that is committed is WINDOW_ENDED
  * Answers: 3, 21
  */
