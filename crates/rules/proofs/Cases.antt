@@ -1,10 +1,10 @@
 -- The starred calls to try and some beside them, each as one list, for tables of any size that have room for them. By computation. Assumes nothing.
 -- `SizeLaws` has those in which a largest figure plays a part.
 use mathlib.Core.Path.{_≡_, refl}
-use mathlib.Core.List.{List, [], _∷_}
+use mathlib.Core.List.{List, [], _∷_, map}
 use Prim.Native.Nat.{ℕ, suc}
 use Rattle.rules.specs.Window.{Limits, fresh}
-use Rattle.rules.specs.Calls.{Call, Open, Initiate, Begin, Complete, Lock, Read, Write, Permit, Delegate, Depend, Commit, Abort, Status, Value}
+use Rattle.rules.specs.Calls.{Call, Open, Initiate, Begin, Complete, Lock, Read, Write, Permit, Delegate, Depend, Commit, Abort, Status, Parent, Value}
 use Rattle.rules.specs.Refusals.{step}
 use Rattle.rules.specs.Lists.{answers}
 use Rattle.rules.proofs.Computing.{rules}
@@ -107,3 +107,36 @@ pub permit-twice : Answered (two (Permit 1 2 0 1 ∷ Permit 1 2 0 2 ∷ Lock 1 0
     (begun ((0, 0) ∷ (0, 0) ∷ (0, 0) ∷ (0, 0) ∷ (0, 0) ∷ (0, 0) ∷ (8, 0) ∷ []))
 unfolding rules
 permit-twice e c r p t = refl
+
+-- THE CHECKING ORDER
+-- tables so small that each can be full
+abbrev small : Limits
+small = record { entries = 2; changes = 3; records = 2; permits = 1; ties = 1 }
+
+-- each refusal of each call, where it can be on arguments to which later ones apply too, and the numbers of the calls that look:
+-- every call with its answer and second number
+abbrev turned : List (Call × ℕ × ℕ)
+turned =
+    (Open 0, 2, 0) ∷ (Open 3, 2, 0) ∷ (Open 2, 0, 0)
+    ∷ (Initiate 1, 3, 0) ∷ (Initiate 0, 0, 1) ∷ (Initiate 1, 7, 0)
+    ∷ (Begin 0, 3, 0) ∷ (Begin 2, 3, 0) ∷ (Complete 2, 3, 0) ∷ (Complete 1, 7, 0) ∷ (Begin 1, 0, 0) ∷ (Begin 1, 7, 0) ∷ (Initiate 1, 0, 2)
+    ∷ (Status 3, 3, 0) ∷ (Status 1, 0, 2) ∷ (Parent 3, 3, 0) ∷ (Parent 2, 0, 1) ∷ (Value 2, 4, 0)
+    ∷ (Lock 3 2 3, 3, 0) ∷ (Lock 2 2 3, 4, 0) ∷ (Lock 2 1 3, 5, 0) ∷ (Lock 2 1 0, 5, 0) ∷ (Lock 2 1 1, 7, 0) ∷ (Lock 1 1 1, 0, 0)
+    ∷ (Read 3 2, 3, 0) ∷ (Read 2 2, 4, 0) ∷ (Read 2 0, 7, 0) ∷ (Read 1 0, 8, 0)
+    ∷ (Write 3 2 5, 3, 0) ∷ (Write 2 2 5, 4, 0) ∷ (Write 2 1 5, 7, 0) ∷ (Write 1 1 5, 8, 0) ∷ (Lock 1 1 2, 0, 0) ∷ (Write 1 1 5, 0, 0)
+    ∷ (Write 1 1 6, 0, 0) ∷ (Write 1 1 7, 11, 0) ∷ (Write 1 0 7, 8, 0) ∷ (Read 1 1, 0, 6) ∷ (Value 1, 0, 6)
+    ∷ (Permit 3 3 2 4, 3, 0) ∷ (Permit 1 3 2 4, 3, 0) ∷ (Permit 1 1 2 4, 4, 0) ∷ (Permit 1 1 1 4, 5, 0) ∷ (Permit 1 1 1 0, 5, 0) ∷ (Permit 1 1 1 1, 6, 0)
+    ∷ (Permit 1 2 1 1, 0, 0) ∷ (Permit 1 0 1 1, 11, 0) ∷ (Permit 1 2 1 2, 0, 0)
+    ∷ (Begin 2, 0, 0) ∷ (Initiate 0, 0, 3) ∷ (Initiate 4, 3, 0) ∷ (Initiate 3, 7, 0) ∷ (Initiate 0, 11, 0)
+    ∷ (Begin 3, 0, 0) ∷ (Lock 3 1 1, 20, 0) ∷ (Lock 2 1 1, 0, 0)
+    ∷ (Delegate 4 4 2, 3, 0) ∷ (Delegate 2 4 2, 3, 0) ∷ (Delegate 2 2 2, 4, 0) ∷ (Delegate 2 2 1, 6, 0) ∷ (Delegate 2 3 1, 10, 0) ∷ (Delegate 2 3 65535, 10, 0)
+    ∷ (Depend 4 4 4, 3, 0) ∷ (Depend 4 1 4, 3, 0) ∷ (Depend 4 1 1, 5, 0) ∷ (Depend 0 1 1, 5, 0) ∷ (Depend 2 1 1, 6, 0)
+    ∷ (Depend 2 1 2, 0, 0) ∷ (Depend 2 2 1, 9, 0) ∷ (Depend 2 1 3, 11, 0) ∷ (Depend 2 1 2, 0, 0)
+    ∷ (Commit 4, 3, 0) ∷ (Commit 2, 20, 1) ∷ (Complete 1, 0, 0) ∷ (Commit 1, 0, 1) ∷ (Commit 1, 0, 0) ∷ (Abort 1, 21, 0) ∷ (Abort 4, 3, 0) ∷ (Complete 1, 7, 0)
+    ∷ (Permit 1 2 1 1, 7, 0) ∷ (Permit 2 1 1 1, 7, 0) ∷ (Delegate 1 2 1, 7, 0) ∷ (Delegate 2 1 1, 7, 0) ∷ (Depend 1 1 2, 7, 0) ∷ (Depend 1 2 1, 7, 0)
+    ∷ (Initiate 1, 7, 0) ∷ (Read 1 1, 7, 0) ∷ (Abort 2, 0, 1) ∷ (Commit 2, 21, 0) ∷ (Abort 2, 0, 0)
+    ∷ (Status 1, 0, 4) ∷ (Status 2, 0, 5) ∷ (Status 3, 0, 2) ∷ (Parent 2, 0, 1) ∷ (Value 1, 0, 6) ∷ []
+
+pub checking-order : answers (step small) (fresh 0) (map (λ x. x .0) turned) ≡ map (λ x. (x .1, x .2)) turned
+unfolding rules
+checking-order = refl

@@ -29,6 +29,7 @@ pub mod SoundEnd
 pub mod SoundStep
 -- groups, the set that an abort ends and arrows, by paths; demand 2: when a lock is granted, when a change commits, what a withdrawal puts back
 pub mod Promises
+pub mod Numbers
 -- demand 3 of the rules (Demand.rules-kept); DemandAlike carries it to whatever answers alike
 pub mod DemandMoves
 pub mod DemandEnds
