@@ -17,6 +17,7 @@ pub mod PathLaws
 pub mod SourceLaws
 -- a call turned back or blocked changes nothing; figures for any table size
 pub mod RuleLaws
+pub mod RefusalLaws
 pub mod SizeLaws
 -- every call keeps a window sound (SoundStep.step-sound), one file for each kind of effect
 pub mod SoundParts
