@@ -17,7 +17,10 @@ pub mod PathLaws
 pub mod SourceLaws
 -- a call turned back or blocked changes nothing; figures for any table size
 pub mod RuleLaws
+pub mod TellLaws
+pub mod CheckLaws
 pub mod RefusalLaws
+pub mod RefusalWords
 pub mod SizeLaws
 -- every call keeps a window sound (SoundStep.step-sound), one file for each kind of effect
 pub mod SoundParts

@@ -1,26 +1,25 @@
 -- Demand 2 of the second numbers, in words of the window: which changes a commit ends, how many an end has ended, who is in the way of a
 -- commit, and what the calls that look at the window say. Assumes nothing.
 use mathlib.Core.Path.{_≡_, refl, sym, _∙_, ap}
-use mathlib.Core.Logic.{_⊎_, inl, inr, ⊎-elim, _≢_}
-use mathlib.Core.Bool.{Bool, true, false, not, cond, _&&_, _||_, false≢true}
-use mathlib.Core.List.{List, [], _∷_}
+use mathlib.Core.Logic.{_⊎_, ⊎-elim, _≢_}
+use mathlib.Core.Bool.{Bool, true, false, not, cond, _&&_, false≢true}
 use Prim.Native.Nat.{ℕ, zero, suc, _<_}
 use native.Mathlib.Omega.{arith}
 use lib.Dec.{eqb}
 use borrow.Author.Tests.{eqb-true, ne-eqb}
-use Rattle.rules.specs.Base.{put, anyBelow, countBelow, lowestBelow, any}
+use Rattle.rules.specs.Base.{anyBelow, countBelow, lowestBelow}
 use Rattle.rules.specs.Sets.{Set, putAll}
 use Rattle.rules.specs.Window.{Limits, TieRecord, Window, withValue, noChange, live, isEnded}
 use Rattle.rules.specs.Ties.{isArrow, tied, groupOf, endSet}
 use Rattle.rules.specs.Calls.{Call, Open, Initiate, Begin, Complete, Lock, Read, Write, Permit, Delegate, Depend, Commit, Abort, Status, Parent, Value, Outcome, done, unchanged}
 use Rattle.rules.specs.Effects.{addChange, covers, grantable, putHeld, lockEntry, commitBlockers, commitGroup, commitChange, endAll, size, abortChange, abortAll, effect, leadsTo, leadersOf}
 use Rattle.rules.specs.Refusals.{checks, firstFailed, _if_, settle, step}
-use Rattle.rules.proofs.BaseLaws.{or-left, or-right, and-both, and-left, and-right, eqb-same, put-same, put-other}
+use Rattle.rules.proofs.BaseLaws.{or-left, or-right, and-both, and-left, and-right, put-same, put-other}
 use Rattle.rules.proofs.BoundLaws.{count-ext, count-bound, lowest-hit, lowest-below}
 use Rattle.rules.proofs.DemandMoves.{live-status, not-ended}
 use Rattle.rules.proofs.ListLaws.{any-weaken}
 use Rattle.rules.proofs.Promises.{blocks, commit-live, abort-ends}
-use Rattle.rules.proofs.SoundParts.{Sound, live-of, live-below}
+use Rattle.rules.proofs.SoundParts.{Sound, live-of}
 use Rattle.rules.proofs.SoundStep.{group-live, fall-live}
 
 -- WHO ENDS
