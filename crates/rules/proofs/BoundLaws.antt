@@ -6,7 +6,7 @@ use native.Mathlib.Nat.{add-zero, add-suc, not-suc-le-zero}
 use native.Mathlib.Omega.{arith}
 use borrow.Author.Tests.{not-true}
 use Rattle.rules.specs.Base.{anyBelow, allBelow, countBelow, lowestBelow}
-use Rattle.rules.proofs.BaseLaws.{any-intro, any-elim, anyBelow-none, none-below, allBelow-intro, allBelow-at, both-ways, no-true, Within, count-same, Same, same, other, same?, Below, under, over, below}
+use Rattle.rules.proofs.BaseLaws.{or-swap, any-intro, any-elim, anyBelow-none, none-below, allBelow-intro, allBelow-at, both-ways, no-true, Within, count-same, Same, same, other, same?, Below, under, over, below}
 
 -- tests that agree below the bound
 module _ (f g : ℕ → Bool) where
@@ -29,12 +29,6 @@ module _ (f g : ℕ → Bool) where
   unfolding lowestBelow
   lowest-ext zero h = refl
   lowest-ext (suc n) h = rw (any-ext n (λ k l. h k (omega arith)), lowest-ext n (λ k l. h k (omega arith)), h n (omega arith))
-
-or-swap : (a b c d : Bool) → (a || b) || (c || d) ≡ (a || c) || (b || d)
-or-swap true b c d = refl
-or-swap false true true d = refl
-or-swap false true false d = refl
-or-swap false false c d = refl
 
 -- one of two tests, and a test that does not depend on the number
 pub any-or : (n : ℕ) (p q : ℕ → Bool) → anyBelow n (λ k. p k || q k) ≡ anyBelow n p || anyBelow n q

@@ -28,6 +28,7 @@ pub mod SoundPlain
 pub mod SoundLock
 pub mod SoundPermit
 pub mod SoundDelegate
+pub mod DelegateLaws
 pub mod SoundDepend
 pub mod SoundEnd
 pub mod SoundStep

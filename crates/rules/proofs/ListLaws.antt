@@ -1,7 +1,7 @@
 -- Tests of all or some of a list, of which a part is kept, of which each is changed, to which one is added; how long they are. Assumes nothing.
-use mathlib.Core.Path.{_≡_, refl, _∙_}
+use mathlib.Core.Path.{_≡_, refl, _∙_, ap}
 use mathlib.Core.Logic.{⊎-elim}
-use mathlib.Core.Bool.{Bool, true, false, not, cond, _||_, false≢true}
+use mathlib.Core.Bool.{Bool, true, false, not, cond, _&&_, _||_, false≢true}
 use mathlib.Core.List.{List, [], _∷_, _++_, map, List·Memᴰ, List·Memᴰ·head, List·Memᴰ·tail}
 use Prim.Native.Nat.{ℕ, zero, suc, _+_, _≤_, _<_}
 use native.Mathlib.Nat.{not-suc-le-zero, le-of-suc-le-suc}
@@ -9,7 +9,7 @@ use native.Mathlib.Numerals.{add-one}
 use native.Mathlib.Omega.{arith}
 use lib.ListN.{length, getD, length-append}
 use Rattle.rules.specs.Base.{exceeds, all, any, keep, table}
-use Rattle.rules.proofs.BaseLaws.{or-left, or-right, or-cases, and-both, and-left, and-right, never, over-less}
+use Rattle.rules.proofs.BaseLaws.{or-left, or-right, or-cases, or-swap, and-both, and-left, and-right, never, over-less}
 
 module _ {ℓ} {A : Type ℓ} where
   pub any-keep : (p q : A → Bool) (l : List A) → any p (keep q l) ≡ true → any p l ≡ true
@@ -142,3 +142,28 @@ pub all-map {ℓ κ} : {A : Type ℓ} {B : Type κ} (p : B → Bool) (q : A → 
 unfolding all
 all-map p q f h [] e = refl
 all-map p q f h (x ∷ l) e = and-both (p (f x)) (all p (map f l)) (h x (and-left (q x) (all q l) e)) (all-map p q f h l (and-right (q x) (all q l) e))
+
+-- a test of some of a list that was changed, of a part of it; one of two tests, and a test that nothing passes
+pub any-map {ℓ κ} : {A : Type ℓ} {B : Type κ} (f : B → Bool) (h : A → B) (l : List A) → any f (map h l) ≡ any (λ x. f (h x)) l
+unfolding any
+any-map f h [] = refl
+any-map f h (x ∷ l) = ap (λ b. f (h x) || b) (any-map f h l)
+
+pub any-kept {ℓ} : {A : Type ℓ} (f q : A → Bool) (l : List A) → any f (keep q l) ≡ any (λ x. q x && f x) l
+unfolding any keep
+any-kept f q [] = refl
+any-kept f q (x ∷ l) = go (q x) (any-kept f q l)
+  where
+    go : (b : Bool) → any f (keep q l) ≡ any (λ x. q x && f x) l → any f (cond b (x ∷ keep q l) (keep q l)) ≡ b && f x || any (λ x. q x && f x) l
+    go true e = ap (λ b. f x || b) e
+    go false e = e
+
+pub any-both {ℓ} : {A : Type ℓ} (f h : A → Bool) (l : List A) → any f l || any h l ≡ any (λ x. f x || h x) l
+unfolding any
+any-both f h [] = refl
+any-both f h (x ∷ l) = or-swap (f x) (any f l) (h x) (any h l) ∙ ap (λ b. (f x || h x) || b) (any-both f h l)
+
+pub any-false {ℓ} : {A : Type ℓ} (l : List A) → any (λ x. false) l ≡ false
+unfolding any
+any-false [] = refl
+any-false (x ∷ l) = any-false l

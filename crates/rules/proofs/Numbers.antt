@@ -19,6 +19,7 @@ use Rattle.rules.proofs.BoundLaws.{count-ext, count-bound, lowest-hit, 
 use Rattle.rules.proofs.DemandMoves.{live-status, not-ended}
 use Rattle.rules.proofs.ListLaws.{any-weaken}
 use Rattle.rules.proofs.Promises.{blocks, commit-live, abort-ends}
+use Rattle.rules.proofs.RefusalLaws.{done-unrefused}
 use Rattle.rules.proofs.SoundParts.{Sound, live-of}
 use Rattle.rules.proofs.SoundStep.{group-live, fall-live}
 
@@ -26,12 +27,12 @@ use Rattle.rules.proofs.SoundStep.{group-live, fall-live}
 -- a commit of a group that is answered 0 has ended it
 group-done : (W : Window) (g : Set) → commitGroup W g .answer ≡ 0 → commitGroup W g ≡ done (size W g) (endAll 4 g W)
 unfolding commitGroup unchanged done
-group-done W g = go (anyBelow (suc W.given) (commitBlockers W g))
+group-done W g = go (anyBelow (suc W.given) (commitBlockers W g)) _
   where
-    go : (b : Bool) → cond b (unchanged 20 (lowestBelow (suc W.given) (commitBlockers W g)) W) (done (size W g) (endAll 4 g W)) .answer ≡ 0
-        → cond b (unchanged 20 (lowestBelow (suc W.given) (commitBlockers W g)) W) (done (size W g) (endAll 4 g W)) ≡ done (size W g) (endAll 4 g W)
-    go true e = absurd (omega arith)
-    go false e = refl
+    go : (b : Bool) (k : ℕ) → cond b (unchanged 20 k W) (done (size W g) (endAll 4 g W)) .answer ≡ 0
+        → cond b (unchanged 20 k W) (done (size W g) (endAll 4 g W)) ≡ done (size W g) (endAll 4 g W)
+    go true k e = absurd (omega arith)
+    go false k e = refl
 
 module _ (L : Limits) (W : Window) (z : Sound L W) (c : ℕ) (lc : live W c ≡ true) where
   commit-is : step L W (Commit c) .answer ≡ 0 → step L W (Commit c) ≡ done (size W (groupOf W c)) (endAll 4 (groupOf W c) W)
@@ -120,12 +121,12 @@ of-way W c d (leads f g t) = or-right (groupOf W c d && not (eqb (W .status d) 3
 -- a commit of a group that is answered 20 names the lowest
 group-blocked : (W : Window) (g : Set) → commitGroup W g .answer ≡ 20 → (anyBelow (suc W.given) (commitBlockers W g) ≡ true) × (commitGroup W g .number ≡ lowestBelow (suc W.given) (commitBlockers W g))
 unfolding commitGroup unchanged done
-group-blocked W g = go (anyBelow (suc W.given) (commitBlockers W g))
+group-blocked W g = go (anyBelow (suc W.given) (commitBlockers W g)) _ _
   where
-    go : (b : Bool) → cond b (unchanged 20 (lowestBelow (suc W.given) (commitBlockers W g)) W) (done (size W g) (endAll 4 g W)) .answer ≡ 20
-        → (b ≡ true) × (cond b (unchanged 20 (lowestBelow (suc W.given) (commitBlockers W g)) W) (done (size W g) (endAll 4 g W)) .number ≡ lowestBelow (suc W.given) (commitBlockers W g))
-    go true e = (refl, refl)
-    go false e = absurd (omega arith)
+    go : (b : Bool) (j : ℕ) (X : Window) → cond b (unchanged 20 (lowestBelow (suc W.given) (commitBlockers W g)) W) (done j X) .answer ≡ 20
+        → (b ≡ true) × (cond b (unchanged 20 (lowestBelow (suc W.given) (commitBlockers W g)) W) (done j X) .number ≡ lowestBelow (suc W.given) (commitBlockers W g))
+    go true j X e = (refl, refl)
+    go false j X e = absurd (omega arith)
 
 -- a commit answered 20 is that of a group
 end-blocked : (W : Window) (n f a : Bool) (o : Outcome) → settle (cond n 3 0) W (cond f (done 0 W) (cond a (unchanged 21 0 W) o)) .answer ≡ 20
@@ -158,19 +159,10 @@ pub record Added (W X : Window) (n p : ℕ) : Type 0 where
   pub others : (d : ℕ) → d ≢ n → (X .status d ≡ W .status d) × (X .parent d ≡ W .parent d)
 
 module _ (L : Limits) (W : Window) where
-  -- a call that does one thing where it is not refused
-  let-by : (c : Call) (k : ℕ) (X : Window) → effect W c ≡ done k X → step L W c .answer ≡ 0 → step L W c ≡ done k X
-  unfolding step settle unchanged
-  let-by c k X f = go (firstFailed (checks L W c))
-    where
-      go : (a : ℕ) → settle a W (effect W c) .answer ≡ 0 → settle a W (effect W c) ≡ done k X
-      go zero e = f
-      go (suc a) e = absurd (omega arith)
-
   -- "second number is the new change"
   pub initiate-number : (p : ℕ) → step L W (Initiate p) .answer ≡ 0 → Added W (step L W (Initiate p) .after) (step L W (Initiate p) .number) p
   unfolding effect done addChange
-  initiate-number p a = rw (let-by (Initiate p) (suc W.given) (addChange W p) refl a) (record {
+  initiate-number p a = rw (done-unrefused L W (Initiate p) a .1) (record {
     next = refl;
     given = refl;
     status = put-same W.status (suc W.given) 1;
@@ -181,20 +173,20 @@ module _ (L : Limits) (W : Window) where
   -- "second number is the value"
   pub read-number : (c e : ℕ) → step L W (Read c e) .answer ≡ 0 → step L W (Read c e) .number ≡ W .value e
   unfolding effect done
-  read-number c e a = ap (λ o. o .number) (let-by (Read c e) (W .value e) W refl a)
+  read-number c e a = ap (λ o. o .number) (done-unrefused L W (Read c e) a .1)
 
   -- "status, parent (change), value (entry): second number is the answer"
   pub status-number : (c : ℕ) → step L W (Status c) .answer ≡ 0 → step L W (Status c) .number ≡ W .status c
   unfolding effect done
-  status-number c a = ap (λ o. o .number) (let-by (Status c) (W .status c) W refl a)
+  status-number c a = ap (λ o. o .number) (done-unrefused L W (Status c) a .1)
 
   pub parent-number : (c : ℕ) → step L W (Parent c) .answer ≡ 0 → step L W (Parent c) .number ≡ W .parent c
   unfolding effect done
-  parent-number c a = ap (λ o. o .number) (let-by (Parent c) (W .parent c) W refl a)
+  parent-number c a = ap (λ o. o .number) (done-unrefused L W (Parent c) a .1)
 
   pub value-number : (e : ℕ) → step L W (Value e) .answer ≡ 0 → step L W (Value e) .number ≡ W .value e
   unfolding effect done
-  value-number e a = ap (λ o. o .number) (let-by (Value e) (W .value e) W refl a)
+  value-number e a = ap (λ o. o .number) (done-unrefused L W (Value e) a .1)
 
 -- "the second number is 0 unless said": of these calls, whatever they answer
 pub data Unsaid : Call → Type 0 where

@@ -93,3 +93,12 @@ none-fails (k ∷ l) h = go (k .fails) refl (none-fails l (λ n. or-none (eqb k.
 pub unrefused : (L : Limits) (W : Window) (c : Call) → ((n : ℕ) → applies (checks L W c) n ≡ false) → step L W c ≡ effect W c
 unfolding step settle
 unrefused L W c h = rw (none-fails (checks L W c) h)
+
+-- a call answered 0 was not refused
+pub done-unrefused : (L : Limits) (W : Window) (c : Call) → step L W c .answer ≡ 0 → (firstFailed (checks L W c) ≡ 0) × (step L W c ≡ effect W c)
+unfolding step settle unchanged
+done-unrefused L W c = go (firstFailed (checks L W c))
+  where
+    go : (a : ℕ) → settle a W (effect W c) .answer ≡ 0 → (a ≡ 0) × (settle a W (effect W c) ≡ effect W c)
+    go zero e = (refl, refl)
+    go (suc a) e = absurd (omega arith)

@@ -1,0 +1,226 @@
+-- What a delegate does to permits, in words: the giver has none left on the entries named, the receiver has what either of the two had given,
+-- and all others are as before. Assumes nothing.
+use mathlib.Core.Path.{_≡_, refl, sym, _∙_, ap, fun-ext}
+use mathlib.Core.Logic.{_≢_}
+use mathlib.Core.Bool.{Bool, true, false, not, cond, _&&_, _||_, or-false, and-false, and-or-distrib-left}
+use mathlib.Core.List.{List, map}
+use Prim.Native.Nat.{ℕ, zero, suc, _≤_}
+use native.Mathlib.Omega.{arith}
+use lib.Dec.{eqb}
+use borrow.Author.Tests.{not-true, eqb-false, eqb-true, eq-eqb, ne-eqb}
+use Rattle.rules.specs.Base.{outside, allBelow, all, any, keep}
+use Rattle.rules.specs.Sets.{Set}
+use Rattle.rules.specs.Window.{Limits, PermitRecord, Window, permitKey, live}
+use Rattle.rules.specs.Locks.{contains, unitePermits, addPermit}
+use Rattle.rules.specs.Sound.{permitSound}
+use Rattle.rules.specs.Calls.{Delegate, done}
+use Rattle.rules.specs.Effects.{entriesNamed, handOver, effect, permitGiven, permitMoves, permitKept, movedPermit, movePermits}
+use Rattle.rules.specs.Refusals.{checks, _if_, step}
+use Rattle.rules.proofs.BaseLaws.{and-both, and-left, eqb-same, Same, same, other, same?, allBelow-at}
+use Rattle.rules.proofs.ListLaws.{any-map, any-kept, any-both, any-false, all-map, all-keep, all-weaken}
+use Rattle.rules.proofs.RefusalLaws.{done-unrefused}
+use Rattle.rules.proofs.SortLaws.{any-puts}
+use Rattle.rules.proofs.SoundParts.{Sound, permit-parts, inside-of}
+use Rattle.rules.proofs.SoundStep.{passed, codes}
+
+-- a permit for a mode stands, from this giver to this very taker (0: to anybody), on this entry
+unfoldable pub names : ℕ → ℕ → ℕ → ℕ → PermitRecord → Bool
+names g t e m p = eqb p.giver g && eqb p.taker t && eqb p.entry e && contains p.ops m
+
+unfoldable pub stands : List PermitRecord → ℕ → ℕ → ℕ → ℕ → Bool
+stands ps g t e m = any (names g t e m) ps
+
+-- OPERATIONS UNITED
+-- two tests that come out alike
+alike : Bool → Bool → Bool
+alike true b = b
+alike false b = not b
+
+alike-same : (a b : Bool) → alike a b ≡ true → a ≡ b
+unfolding alike
+alike-same true b e = sym e
+alike-same false b e = sym (not-true b e)
+
+-- the united operations contain a mode where either do: for operations from 1 to 3 and modes 1 and 2
+unites : ℕ → ℕ → ℕ → Bool
+unites i j k = alike (contains (cond (contains (suc j) (suc i)) (suc j) 3) (suc k)) (contains (suc i) (suc k) || contains (suc j) (suc k))
+
+united-table : allBelow 3 (λ i. allBelow 3 (λ j. allBelow 2 (unites i j))) ≡ true
+unfolding unites alike allBelow contains
+united-table = refl
+
+united : (a b m : ℕ) → (1 ≤ a) × (a ≤ 3) → (1 ≤ b) × (b ≤ 3) → (1 ≤ m) × (m ≤ 2) → contains (cond (contains b a) b 3) m ≡ contains a m || contains b m
+unfolding unites
+united zero b m x y z = absurd (omega (arith, x .0))
+united (suc i) zero m x y z = absurd (omega (arith, y .0))
+united (suc i) (suc j) zero x y z = absurd (omega (arith, z .0))
+united (suc i) (suc j) (suc k) x y z = alike-same _ _ (allBelow-at 2 _ (allBelow-at 3 _ (allBelow-at 3 _ united-table i (omega (arith, x .1))) j (omega (arith, y .1))) k (omega (arith, z .1)))
+
+-- operations from 1 to 3
+operations : PermitRecord → Bool
+operations p = not (outside 1 3 p.ops)
+
+operations-of : (p : PermitRecord) → operations p ≡ true → (1 ≤ p .ops) × (p .ops ≤ 3)
+unfolding operations
+operations-of p h = inside-of 1 3 p.ops (not-true _ h)
+
+-- WHAT STANDS AFTER
+module _ (g t e m : ℕ) (mode : (1 ≤ m) × (m ≤ 2)) where
+  -- two permits of one key, united
+  names-united : (p q : PermitRecord) → operations p ≡ true → operations q ≡ true → permitKey p ≡ permitKey q → names g t e m (unitePermits p q) ≡ names g t e m p || names g t e m q
+  unfolding names unitePermits permitKey
+  names-united p q hp hq k = rw (ap (λ x. x .k1) k, ap (λ x. x .k2) k, ap (λ x. x .k3) k)
+      (ap (λ b. eqb q.giver g && eqb q.taker t && eqb q.entry e && b) (united p.ops q.ops m (operations-of p hp) (operations-of q hq) mode)
+      ∙ and-or-distrib-left (eqb q.giver g && eqb q.taker t && eqb q.entry e) (contains p.ops m) (contains q.ops m))
+
+-- a permit of another entry, and of another giver
+not-here : (g t e m : ℕ) (p : PermitRecord) → p .entry ≢ e → names g t e m p ≡ false
+unfolding names
+not-here g t e m p n = rw (ne-eqb p.entry e n, and-false (eqb p.giver g && eqb p.taker t))
+
+not-given : (g t e m : ℕ) (p : PermitRecord) → p .giver ≢ g → names g t e m p ≡ false
+unfolding names
+not-given g t e m p n = rw (ne-eqb p.giver g n)
+
+-- a delegate of the entries `on`, of permits whose operations are from 1 to 3
+module _ (from to : ℕ) (on : Set) (ps : List PermitRecord) (known : all operations ps ≡ true) where
+  -- what becomes of one permit
+  becomes : ℕ → ℕ → ℕ → ℕ → PermitRecord → Bool
+  becomes g t e m p = permitMoves from to on p && names g t e m (movedPermit to p) || permitKept from on p && names g t e m p
+
+  moved-known : (p : PermitRecord) → operations p ≡ true → permitMoves from to on p ≡ true → operations (movedPermit to p) ≡ true
+  unfolding operations movedPermit
+  moved-known p h q = h
+
+  unite-known : (p q : PermitRecord) → operations q ≡ true → operations (unitePermits p q) ≡ true
+  unfolding operations unitePermits outside
+  unite-known p q h = go (contains q.ops p.ops)
+    where
+      go : (b : Bool) → not (outside 1 3 (cond b q.ops 3)) ≡ true
+      go true = h
+      go false = refl
+
+  after : (g t e m : ℕ) → (1 ≤ m) × (m ≤ 2) → (r : PermitRecord → Bool) → ((p : PermitRecord) → becomes g t e m p ≡ r p) → stands (movePermits from to on ps) g t e m ≡ any r ps
+  unfolding stands movePermits addPermit becomes
+  after g t e m mode r h =
+      any-puts permitKey unitePermits (names g t e m) operations (names-united g t e m mode) unite-known (map (movedPermit to) (keep (permitMoves from to on) ps)) (keep (permitKept from on) ps)
+      (all-map operations (λ p. operations (movedPermit to p)) (movedPermit to) (λ p q. q) _ (all-keep operations (permitMoves from to on) _ moved-known ps known))
+      (all-keep operations (permitKept from on) operations (λ p a b. a) ps known)
+      ∙ ap (λ b. b || any (names g t e m) (keep (permitKept from on) ps)) (any-map (names g t e m) (movedPermit to) _ ∙ any-kept _ (permitMoves from to on) ps)
+      ∙ ap (λ b. any (λ p. permitMoves from to on p && names g t e m (movedPermit to p)) ps || b) (any-kept (names g t e m) (permitKept from on) ps)
+      ∙ any-both _ _ ps
+      ∙ ap (λ f. any f ps) (fun-ext h)
+
+  -- it moves, unless to itself, where it is one of those handed over; else it stays
+  becomes-is : (g t e m : ℕ) (p : PermitRecord) (b : Bool) → permitGiven from on p ≡ b → becomes g t e m p ≡ cond b (not (eqb p.taker to) && names g t e m (movedPermit to p)) (names g t e m p)
+  unfolding becomes permitMoves permitKept
+  becomes-is g t e m p b h = rw h (go b (not (eqb p.taker to)) (names g t e m (movedPermit to p)) (names g t e m p))
+    where
+      go : (b x y z : Bool) → (b && x) && y || not b && z ≡ cond b (x && y) z
+      go true x y z = or-false (x && y)
+      go false x y z = refl
+
+  handed : (p : PermitRecord) → p .giver ≡ from → on p.entry ≡ true → permitGiven from on p ≡ true
+  unfolding permitGiven
+  handed p j o = and-both (eqb p.giver from) _ (eq-eqb p.giver from j) o
+
+  giver-of : (p : PermitRecord) → permitGiven from on p ≡ true → p .giver ≡ from
+  unfolding permitGiven
+  giver-of p h = eqb-true p.giver from (and-left (eqb p.giver from) _ h)
+
+  of-another : (p : PermitRecord) → p .giver ≢ from → permitGiven from on p ≡ false
+  unfolding permitGiven
+  of-another p n = rw (ne-eqb p.giver from n)
+
+  elsewhere : (p : PermitRecord) → on p.entry ≡ false → permitGiven from on p ≡ false
+  unfolding permitGiven
+  elsewhere p o = rw o (and-false (eqb p.giver from))
+
+  -- on another entry than e it says nothing of e
+  silent : (g t e m : ℕ) (p : PermitRecord) → p .entry ≢ e → becomes g t e m p ≡ false
+  unfolding movedPermit
+  silent g t e m p n = becomes-is g t e m p (permitGiven from on p) refl ∙ go (permitGiven from on p)
+    where
+      go : (b : Bool) → cond b (not (eqb p.taker to) && names g t e m (movedPermit to p)) (names g t e m p) ≡ false
+      go true = ap (λ x. not (eqb p.taker to) && x) (not-here g t e m (movedPermit to p) n) ∙ and-false (not (eqb p.taker to))
+      go false = not-here g t e m p n
+
+  -- what is handed over does not stand as another's
+  not-theirs : (g t e m : ℕ) (p : PermitRecord) → g ≢ to → not (eqb p.taker to) && names g t e m (movedPermit to p) ≡ false
+  unfolding movedPermit
+  not-theirs g t e m p n = ap (λ x. not (eqb p.taker to) && x) (not-given g t e m (movedPermit to p) (λ q. n (sym q))) ∙ and-false (not (eqb p.taker to))
+
+  -- it stands as the receiver's, to all but the receiver
+  now-theirs : (t e m : ℕ) (p : PermitRecord) → p .giver ≡ from → t ≢ to → not (eqb p.taker to) && names to t e m (movedPermit to p) ≡ names from t e m p
+  unfolding movedPermit names
+  now-theirs t e m p j n = go (same? p.taker t)
+    where
+      go : {b : Bool} → Same p.taker t b → not (eqb p.taker to) && (eqb to to && b && eqb p.entry e && contains p.ops m) ≡ eqb p.giver from && b && eqb p.entry e && contains p.ops m
+      go (same k) = rw (j, k, ne-eqb t to n, eqb-same to, eqb-same from)
+      go (other k) = rw (and-false (eqb to to), and-false (eqb p.giver from), and-false (not (eqb p.taker to)))
+
+  -- of the giver, of the receiver, of others
+  none-left : (t e m : ℕ) → from ≢ to → on e ≡ true → (p : PermitRecord) → becomes from t e m p ≡ false
+  none-left t e m apart o p = go (same? p.entry e) (same? p.giver from)
+    where
+      go : {x y : Bool} → Same p.entry e x → Same p.giver from y → becomes from t e m p ≡ false
+      go (other n) y = silent from t e m p n
+      go (same i) (same j) = becomes-is from t e m p true (handed p j (ap on i ∙ o)) ∙ not-theirs from t e m p apart
+      go (same i) (other n) = becomes-is from t e m p false (of-another p n) ∙ not-given from t e m p n
+
+  all-moved : (t e m : ℕ) → from ≢ to → t ≢ to → on e ≡ true → (p : PermitRecord) → becomes to t e m p ≡ names from t e m p || names to t e m p
+  all-moved t e m apart n o p = go (same? p.entry e) (same? p.giver from)
+    where
+      go : {x y : Bool} → Same p.entry e x → Same p.giver from y → becomes to t e m p ≡ names from t e m p || names to t e m p
+      go (other k) y = rw (silent to t e m p k, not-here from t e m p k, not-here to t e m p k)
+      go (same i) (same j) = becomes-is to t e m p true (handed p j (ap on i ∙ o)) ∙ now-theirs t e m p j n
+          ∙ sym (ap (λ x. names from t e m p || x) (not-given to t e m p (λ q. apart (sym j ∙ q))) ∙ or-false (names from t e m p))
+      go (same i) (other k) = becomes-is to t e m p false (of-another p k) ∙ sym (ap (λ x. x || names to t e m p) (not-given from t e m p k))
+
+  others-stay : (g t e m : ℕ) → g ≢ from → g ≢ to → (p : PermitRecord) → becomes g t e m p ≡ names g t e m p
+  others-stay g t e m f n p = becomes-is g t e m p (permitGiven from on p) refl ∙ go (permitGiven from on p) refl
+    where
+      go : (b : Bool) → permitGiven from on p ≡ b → cond b (not (eqb p.taker to) && names g t e m (movedPermit to p)) (names g t e m p) ≡ names g t e m p
+      go true h = not-theirs g t e m p n ∙ sym (not-given g t e m p (λ q. f (sym q ∙ giver-of p h)))
+      go false h = refl
+
+  elsewhere-stay : (g t e m : ℕ) → on e ≡ false → (p : PermitRecord) → becomes g t e m p ≡ names g t e m p
+  elsewhere-stay g t e m o p = go (same? p.entry e)
+    where
+      go : {x : Bool} → Same p.entry e x → becomes g t e m p ≡ names g t e m p
+      go (other n) = silent g t e m p n ∙ sym (not-here g t e m p n)
+      go (same i) = becomes-is g t e m p false (elsewhere p (ap on i ∙ o))
+
+-- IN WORDS
+-- a mode
+abbrev pub Mode : ℕ → Type 0
+Mode m = (1 ≤ m) × (m ≤ 2)
+
+-- W before and X after the permits that *from* has given on the entries `on` became those of *to*
+pub record PermitsMoved (W X : Window) (from to : ℕ) (on : Set) : Type 0 where
+  -- who hands over has none left there
+  pub giver : (k e m : ℕ) → Mode m → on e ≡ true → stands X.permits from k e m ≡ false
+  -- who receives has given what either of the two had, but to itself
+  pub receiver : (k e m : ℕ) → Mode m → on e ≡ true → k ≢ to → stands X.permits to k e m ≡ stands W.permits from k e m || stands W.permits to k e m
+  -- "Permits received do not move", nor those that others have given
+  pub others : (g k e m : ℕ) → Mode m → g ≢ from → g ≢ to → stands X.permits g k e m ≡ stands W.permits g k e m
+  pub elsewhere : (g k e m : ℕ) → Mode m → on e ≡ false → stands X.permits g k e m ≡ stands W.permits g k e m
+
+moves-permits : (W X : Window) (from to : ℕ) (on : Set) → X .permits ≡ movePermits from to on W.permits → all operations W.permits ≡ true → from ≢ to → PermitsMoved W X from to on
+unfolding stands
+moves-permits W X from to on e known apart = rw e (record {
+  giver = λ k e m w o. after from to on W.permits known from k e m w _ (none-left from to on W.permits known k e m apart o) ∙ any-false W.permits;
+  receiver = λ k e m w o n. after from to on W.permits known to k e m w _ (all-moved from to on W.permits known k e m apart n o) ∙ sym (any-both _ _ W.permits);
+  others = λ g k e m w f n. after from to on W.permits known g k e m w _ (others-stay from to on W.permits known g k e m f n);
+  elsewhere = λ g k e m w o. after from to on W.permits known g k e m w _ (elsewhere-stay from to on W.permits known g k e m o);
+})
+
+-- "moves … the permits that *from* has given"
+pub delegate-permits : (L : Limits) (W : Window) → Sound L W → (f t e : ℕ) → step L W (Delegate f t e) .answer ≡ 0 → PermitsMoved W (step L W (Delegate f t e) .after) f t (entriesNamed e)
+unfolding effect done handOver checks _if_ operations
+delegate-permits L W z f t e a =
+    let u = done-unrefused L W (Delegate f t e) a in
+    let p = passed (checks L W (Delegate f t e)) (codes L W (Delegate f t e)) (u .0) in
+    moves-permits W (step L W (Delegate f t e) .after) f t (entriesNamed e) (ap (λ o. o .after .permits) (u .1))
+    (all-weaken (permitSound W.entries (live W)) operations (λ q h. permit-parts W.entries (live W) q h .3) W.permits (z .permits))
+    (eqb-false f t (p .1 .1 .1 .0))
