@@ -1,4 +1,5 @@
 // The fifteen calls on lent memory. Each contract says: answer, second number and every byte afterwards are those of `perform`.
+// Read, status, parent and value take the memory only to read: every byte afterwards is the one at entry.
 use cells::clear;
 use layout::Entries;
 use layout::Header;
@@ -81,8 +82,8 @@ pub fn lock(memory: &mut [u8], change: u32, entry: u32, mode: u32) -> Reply
 }
 
 // The value of an entry that the change holds.
-pub fn read(memory: &mut [u8], change: u32, entry: u32) -> Reply
-    ensures { λ r. ⌜ Gives (perform (now (memory .entry)) (Read change entry)) r (now (memory .exit)) ⌝ }
+pub fn read(memory: &[u8], change: u32, entry: u32) -> Reply
+    ensures { λ r. ⌜ Gives (perform (now (memory .entry)) (Read change entry)) r (now (memory .entry)) ⌝ }
 {
     if !sound_memory(memory) {
         return unchanged(1);
@@ -157,8 +158,8 @@ pub fn abort(memory: &mut [u8], change: u32) -> Reply
 }
 
 // The status of a change.
-pub fn status(memory: &mut [u8], change: u32) -> Reply
-    ensures { λ r. ⌜ Gives (perform (now (memory .entry)) (Status change)) r (now (memory .exit)) ⌝ }
+pub fn status(memory: &[u8], change: u32) -> Reply
+    ensures { λ r. ⌜ Gives (perform (now (memory .entry)) (Status change)) r (now (memory .entry)) ⌝ }
 {
     if !sound_memory(memory) {
         return unchanged(1);
@@ -167,8 +168,8 @@ pub fn status(memory: &mut [u8], change: u32) -> Reply
 }
 
 // The parent of a change.
-pub fn parent(memory: &mut [u8], change: u32) -> Reply
-    ensures { λ r. ⌜ Gives (perform (now (memory .entry)) (Parent change)) r (now (memory .exit)) ⌝ }
+pub fn parent(memory: &[u8], change: u32) -> Reply
+    ensures { λ r. ⌜ Gives (perform (now (memory .entry)) (Parent change)) r (now (memory .entry)) ⌝ }
 {
     if !sound_memory(memory) {
         return unchanged(1);
@@ -177,8 +178,8 @@ pub fn parent(memory: &mut [u8], change: u32) -> Reply
 }
 
 // The value of an entry.
-pub fn value(memory: &mut [u8], entry: u32) -> Reply
-    ensures { λ r. ⌜ Gives (perform (now (memory .entry)) (Value entry)) r (now (memory .exit)) ⌝ }
+pub fn value(memory: &[u8], entry: u32) -> Reply
+    ensures { λ r. ⌜ Gives (perform (now (memory .entry)) (Value entry)) r (now (memory .entry)) ⌝ }
 {
     if !sound_memory(memory) {
         return unchanged(1);

@@ -42,7 +42,8 @@ use Rattle.window.proofs.window_value.Kinds as value-kinds
 use Rattle.window.proofs.window_value.Reads as value-contract
 
 -- a call made through its function: memory before, call, reply and memory afterwards, of which the function's contract (`Learnt`) holds.
--- a are the function's arguments, s what the memory is at the end. A call without a function is refused here
+-- a are the function's arguments, s what the memory is at the end. A function that takes the memory only to read cannot change it: its contract speaks
+-- of the memory at entry alone, and that is the memory afterwards (read, status, parent, value). A call without a function is refused here
 pub Made : List ℕ → Call → Reply → List ℕ → Type 0
 Made mem (Open n) r after = (κs : Lfts 1) × (a : Dens κs open-kinds.ps) × (s : AtExit (endedOf 1 open-kinds.ps open-kinds.r) κs) × open-contract.Learnt κs a r s
     × (now (a .0) ≡ mem) × (Open (a .1 .0) ≡ Open n) × (now (s .0) ≡ after)
@@ -55,7 +56,7 @@ Made mem (Complete c) r after = (κs : Lfts 1) × (a : Dens κs complete-kinds.p
 Made mem (Lock c e m) r after = (κs : Lfts 1) × (a : Dens κs lock-kinds.ps) × (s : AtExit (endedOf 1 lock-kinds.ps lock-kinds.r) κs) × lock-contract.Learnt κs a r s
     × (now (a .0) ≡ mem) × (Lock (a .1 .0) (a .1 .1 .0) (a .1 .1 .1 .0) ≡ Lock c e m) × (now (s .0) ≡ after)
 Made mem (Read c e) r after = (κs : Lfts 1) × (a : Dens κs read-kinds.ps) × (s : AtExit (endedOf 1 read-kinds.ps read-kinds.r) κs) × read-contract.Learnt κs a r s
-    × (now (a .0) ≡ mem) × (Read (a .1 .0) (a .1 .1 .0) ≡ Read c e) × (now (s .0) ≡ after)
+    × (now (a .0) ≡ mem) × (Read (a .1 .0) (a .1 .1 .0) ≡ Read c e) × (now (a .0) ≡ after)
 Made mem (Write c e v) r after = (κs : Lfts 1) × (a : Dens κs write-kinds.ps) × (s : AtExit (endedOf 1 write-kinds.ps write-kinds.r) κs) × write-contract.Learnt κs a r s
     × (now (a .0) ≡ mem) × (Write (a .1 .0) (a .1 .1 .0) (a .1 .1 .1 .0) ≡ Write c e v) × (now (s .0) ≡ after)
 Made mem (Permit g t e o) r after = (κs : Lfts 1) × (a : Dens κs permit-kinds.ps) × (s : AtExit (endedOf 1 permit-kinds.ps permit-kinds.r) κs) × permit-contract.Learnt κs a r s
@@ -69,11 +70,11 @@ Made mem (Commit c) r after = (κs : Lfts 1) × (a : Dens κs commit-kinds.ps) �
 Made mem (Abort c) r after = (κs : Lfts 1) × (a : Dens κs abort-kinds.ps) × (s : AtExit (endedOf 1 abort-kinds.ps abort-kinds.r) κs) × abort-contract.Learnt κs a r s
     × (now (a .0) ≡ mem) × (Abort (a .1 .0) ≡ Abort c) × (now (s .0) ≡ after)
 Made mem (Status c) r after = (κs : Lfts 1) × (a : Dens κs status-kinds.ps) × (s : AtExit (endedOf 1 status-kinds.ps status-kinds.r) κs) × status-contract.Learnt κs a r s
-    × (now (a .0) ≡ mem) × (Status (a .1 .0) ≡ Status c) × (now (s .0) ≡ after)
+    × (now (a .0) ≡ mem) × (Status (a .1 .0) ≡ Status c) × (now (a .0) ≡ after)
 Made mem (Parent c) r after = (κs : Lfts 1) × (a : Dens κs parent-kinds.ps) × (s : AtExit (endedOf 1 parent-kinds.ps parent-kinds.r) κs) × parent-contract.Learnt κs a r s
-    × (now (a .0) ≡ mem) × (Parent (a .1 .0) ≡ Parent c) × (now (s .0) ≡ after)
+    × (now (a .0) ≡ mem) × (Parent (a .1 .0) ≡ Parent c) × (now (a .0) ≡ after)
 Made mem (Value e) r after = (κs : Lfts 1) × (a : Dens κs value-kinds.ps) × (s : AtExit (endedOf 1 value-kinds.ps value-kinds.r) κs) × value-contract.Learnt κs a r s
-    × (now (a .0) ≡ mem) × (Value (a .1 .0) ≡ Value e) × (now (s .0) ≡ after)
+    × (now (a .0) ≡ mem) × (Value (a .1 .0) ≡ Value e) × (now (a .0) ≡ after)
 
 -- it gives what `perform` gives
 moved : {m mem : List ℕ} {d c : Call} {r : Reply} {l after : List ℕ} → Gives (perform m d) r l → m ≡ mem → d ≡ c → l ≡ after → Gives (perform mem c) r after

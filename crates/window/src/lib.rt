@@ -1,4 +1,5 @@
 // The calls for C programs: a name for each, on the memory lent as a window. include/window.h says what they mean, docs/WINDOW.md what the bytes are.
+// Read, status, parent and value take the memory only to read.
 use replies::Reply;
 ghost use Rattle.rules.specs.Calls.{Open, Initiate, Begin, Complete, Lock, Read, Write, Permit, Delegate, Depend, Commit, Abort, Status, Parent, Value};
 ghost use Rattle.layout.specs.Memory.{perform};
@@ -46,8 +47,8 @@ pub extern "C" fn window_lock(window: &mut [u8], change: u32, entry: u32, mode: 
 
 // The value of an entry that the change holds.
 #[no_mangle]
-pub extern "C" fn window_read(window: &mut [u8], change: u32, entry: u32) -> Reply
-    ensures { λ r. ⌜ Gives (perform (now (window .entry)) (Read change entry)) r (now (window .exit)) ⌝ }
+pub extern "C" fn window_read(window: &[u8], change: u32, entry: u32) -> Reply
+    ensures { λ r. ⌜ Gives (perform (now (window .entry)) (Read change entry)) r (now (window .entry)) ⌝ }
 {
     calls::read(window, change, entry)
 }
@@ -108,24 +109,24 @@ pub extern "C" fn window_abort(window: &mut [u8], change: u32) -> Reply
 
 // The status of a change.
 #[no_mangle]
-pub extern "C" fn window_status(window: &mut [u8], change: u32) -> Reply
-    ensures { λ r. ⌜ Gives (perform (now (window .entry)) (Status change)) r (now (window .exit)) ⌝ }
+pub extern "C" fn window_status(window: &[u8], change: u32) -> Reply
+    ensures { λ r. ⌜ Gives (perform (now (window .entry)) (Status change)) r (now (window .entry)) ⌝ }
 {
     calls::status(window, change)
 }
 
 // The parent of a change.
 #[no_mangle]
-pub extern "C" fn window_parent(window: &mut [u8], change: u32) -> Reply
-    ensures { λ r. ⌜ Gives (perform (now (window .entry)) (Parent change)) r (now (window .exit)) ⌝ }
+pub extern "C" fn window_parent(window: &[u8], change: u32) -> Reply
+    ensures { λ r. ⌜ Gives (perform (now (window .entry)) (Parent change)) r (now (window .entry)) ⌝ }
 {
     calls::parent(window, change)
 }
 
 // The value of an entry.
 #[no_mangle]
-pub extern "C" fn window_value(window: &mut [u8], entry: u32) -> Reply
-    ensures { λ r. ⌜ Gives (perform (now (window .entry)) (Value entry)) r (now (window .exit)) ⌝ }
+pub extern "C" fn window_value(window: &[u8], entry: u32) -> Reply
+    ensures { λ r. ⌜ Gives (perform (now (window .entry)) (Value entry)) r (now (window .entry)) ⌝ }
 {
     calls::value(window, entry)
 }

@@ -10,16 +10,16 @@ use Rattle.calls.proofs.read.Statement.{statement}
 use Rattle.calls.proofs.read.Tie as tie
 
 returns : tie.Need-returns
-returns c = unsound (c .before .before .before .before .before .args .memory .now) (Read (c .before .before .before .before .before .args .change) (c .before .before .before .before .before .args .entry)) (sym (c .before .before .sound-memory .ensures) ∙ not-true _ (c .before .if1 .taken)) (unfold isOpen actionOf isOpening in refl) _ (c .unchanged .ensures)
+returns c = unsound (c .before .before .before .before .args .memory .now) (Read (c .before .before .before .before .args .change) (c .before .before .before .before .args .entry)) (sym (c .before .before .sound-memory .ensures) ∙ not-true _ (c .before .if1 .taken)) (unfold isOpen actionOf isOpening in refl) _ (c .unchanged .ensures)
 
 part-read-end : tie.Need-part-read-end
-part-read-end c = lent-room (c .before .before .before .before .before .args .memory .now) (sym (c .before .before .sound-memory .ensures) ∙ not-false _ (c .before .if1 .left))
+part-read-end c = lent-room (c .before .before .before .args .memory .now) (sym (c .before .sound-memory .ensures) ∙ not-false _ (c .if1 .left))
 
 read-requires : tie.Need-read-requires
-read-requires c κs = lent-window (c .before .before .before .before .before .before .args .memory .now) (sym (c .before .before .before .sound-memory .ensures) ∙ not-false _ (c .before .before .if1 .left))
+read-requires c κs = lent-window (c .before .before .before .before .args .memory .now) (sym (c .before .before .sound-memory .ensures) ∙ not-false _ (c .before .if1 .left))
 
 returns-2 : tie.Need-returns-2
-returns-2 c = looked-at (c .before .before .before .before .before .before .before .args .memory .now) (Read (c .before .before .before .before .before .before .before .args .change) (c .before .before .before .before .before .before .before .args .entry)) (sym (c .before .before .before .before .sound-memory .ensures) ∙ not-false _ (c .before .before .before .if1 .left)) _ (c .read .ensures)
+returns-2 c = looked-at (c .before .before .before .before .before .args .memory .now) (Read (c .before .before .before .before .before .args .change) (c .before .before .before .before .before .args .entry)) (sym (c .before .before .before .sound-memory .ensures) ∙ not-false _ (c .before .before .if1 .left)) _ (c .read .ensures)
 
 pub read-spec : {M : Type 1} → statement M
 read-spec =
@@ -27,11 +27,9 @@ read-spec =
     (tie.spec
     (λ c κs. search needs)
     (λ c κs. search needs)
-    (λ c. search needs)
     returns
     (λ c. search needs)
     (λ c. search needs)
     part-read-end
     read-requires
-    (λ c. search needs)
     returns-2)

@@ -10,16 +10,16 @@ use Rattle.calls.proofs.status.Statement.{statement}
 use Rattle.calls.proofs.status.Tie as tie
 
 returns : tie.Need-returns
-returns c = unsound (c .before .before .before .before .before .args .memory .now) (Status (c .before .before .before .before .before .args .change)) (sym (c .before .before .sound-memory .ensures) ∙ not-true _ (c .before .if1 .taken)) (unfold isOpen actionOf isOpening in refl) _ (c .unchanged .ensures)
+returns c = unsound (c .before .before .before .before .args .memory .now) (Status (c .before .before .before .before .args .change)) (sym (c .before .before .sound-memory .ensures) ∙ not-true _ (c .before .if1 .taken)) (unfold isOpen actionOf isOpening in refl) _ (c .unchanged .ensures)
 
 part-status-end : tie.Need-part-status-end
-part-status-end c = lent-room (c .before .before .before .before .before .args .memory .now) (sym (c .before .before .sound-memory .ensures) ∙ not-false _ (c .before .if1 .left))
+part-status-end c = lent-room (c .before .before .before .args .memory .now) (sym (c .before .sound-memory .ensures) ∙ not-false _ (c .if1 .left))
 
 status-requires : tie.Need-status-requires
-status-requires c κs = lent-window (c .before .before .before .before .before .before .args .memory .now) (sym (c .before .before .before .sound-memory .ensures) ∙ not-false _ (c .before .before .if1 .left))
+status-requires c κs = lent-window (c .before .before .before .before .args .memory .now) (sym (c .before .before .sound-memory .ensures) ∙ not-false _ (c .before .if1 .left))
 
 returns-2 : tie.Need-returns-2
-returns-2 c = looked-at (c .before .before .before .before .before .before .before .args .memory .now) (Status (c .before .before .before .before .before .before .before .args .change)) (sym (c .before .before .before .before .sound-memory .ensures) ∙ not-false _ (c .before .before .before .if1 .left)) _ (c .status .ensures)
+returns-2 c = looked-at (c .before .before .before .before .before .args .memory .now) (Status (c .before .before .before .before .before .args .change)) (sym (c .before .before .before .sound-memory .ensures) ∙ not-false _ (c .before .before .if1 .left)) _ (c .status .ensures)
 
 pub status-spec : {M : Type 1} → statement M
 status-spec =
@@ -27,11 +27,9 @@ status-spec =
     (tie.spec
     (λ c κs. search needs)
     (λ c κs. search needs)
-    (λ c. search needs)
     returns
     (λ c. search needs)
     (λ c. search needs)
     part-status-end
     status-requires
-    (λ c. search needs)
     returns-2)

@@ -67,15 +67,15 @@ returns-6 c = single (c .before .before .before .before .before) 12 refl (c .bef
 
 returns-7 : tie.Need-returns-7
 unfolding fieldsRead fieldsOf asked placed readings replyOf
-returns-7 c = single (c .before .before .before .before .before) 13 refl (c .before .before .before .before .match .keys7) (c .before .before .status .ensures)
+returns-7 c = single (c .before .before .before) 13 refl (c .before .before .match .keys7) (c .status .ensures)
 
 returns-8 : tie.Need-returns-8
 unfolding fieldsRead fieldsOf asked placed readings replyOf
-returns-8 c = single (c .before .before .before .before .before) 14 refl (c .before .before .before .before .match .keys8) (c .before .before .parent .ensures)
+returns-8 c = single (c .before .before .before) 14 refl (c .before .before .match .keys8) (c .parent .ensures)
 
 returns-9 : tie.Need-returns-9
 unfolding fieldsRead fieldsOf asked placed readings replyOf
-returns-9 c = single (c .before .before .before .before .before) 15 refl (c .before .before .before .before .match .keys9) (c .before .before .value .ensures)
+returns-9 c = single (c .before .before .before) 15 refl (c .before .before .match .keys9) (c .value .ensures)
 
 returns-10 : tie.Need-returns-10
 unfolding fieldsRead fieldsOf asked placed readings replyOf
@@ -83,7 +83,7 @@ returns-10 c = arm (c .before .before .before .before .before .before .before .b
 
 returns-11 : tie.Need-returns-11
 unfolding fieldsRead fieldsOf asked placed readings replyOf
-returns-11 c = arm (c .before .before .before .before .before .before .before .before .before .before) 6 (c .before .before .before .before .before .if4 .left) (c .before .before .before .before .if5 .taken) (c .before .before .read .ensures)
+returns-11 c = arm (c .before .before .before .before .before .before .before .before) 6 (c .before .before .before .if4 .left) (c .before .before .if5 .taken) (c .read .ensures)
 
 returns-12 : tie.Need-returns-12
 unfolding fieldsRead fieldsOf asked placed readings replyOf
