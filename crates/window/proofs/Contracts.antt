@@ -44,7 +44,7 @@ use Rattle.window.proofs.window_value.Reads as value-contract
 -- a call made through its function: memory before, call, reply and memory afterwards, of which the function's contract (`Learnt`) holds.
 -- a are the function's arguments, s what the memory is at the end. A function that takes the memory only to read cannot change it: its contract speaks
 -- of the memory at entry alone, and that is the memory afterwards (read, status, parent, value). A call without a function is refused here
-pub Made : List ℕ → Call → Reply → List ℕ → Type 0
+unfoldable pub Made : List ℕ → Call → Reply → List ℕ → Type 0
 Made mem (Open n) r after = (κs : Lfts 1) × (a : Dens κs open-kinds.ps) × (s : AtExit (endedOf 1 open-kinds.ps open-kinds.r) κs) × open-contract.Learnt κs a r s
     × (now (a .0) ≡ mem) × (Open (a .1 .0) ≡ Open n) × (now (s .0) ≡ after)
 Made mem (Initiate p) r after = (κs : Lfts 1) × (a : Dens κs initiate-kinds.ps) × (s : AtExit (endedOf 1 initiate-kinds.ps initiate-kinds.r) κs) × initiate-contract.Learnt κs a r s

@@ -19,7 +19,7 @@ pub data Run : List ℕ → List Done → Type 0 where
   none : {mem : List ℕ} → Run mem []
   next : {mem : List ℕ} {d : Done} {l : List Done} → Made mem (d .call) (d .reply) (d .after) → Run (d .after) l → Run mem (d ∷ l)
 
-abbrev callsOf : List Done → List Call
+abbrev pub callsOf : List Done → List Call
 callsOf = map (λ d. d .call)
 
 -- what is seen of a call is what `perform` gives
