@@ -82,7 +82,7 @@ fn follow((name, lines): &tries::Try) {
     for (call, answer, number) in lines {
         let reply = trial.make(*call).unwrap_or_else(|error| fail(&trial, error));
         if reply != (*answer, *number) {
-            fail(&trial, format!("{call} gives {reply:?}, document 01 {answer}, {number}"));
+            fail(&trial, format!("{call} gives {reply:?}, the rules {answer}, {number}"));
         }
     }
 }

@@ -1,4 +1,4 @@
-//! Scripts at the edges of document 01's rules for the script program, with the listings worked out by hand.
+//! Scripts at the edges of the rules for the script program (docs/RULES.md), with the listings worked out by hand.
 use crate::listing::{FIRST, HEADER};
 use crate::perform::NAMES;
 

@@ -1,4 +1,4 @@
-//! Demand 3's words, read off the calls made (document 01, "Lists of calls"), and a few more that can be read off them.
+//! Demand 3's words, read off the calls made (docs/RULES.md, "Lists of calls"), and a few more that can be read off them.
 use crate::model::Window;
 use crate::perform::{Call, Reply, EVERY_ENTRY};
 use std::collections::{BTreeMap, BTreeSet};

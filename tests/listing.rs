@@ -1,4 +1,4 @@
-//! The script program, written from document 01: a script's bytes in, its listing's bytes out.
+//! The script program, written from docs/RULES.md: a script's bytes in, its listing's bytes out.
 use crate::model::SIZE;
 use crate::perform::{perform, Call, Reply, NAMES};
 use Call::*;

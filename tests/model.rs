@@ -1,4 +1,4 @@
-//! A window and its soundness, written from document 01; its bytes, from docs/WINDOW.md.
+//! A window and its soundness, written from docs/RULES.md; its bytes, from docs/WINDOW.md.
 use std::collections::HashSet;
 
 pub const SIZE: usize = 37_952;

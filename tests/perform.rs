@@ -1,10 +1,10 @@
-//! The fifteen calls on lent memory, written from document 01.
+//! The fifteen calls on lent memory, written from docs/RULES.md.
 use crate::model::{self, Record, Tie, Window, SIZE};
 use std::collections::BTreeSet;
 use std::fmt;
 use Call::*;
 
-/// A call with its arguments in document 01's order.
+/// A call with its arguments in the order of docs/RULES.md.
 #[derive(Clone, Copy, PartialEq, Eq)]
 pub enum Call {
     /// entries

@@ -1,9 +1,9 @@
-//! More lists of calls with the answers that document 01 gives, worked out by hand.
+//! More lists of calls with the answers that the rules give, worked out by hand.
 use crate::perform::{Call, EVERY_ENTRY};
 use crate::tries::{runs, Line, Try};
 use Call::*;
 
-/// Sentences of document 01 that the lists of tries.rs leave out, and the readings of it in docs/DECISIONS.md.
+/// Sentences of the rules that the lists of tries.rs leave out, and the readings of them in docs/DECISIONS.md.
 pub fn readings() -> Vec<Try> {
     vec![
         ("the checking order", checking_order()),

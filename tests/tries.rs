@@ -1,4 +1,4 @@
-//! Lists of calls with the answers that document 01 gives, worked out by hand.
+//! Lists of calls with the answers that the rules give, worked out by hand.
 use crate::perform::{Call, EVERY_ENTRY};
 use Call::*;
 

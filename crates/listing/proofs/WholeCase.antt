@@ -1,4 +1,4 @@
--- Document 01's whole case and other whole inputs: what is printed. Assumes nothing.
+-- The whole case of docs/RULES.md and other whole inputs: what is printed. Assumes nothing.
 use mathlib.Core.Path.{_≡_, refl, ap, _∙_}
 use mathlib.Core.Bool.{true}
 use mathlib.Core.List.{List, [], _∷_, _++_, map}

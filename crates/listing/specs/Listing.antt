@@ -1,4 +1,4 @@
--- Document 01, "The script program": what is printed, as a function of the input's bytes. Assumes nothing.
+-- docs/RULES.md, "The script program": what is printed, as a function of the input's bytes. Assumes nothing.
 use mathlib.Core.Bool.{cond}
 use mathlib.Core.List.{List, [], _∷_, _++_}
 use Prim.Native.Nat.{ℕ, suc}

@@ -1,4 +1,4 @@
--- What document 01 says of groups, of the set an abort ends and of arrows, by paths; that an existing tie is 0 again; and what demand 2 says, of the rules:
+-- What the rules say of groups, of the set an abort ends and of arrows, by paths; that an existing tie is 0 again; and what demand 2 says of them:
 -- when a lock is granted, when a change commits, what a withdrawal puts back. Assumes nothing.
 use mathlib.Core.Path.{_≡_, refl, sym, _∙_, ap}
 use mathlib.Core.Logic.{_⊎_, inl, inr, ⊎-elim, _↔_, _≢_}

@@ -1,4 +1,4 @@
--- Document 01, "The calls": their names and arguments, and what each call gives. Assumes nothing.
+-- docs/RULES.md, "The calls": their names and arguments, and what each call gives. Assumes nothing.
 use mathlib.Core.Bool.{Bool}
 use mathlib.Core.List.{List, [], _∷_}
 use Prim.Native.Nat.{ℕ, _^_}

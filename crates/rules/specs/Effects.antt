@@ -1,4 +1,4 @@
--- Document 01, "The calls": what a call that is not turned back does. Assumes nothing.
+-- docs/RULES.md, "The calls": what a call that is not turned back does. Assumes nothing.
 use mathlib.Core.Bool.{Bool, not, cond, _&&_, _||_}
 use mathlib.Core.List.{List, [], _∷_, _++_, map, foldr}
 use Prim.Native.Nat.{ℕ, suc, max}

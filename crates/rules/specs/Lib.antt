@@ -1,4 +1,4 @@
--- The rules of the change window: what is to be believed, in the order of document 01.
+-- The rules of the change window: what is to be believed, in the order of docs/RULES.md.
 -- tests, lists, orders; sets and least closed sets
 pub mod Base
 pub mod Sets

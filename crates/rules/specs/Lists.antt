@@ -1,4 +1,4 @@
--- Document 01, "Lists of calls": the words of demand 3, read off the calls, and the demand. Assumes nothing.
+-- docs/RULES.md, "Lists of calls": the words of demand 3, read off the calls, and the demand. Assumes nothing.
 use mathlib.Core.Path.{_≡_}
 use mathlib.Core.Logic.{_≢_}
 use mathlib.Core.Bool.{Bool, true, not, cond, _&&_, _||_}
@@ -104,7 +104,7 @@ unfoldable pub walks : ℕ → ℕ → List Call
 walks zero n = []
 walks (suc k) n = table n 1 Commit ++ walks k n
 
--- what holds of the calls made so far, in demand 3's words (docs/PROOFS.md) where they are not document 01's
+-- what holds of the calls made so far, in demand 3's words (docs/PROOFS.md) where they are not those of the rules
 pub record Kept (p : List Event) : Type 0 where
   -- an end is for good: whoever has ended has the status with which it ended
   pub lasts : (c : ℕ) → endedAt p c ≢ 0 → status p c ≡ endedAs p c

@@ -1,4 +1,4 @@
--- Document 01, "Turned back, in checking order" (refused calls), and the call as a whole. Assumes nothing.
+-- docs/RULES.md, "Turned back, in checking order" (refused calls), and the call as a whole. Assumes nothing.
 -- Refusal 1 is about memory: the crate layout's `perform`.
 use mathlib.Core.Bool.{Bool, not, cond, _&&_, _||_}
 use mathlib.Core.List.{List, [], _∷_}

@@ -1,4 +1,4 @@
--- Document 01, "A window is sound when", in its order. Assumes nothing.
+-- docs/RULES.md, "A window is sound when", in its order. Assumes nothing.
 use mathlib.Core.Bool.{Bool, not, cond, _&&_, _||_}
 use mathlib.Core.List.{List, [], _∷_}
 use Prim.Native.Nat.{ℕ, suc, _^_}

@@ -1,4 +1,4 @@
--- Document 01, "Ties", groups and arrows. Assumes nothing.
+-- docs/RULES.md, "Ties", groups and arrows. Assumes nothing.
 use mathlib.Core.Bool.{Bool, not, cond, _&&_, _||_}
 use mathlib.Core.List.{List}
 use Prim.Native.Nat.{ℕ, suc, min, max}

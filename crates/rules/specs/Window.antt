@@ -1,4 +1,4 @@
--- Document 01, "What a window holds": the figures, the records and the window itself. Assumes nothing.
+-- docs/RULES.md, "What a window holds": the figures, the records and the window itself. Assumes nothing.
 use mathlib.Core.Bool.{Bool, not, _&&_, _||_}
 use mathlib.Core.List.{List, []}
 use Prim.Native.Nat.{ℕ, suc}
@@ -81,11 +81,11 @@ live W c = lives W.given W.status c
 unfoldable pub running : Window → ℕ → Bool
 running W c = eqb (W .status c) 2
 
--- permits are "kept in rising order of entry, giver, taker"
+-- permits: "Kept in rising order of entry, giver, taker"
 unfoldable pub permitKey : PermitRecord → Key
 permitKey p = record { k1 = p.entry; k2 = p.giver; k3 = p.taker }
 
--- ties stand "in rising order of kind, leader, follower"
+-- ties: "in rising order of kind, leader, follower"
 unfoldable pub tieKey : TieRecord → Key
 tieKey t = record { k1 = t.kind; k2 = t.leader; k3 = t.follower }
 

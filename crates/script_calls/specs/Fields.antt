@@ -1,4 +1,4 @@
--- Document 01, "The script program": which call a call number asks for with four fields, and what it is answered. Assumes nothing.
+-- docs/RULES.md, "The script program": which call a call number asks for with four fields, and what it is answered. Assumes nothing.
 use mathlib.Core.Bool.{cond, _&&_}
 use mathlib.Core.List.{List, [], _∷_}
 use mathlib.Core.Option.{Option, none, some}

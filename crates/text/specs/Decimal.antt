@@ -1,4 +1,4 @@
--- Document 01, "The script program": numbers in decimal, read and printed. Text is a list of bytes. Assumes nothing.
+-- docs/RULES.md, "The script program": numbers in decimal, read and printed. Text is a list of bytes. Assumes nothing.
 use mathlib.Core.Bool.{Bool, false, not, cond, _&&_}
 use mathlib.Core.List.{List, [], _∷_}
 use Prim.Native.Nat.{ℕ, zero, suc, _+_, _-_, _*_, _/_, _%_, _^_}

@@ -14,7 +14,7 @@ unfoldable pub partedBy : ℕ → List ℕ → List (List ℕ)
 partedBy s [] = [] ∷ []
 partedBy s (x ∷ l) = cond (eqb x s) ([] ∷ partedBy s l) (inFront x (partedBy s l))
 
--- the lines of a text: each newline ends one, and "the last newline may be absent"
+-- the lines of a text: each newline ends one. "The last newline may be absent"
 unfoldable pub lines : List ℕ → List (List ℕ)
 lines [] = []
 lines (x ∷ l) = cond (eqb x 10) ([] ∷ lines l) (inFront x (lines l))

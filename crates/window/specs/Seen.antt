@@ -1,4 +1,4 @@
--- What a program sees that makes calls one after the other: document 01, "Lists of calls", of the functions' replies. Assumes nothing.
+-- What a program sees that makes calls one after the other: docs/RULES.md, "Lists of calls", of the functions' replies. Assumes nothing.
 use mathlib.Core.List.{List, [], _∷_}
 use Prim.Native.Nat.{ℕ}
 use Rattle.rules.specs.Calls.{Call, Status}
