@@ -17,10 +17,6 @@ pub mod PathLaws
 pub mod SourceLaws
 -- a call turned back or blocked changes nothing; figures for any table size
 pub mod RuleLaws
-pub mod TellLaws
-pub mod CheckLaws
-pub mod RefusalLaws
-pub mod RefusalWords
 pub mod SizeLaws
 -- every call keeps a window sound (SoundStep.step-sound), one file for each kind of effect
 pub mod SoundParts
@@ -28,13 +24,19 @@ pub mod SoundPlain
 pub mod SoundLock
 pub mod SoundPermit
 pub mod SoundDelegate
-pub mod DelegateLaws
 pub mod SoundDepend
 pub mod SoundEnd
 pub mod SoundStep
 -- groups, the set that an abort ends and arrows, by paths; demand 2: when a lock is granted, when a change commits, what a withdrawal puts back
 pub mod Promises
+-- demand 1: the first refusal that applies is the lowest (RefusalLaws), and which one a call gets, in words (RefusalWords.call-refused)
+pub mod TellLaws
+pub mod CheckLaws
+pub mod RefusalLaws
+pub mod RefusalWords
+-- demand 2 in words of the window: the second numbers, and what a delegate does to permits
 pub mod Numbers
+pub mod DelegateLaws
 -- demand 3 of the rules (Demand.rules-kept); DemandAlike carries it to whatever answers alike
 pub mod DemandMoves
 pub mod DemandEnds
