@@ -1,27 +1,28 @@
--- What a delegate does to permits, in words: the giver has none left on the entries named, the receiver has what either of the two had given,
--- and all others are as before. Assumes nothing.
+-- What a delegate moves, in words: on the entries named the giver has no lock and no given permit left, the receiver has the greater lock
+-- and what either of the two had permitted, and all others are as before. Assumes nothing.
 use mathlib.Core.Path.{_≡_, refl, sym, _∙_, ap, fun-ext}
-use mathlib.Core.Logic.{_≢_}
+use mathlib.Core.Logic.{_⊎_, _↔_, _≢_}
 use mathlib.Core.Bool.{Bool, true, false, not, cond, _&&_, _||_, or-false, and-false, and-or-distrib-left}
 use mathlib.Core.List.{List, map}
-use Prim.Native.Nat.{ℕ, zero, suc, _≤_}
+use Prim.Native.Nat.{ℕ, zero, suc, _≤_, max}
 use native.Mathlib.Omega.{arith}
 use lib.Dec.{eqb}
 use borrow.Author.Tests.{not-true, eqb-false, eqb-true, eq-eqb, ne-eqb}
 use Rattle.rules.specs.Base.{outside, allBelow, all, any, keep}
 use Rattle.rules.specs.Sets.{Set}
-use Rattle.rules.specs.Window.{Limits, PermitRecord, Window, permitKey, live}
+use Rattle.rules.specs.Window.{Limits, LogRecord, PermitRecord, Window, permitKey, live}
 use Rattle.rules.specs.Locks.{contains, unitePermits, addPermit}
 use Rattle.rules.specs.Sound.{permitSound}
 use Rattle.rules.specs.Calls.{Delegate, done}
-use Rattle.rules.specs.Effects.{entriesNamed, handOver, effect, permitGiven, permitMoves, permitKept, movedPermit, movePermits}
-use Rattle.rules.specs.Refusals.{checks, _if_, step}
-use Rattle.rules.proofs.BaseLaws.{and-both, and-left, eqb-same, Same, same, other, same?, allBelow-at}
+use Rattle.rules.specs.Effects.{every, entriesNamed, moveHeld, movedRecord, moveLog, handOver, effect, permitGiven, permitMoves, permitKept, movedPermit, movePermits}
+use Rattle.rules.specs.Refusals.{checks, firstFailed, _if_, step}
+use Rattle.rules.proofs.BaseLaws.{cond-same, and-both, and-left, eqb-same, Same, same, other, same?, allBelow-at}
 use Rattle.rules.proofs.ListLaws.{any-map, any-kept, any-both, any-false, all-map, all-keep, all-weaken}
 use Rattle.rules.proofs.RefusalLaws.{done-unrefused}
 use Rattle.rules.proofs.SortLaws.{any-puts}
 use Rattle.rules.proofs.SoundParts.{Sound, permit-parts, inside-of}
 use Rattle.rules.proofs.SoundStep.{passed, codes}
+use Rattle.rules.proofs.TellLaws.{tells-equal, tells-or}
 
 -- a permit for a mode stands, from this giver to this very taker (0: to anybody), on this entry
 unfoldable pub names : ℕ → ℕ → ℕ → ℕ → PermitRecord → Bool
@@ -215,12 +216,73 @@ moves-permits W X from to on e known apart = rw e (record {
   elsewhere = λ g k e m w o. after from to on W.permits known g k e m w _ (elsewhere-stay from to on W.permits known g k e m o);
 })
 
--- "moves … the permits that *from* has given"
-pub delegate-permits : (L : Limits) (W : Window) → Sound L W → (f t e : ℕ) → step L W (Delegate f t e) .answer ≡ 0 → PermitsMoved W (step L W (Delegate f t e) .after) f t (entriesNamed e)
-unfolding effect done handOver checks _if_ operations
-delegate-permits L W z f t e a =
-    let u = done-unrefused L W (Delegate f t e) a in
-    let p = passed (checks L W (Delegate f t e)) (codes L W (Delegate f t e)) (u .0) in
-    moves-permits W (step L W (Delegate f t e) .after) f t (entriesNamed e) (ap (λ o. o .after .permits) (u .1))
-    (all-weaken (permitSound W.entries (live W)) operations (λ q h. permit-parts W.entries (live W) q h .3) W.permits (z .permits))
-    (eqb-false f t (p .1 .1 .1 .0))
+-- the entries that it names: one, or "65,535 is every entry"
+pub named-entries : (e x : ℕ) → entriesNamed e x ≡ true ↔ ((e ≡ 65535) ⊎ (x ≡ e))
+unfolding entriesNamed every
+named-entries e x = tells-or (eqb e 65535) (eqb x e) _ _ (tells-equal e 65535) (tells-equal x e)
+
+-- W before and X after the locks of *from* on the entries `on` became those of *to*
+pub record LocksMoved (W X : Window) (from to : ℕ) (on : Set) : Type 0 where
+  pub giver : (e : ℕ) → on e ≡ true → X .held e from ≡ 0
+  -- "A lock meets one already held as the greater"
+  pub receiver : (e : ℕ) → on e ≡ true → X .held e to ≡ max (W .held e from) (W .held e to)
+  pub others : (e c : ℕ) → c ≢ from → c ≢ to → X .held e c ≡ W .held e c
+  pub elsewhere : (e c : ℕ) → on e ≡ false → X .held e c ≡ W .held e c
+
+moves-locks : (W X : Window) (from to : ℕ) (on : Set) → X .held ≡ moveHeld from to on W.held → from ≢ to → LocksMoved W X from to on
+unfolding moveHeld
+moves-locks W X from to on e apart = rw e (record {
+  giver = λ x o. rw (o, ne-eqb from to apart, eqb-same from);
+  receiver = λ x o. rw (o, eqb-same to);
+  others = λ x c f t. rw (ne-eqb c to t, ne-eqb c from f) (cond-same (on x) (W .held x c));
+  elsewhere = λ x c o. rw o;
+})
+
+-- a log record r and what became of it, q
+pub record OwnerMoved (from to : ℕ) (on : Set) (r q : LogRecord) : Type 0 where
+  pub place : (q .entry ≡ r .entry) × (q .before ≡ r .before)
+  pub handed : r .owner ≡ from → on r.entry ≡ true → q .owner ≡ to
+  pub others : r .owner ≢ from → q .owner ≡ r .owner
+  pub elsewhere : on r.entry ≡ false → q .owner ≡ r .owner
+
+moves-owner : (from to : ℕ) (on : Set) (r : LogRecord) → OwnerMoved from to on r (movedRecord from to on r)
+unfolding movedRecord
+moves-owner from to on r = record {
+  place = go (eqb r.owner from && on r.entry);
+  handed = λ i o. rw (eq-eqb r.owner from i, o);
+  others = λ n. rw (ne-eqb r.owner from n);
+  elsewhere = λ o. rw (o, and-false (eqb r.owner from));
+}
+  where
+    go : (b : Bool) → let q = cond b (record { owner = to; entry = r.entry; before = r.before }) r in (q .entry ≡ r .entry) × (q .before ≡ r .before)
+    go true = (refl, refl)
+    go false = (refl, refl)
+
+-- "moves log ownership, locks and the permits that *from* has given": W before and X after it, on the entries `on`
+pub record HandedOver (W X : Window) (from to : ℕ) (on : Set) : Type 0 where
+  pub log : (becomes : LogRecord → LogRecord) × (X .log ≡ map becomes W.log) × ((r : LogRecord) → OwnerMoved from to on r (becomes r))
+  pub locks : LocksMoved W X from to on
+  pub permits : PermitsMoved W X from to on
+
+pub delegate-moves : (L : Limits) (W : Window) → Sound L W → (f t e : ℕ) → step L W (Delegate f t e) .answer ≡ 0 → HandedOver W (step L W (Delegate f t e) .after) f t (entriesNamed e)
+unfolding effect done handOver moveLog checks _if_ operations
+delegate-moves L W z f t e a = record {
+  log = (movedRecord f t on, ap (λ o. o .after .log) (u .1), moves-owner f t on);
+  locks = moves-locks W X f t on (ap (λ o. o .after .held) (u .1)) apart;
+  permits = moves-permits W X f t on (ap (λ o. o .after .permits) (u .1)) known apart;
+}
+  where
+    on : Set
+    on = entriesNamed e
+
+    X : Window
+    X = step L W (Delegate f t e) .after
+
+    u : (firstFailed (checks L W (Delegate f t e)) ≡ 0) × (step L W (Delegate f t e) ≡ effect W (Delegate f t e))
+    u = done-unrefused L W (Delegate f t e) a
+
+    apart : f ≢ t
+    apart = eqb-false f t (passed (checks L W (Delegate f t e)) (codes L W (Delegate f t e)) (u .0) .1 .1 .1 .0)
+
+    known : all operations W.permits ≡ true
+    known = all-weaken (permitSound W.entries (live W)) operations (λ q h. permit-parts W.entries (live W) q h .3) W.permits (z .permits)
