@@ -14,7 +14,7 @@ extern "C" {
     fn window_begin(window: *mut u8, length: usize, change: u32) -> WindowReply;
     fn window_complete(window: *mut u8, length: usize, change: u32) -> WindowReply;
     fn window_lock(window: *mut u8, length: usize, change: u32, entry: u32, mode: u32) -> WindowReply;
-    fn window_read(window: *mut u8, length: usize, change: u32, entry: u32) -> WindowReply;
+    fn window_read(window: *const u8, length: usize, change: u32, entry: u32) -> WindowReply;
     fn window_write(window: *mut u8, length: usize, change: u32, entry: u32, value: u32) -> WindowReply;
     fn window_permit(
         window: *mut u8,
@@ -28,9 +28,9 @@ extern "C" {
     fn window_depend(window: *mut u8, length: usize, kind: u32, leader: u32, follower: u32) -> WindowReply;
     fn window_commit(window: *mut u8, length: usize, change: u32) -> WindowReply;
     fn window_abort(window: *mut u8, length: usize, change: u32) -> WindowReply;
-    fn window_status(window: *mut u8, length: usize, change: u32) -> WindowReply;
-    fn window_parent(window: *mut u8, length: usize, change: u32) -> WindowReply;
-    fn window_value(window: *mut u8, length: usize, entry: u32) -> WindowReply;
+    fn window_status(window: *const u8, length: usize, change: u32) -> WindowReply;
+    fn window_parent(window: *const u8, length: usize, change: u32) -> WindowReply;
+    fn window_value(window: *const u8, length: usize, entry: u32) -> WindowReply;
 }
 
 /// Makes a call on lent memory.
