@@ -1,33 +1,38 @@
 /*
  * A pool of six entries, each with a weight. An engineer drains an entry: its weight becomes 0. A colleague takes the
- * work over, the two changes are tied as a group, and the colleague withdraws. Both changes end and the weight is
- * given back: first with entry 3, then with entry 0.
+ * work over and the two changes are tied as a group, so that the engineer cannot commit alone. The colleague withdraws:
+ * both changes end and the weight is given back. First with entry 3, then with entry 0.
  */
 #include <stdio.h>
 #include <stdlib.h>
 
 #include "window.h"
+#include "window_text.h"
 
 static uint8_t memory[WINDOW_SIZE];
 
 /* The lent memory, the first two arguments of every call. */
 #define POOL memory, sizeof memory
 
-/* The second number of a call that is to be done. */
-static uint32_t done(window_reply reply)
+/* Ends the program where a call is answered otherwise than it is to be; gives its second number. */
+static uint32_t expect(uint32_t answer, window_reply reply)
 {
-    if (reply.answer != WINDOW_DONE) {
-        printf("answer %u\n", (unsigned)reply.answer);
+    if (reply.answer != answer) {
+        fprintf(stderr, "%s\n", window_answer_text(reply.answer));
         exit(EXIT_FAILURE);
     }
     return reply.number;
 }
 
-/* The same, printed. */
-static uint32_t show(const char *call, window_reply reply)
+static uint32_t done(window_reply reply)
 {
-    printf("  %-22s answer %u, number %u\n", call, (unsigned)reply.answer, (unsigned)reply.number);
-    return done(reply);
+    return expect(WINDOW_DONE, reply);
+}
+
+static window_reply show(const char *call, window_reply reply)
+{
+    printf("  %-22s %s, number %u\n", call, window_answer_text(reply.answer), (unsigned)reply.number);
+    return reply;
 }
 
 static void print_values(void)
@@ -52,25 +57,33 @@ static void set_up(void)
     done(window_commit(POOL, setup));
 }
 
+/* The drain: a write needs the write lock. */
+static void drain(uint32_t engineer, uint32_t entry)
+{
+    done(show("begin engineer's", window_begin(POOL, engineer)));
+    done(show("lock", window_lock(POOL, engineer, entry, WINDOW_MODE_WRITE)));
+    done(show("write 0", window_write(POOL, engineer, entry, 0)));
+    print_values();
+}
+
 static void hand_over_and_withdraw(uint32_t entry)
 {
     printf("drain entry %u, hand over, withdraw\n", (unsigned)entry);
-    uint32_t engineer = show("initiate engineer's", window_initiate(POOL, 0));
-    uint32_t colleague = show("initiate colleague's", window_initiate(POOL, 0));
-    show("begin engineer's", window_begin(POOL, engineer));
-
-    /* The drain: a write needs the write lock. */
-    show("lock", window_lock(POOL, engineer, entry, WINDOW_MODE_WRITE));
-    show("write 0", window_write(POOL, engineer, entry, 0));
-    print_values();
+    uint32_t engineer = done(show("initiate engineer's", window_initiate(POOL, 0)));
+    uint32_t colleague = done(show("initiate colleague's", window_initiate(POOL, 0)));
+    drain(engineer, entry);
 
     /* The lock, and the log record with the weight before, go to the colleague's change. */
-    show("delegate", window_delegate(POOL, engineer, colleague, entry));
-    show("tie as a group", window_depend(POOL, WINDOW_TIE_GROUP, engineer, colleague));
+    done(show("delegate", window_delegate(POOL, engineer, colleague, entry)));
+    done(show("tie as a group", window_depend(POOL, WINDOW_TIE_GROUP, engineer, colleague)));
+
+    /* The number says who holds it up: the colleague's change, which is not completed. */
+    done(show("complete engineer's", window_complete(POOL, engineer)));
+    expect(WINDOW_BLOCKED, show("commit engineer's", window_commit(POOL, engineer)));
 
     /* Number 2: both changes ended. */
-    show("abort colleague's", window_abort(POOL, colleague));
-    show("status of engineer's", window_status(POOL, engineer));
+    done(show("abort colleague's", window_abort(POOL, colleague)));
+    done(show("status of engineer's", window_status(POOL, engineer)));
     print_values();
 }
 
