@@ -280,7 +280,6 @@ fn random_lists(r: &mut Random, calls: usize, tally: &mut Tally) {
 
 fn main() {
     let (seed, calls) = (random::seed(), random::setting("WINDOW_TEST_CALLS", 300_000) as usize);
-    println!("seed {seed}");
     let tries =
         [tries::calls_to_try(), tries::errors(), readings::readings(), tied::tied(), full_tables::full_tables()].concat();
     tries.iter().for_each(follow);

@@ -32,13 +32,29 @@ fn damaged(name: &str, w: &model::Window, damages: &[fn(u8) -> u8]) {
     println!("{name}: {tried} damages, {sound} of them sound");
 }
 
+/// Each permit is taken away in turn; so many of them are needed.
+fn permits_needed(name: &str, w: &model::Window, due: usize) {
+    let needed = |place: &usize| {
+        let mut fewer = w.clone();
+        fewer.permits.remove(*place);
+        let m = model::bytes(&fewer);
+        let expected = model::sound(&m);
+        assert_eq!(verdict(&m), expected, "{name}: without permit {place}");
+        !expected
+    };
+    assert_eq!((0..w.permits.len()).filter(needed).count(), due, "{name}: permits that are needed");
+}
+
 fn main() {
     let bits: [fn(u8) -> u8; 8] =
         [|b| b ^ 1, |b| b ^ 2, |b| b ^ 4, |b| b ^ 8, |b| b ^ 16, |b| b ^ 32, |b| b ^ 64, |b| b ^ 128];
     damaged("fresh", &windows::fresh(1), &bits);
     damaged("typical", &windows::typical(), &bits);
     damaged("contested", &windows::contested(), &bits);
+    damaged("crowded", &windows::crowded(), &bits);
     damaged("tied", &windows::tied(), &bits);
+    permits_needed("contested", &windows::contested(), 4);
+    permits_needed("crowded", &windows::crowded(), 19);
     for w in [windows::full(), windows::all_locks(), windows::all_permits(), windows::all_ties()] {
         let m = model::bytes(&w);
         assert!(model::sound(&m) && verdict(&m));

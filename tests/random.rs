@@ -1,6 +1,7 @@
 //! Random calls, biased to those that meet others.
 use crate::model::Window;
 use crate::perform::{Call, EVERY_ENTRY};
+use std::time::{SystemTime, UNIX_EPOCH};
 use Call::*;
 
 /// SplitMix64.
@@ -32,8 +33,16 @@ pub fn setting(name: &str, default: u64) -> u64 {
     std::env::var(name).map_or(default, |v| v.parse().expect("a number"))
 }
 
+const SEED: &str = "WINDOW_TEST_SEED";
+
+/// What the environment sets; `vary` is the clock's nanoseconds. It is printed, so that a run can be repeated.
 pub fn seed() -> u64 {
-    setting("WINDOW_TEST_SEED", 20_260_417)
+    let seed = match std::env::var(SEED).as_deref() {
+        Ok("vary") => SystemTime::now().duration_since(UNIX_EPOCH).expect("a time after 1970").as_nanos() as u64,
+        _ => setting(SEED, 20_260_417),
+    };
+    println!("seed {seed}");
+    seed
 }
 
 /// What a list of calls is like: its entries, how many changes it keeps live, and how often each call comes, in the

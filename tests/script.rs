@@ -214,7 +214,6 @@ fn main() {
     }
     hold_asset_scripts();
     hold_corners();
-    println!("seed {seed}");
     hold_random(&mut Random(seed));
     println!("{} random scripts print what the model prints", SHORT + LONG);
     hold_pieces();

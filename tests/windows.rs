@@ -46,6 +46,26 @@ pub fn contested() -> Window {
     w
 }
 
+/// Entry 1 has five writers, four readers and 49 permits. 18 of those are needed: 20, 21 and 48 permit anybody, and each
+/// other clashing pair has one by name, this way or that. The rest are from changes that hold nothing there.
+/// Entry 2 has a writer, a reader and the one permit that they need.
+pub fn crowded() -> Window {
+    let mut w = with_changes(3, 60);
+    w.locks = [20, 21, 22, 45, 46].map(|c| (1, c, 2)).to_vec();
+    w.locks.extend([23, 24, 47, 48].map(|c| (1, c, 1)));
+    w.locks.extend([(2, 5, 2), (2, 6, 1)]);
+    let anybody = [(20, 0, 3), (21, 0, 1), (48, 0, 2)];
+    let writers = [(21, 22, 2), (45, 21, 2), (21, 46, 3), (45, 22, 3), (22, 46, 2), (46, 45, 2)];
+    let into = [(24, 22, 2), (24, 45, 2), (47, 45, 2), (23, 46, 2)];
+    let out = [(22, 23, 1), (22, 47, 3), (45, 23, 1), (46, 24, 1), (46, 47, 3)];
+    let others = (4..=19).map(|c| (c, 60 - c, c % 3 + 1)).chain((30..=44).map(|c| (c, c - 29, 3)));
+    let here = anybody.into_iter().chain(writers).chain(into).chain(out).chain(others);
+    w.permits = here.map(|(giver, taker, operations)| permit(1, giver, taker, operations)).collect();
+    w.permits.extend([permit(0, 2, 3, 1), permit(2, 5, 6, 1)]);
+    w.permits.sort();
+    w
+}
+
 /// Ties of every kind between four groups.
 pub fn tied() -> Window {
     let mut w = with_changes(1, 8);
