@@ -11,15 +11,15 @@
  * lowest is given. A call answered otherwise than WINDOW_DONE has changed no byte. The compiler warns where an answer
  * is ignored.
  *
- * WINDOW_NOT_SOUND means that the memory is shorter than a window, was never opened, or was written over by somebody
- * else. Go back to a copy, or open the window anew.
+ * WINDOW_NOT_SOUND means that the memory is shorter than a window, was never opened, was written over by somebody else,
+ * or that a call on it was cut short. Go back to a copy, or open the window anew.
  *
  * Memory. It needs no alignment, and may be NULL where length is 0. A window holds no pointers, and its numbers are
- * little-endian on every machine: it may be copied, saved, mapped or moved to another machine between two calls.
+ * little-endian on every machine: between two calls it may be copied, saved, mapped or moved to another machine.
  *
- * Copies. A process that is killed inside a call leaves memory that is not sound, or holds a part of the call's work.
- * Who has to go on after that keeps a copy: the WINDOW_SIZE bytes, copied after a call was answered WINDOW_DONE and
- * before the next.
+ * Copies. A process that is killed inside a call may leave memory that is not sound, or a window that holds a part of
+ * the call's work. Who has to go on after that keeps a copy: the WINDOW_SIZE bytes, copied after a call was answered
+ * WINDOW_DONE and before the next.
  *
  * Threads. Calls on different windows may run at once. Calls on one window must not overlap, but for read, status,
  * parent and value: they only read, and may run at once with each other.
@@ -43,7 +43,7 @@ extern "C" {
 /* The bytes of a window, whatever it holds. */
 #define WINDOW_SIZE 37952
 
-/* The most bytes of stack that a call needs. */
+/* Bytes of stack that are enough for any call: a delegate needs some 27 KiB, every other call less than 10. */
 #define WINDOW_STACK 32768
 
 /* The largest figures of a window; changes are counted over its whole life, the others as they stand. */
@@ -177,7 +177,7 @@ WINDOW_MUST_USE window_reply window_write(uint8_t *window, size_t length, uint32
  *   operations  WINDOW_MODE_READ, WINDOW_MODE_WRITE or WINDOW_MODE_BOTH; added to those permitted before.
  *               Each is permitted by itself: WINDOW_MODE_WRITE alone does not permit a read lock
  * Answers: WINDOW_NO_CHANGE, WINDOW_NO_ENTRY, WINDOW_BAD_OPTION (the operations), WINDOW_SAME_CHANGE,
- * WINDOW_BAD_STATUS (one of the two has ended), WINDOW_FULL (WINDOW_MOST_PERMITS stand).
+ * WINDOW_BAD_STATUS (one of the two has ended), WINDOW_FULL (WINDOW_MOST_PERMITS others stand).
  */
 WINDOW_MUST_USE window_reply window_permit(uint8_t *window, size_t length, uint32_t giver, uint32_t taker,
                                            uint32_t entry, uint32_t operations);
@@ -189,7 +189,7 @@ WINDOW_MUST_USE window_reply window_permit(uint8_t *window, size_t length, uint3
  *   to     the live change that receives
  *   entry  the entry handed over, or WINDOW_EVERY_ENTRY
  * Answers: WINDOW_NO_CHANGE, WINDOW_NO_ENTRY, WINDOW_SAME_CHANGE, WINDOW_BAD_STATUS (one of the two has ended),
- * WINDOW_CLASH (two locks would then clash without a permit between the two).
+ * WINDOW_CLASH (two locks would then clash without a permit of one holder to the other or to anybody).
  */
 WINDOW_MUST_USE window_reply window_delegate(uint8_t *window, size_t length, uint32_t from, uint32_t to,
                                              uint32_t entry);
@@ -201,7 +201,7 @@ WINDOW_MUST_USE window_reply window_delegate(uint8_t *window, size_t length, uin
  *   follower  the live change that goes after; in a group the other one
  * Answers: WINDOW_NO_CHANGE, WINDOW_BAD_OPTION (the kind), WINDOW_SAME_CHANGE, WINDOW_BAD_STATUS (one of the two has
  * ended), WINDOW_CYCLE (a path of wait and fall ties would return to the group that it begins in),
- * WINDOW_FULL (WINDOW_MOST_TIES stand).
+ * WINDOW_FULL (WINDOW_MOST_TIES others stand).
  */
 WINDOW_MUST_USE window_reply window_depend(uint8_t *window, size_t length, uint32_t kind, uint32_t leader,
                                            uint32_t follower);
