@@ -115,8 +115,8 @@ small = record { entries = 2; changes = 3; records = 2; permits = 1; ties = 1 }
 
 -- each refusal of each call, where it can be on arguments to which later ones apply too, and the numbers of the calls that look:
 -- every call with its answer and second number
-abbrev turned : List (Call × ℕ × ℕ)
-turned =
+abbrev refused : List (Call × ℕ × ℕ)
+refused =
     (Open 0, 2, 0) ∷ (Open 3, 2, 0) ∷ (Open 2, 0, 0)
     ∷ (Initiate 1, 3, 0) ∷ (Initiate 0, 0, 1) ∷ (Initiate 1, 7, 0)
     ∷ (Begin 0, 3, 0) ∷ (Begin 2, 3, 0) ∷ (Complete 2, 3, 0) ∷ (Complete 1, 7, 0) ∷ (Begin 1, 0, 0) ∷ (Begin 1, 7, 0) ∷ (Initiate 1, 0, 2)
@@ -137,6 +137,6 @@ turned =
     ∷ (Initiate 1, 7, 0) ∷ (Read 1 1, 7, 0) ∷ (Abort 2, 0, 1) ∷ (Commit 2, 21, 0) ∷ (Abort 2, 0, 0)
     ∷ (Status 1, 0, 4) ∷ (Status 2, 0, 5) ∷ (Status 3, 0, 2) ∷ (Parent 2, 0, 1) ∷ (Value 1, 0, 6) ∷ []
 
-pub checking-order : answers (step small) (fresh 0) (map (λ x. x .0) turned) ≡ map (λ x. (x .1, x .2)) turned
+pub checking-order : answers (step small) (fresh 0) (map (λ x. x .0) refused) ≡ map (λ x. (x .1, x .2)) refused
 unfolding rules
 checking-order = refl

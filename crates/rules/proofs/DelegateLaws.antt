@@ -25,11 +25,11 @@ use Rattle.rules.proofs.SoundStep.{passed, codes}
 use Rattle.rules.proofs.TellLaws.{tells-equal, tells-or}
 
 -- a permit for a mode stands, from this giver to this very taker (0: to anybody), on this entry
-unfoldable pub names : ℕ → ℕ → ℕ → ℕ → PermitRecord → Bool
-names g t e m p = eqb p.giver g && eqb p.taker t && eqb p.entry e && contains p.ops m
+unfoldable pub allows : ℕ → ℕ → ℕ → ℕ → PermitRecord → Bool
+allows g t e m p = eqb p.giver g && eqb p.taker t && eqb p.entry e && contains p.ops m
 
 unfoldable pub stands : List PermitRecord → ℕ → ℕ → ℕ → ℕ → Bool
-stands ps g t e m = any (names g t e m) ps
+stands ps g t e m = any (allows g t e m) ps
 
 -- OPERATIONS UNITED
 -- two tests that come out alike
@@ -68,26 +68,26 @@ operations-of p h = inside-of 1 3 p.ops (not-true _ h)
 -- WHAT STANDS AFTER
 module _ (g t e m : ℕ) (mode : (1 ≤ m) × (m ≤ 2)) where
   -- two permits of one key, united
-  names-united : (p q : PermitRecord) → operations p ≡ true → operations q ≡ true → permitKey p ≡ permitKey q → names g t e m (unitePermits p q) ≡ names g t e m p || names g t e m q
-  unfolding names unitePermits permitKey
-  names-united p q hp hq k = rw (ap (λ x. x .k1) k, ap (λ x. x .k2) k, ap (λ x. x .k3) k)
+  allows-united : (p q : PermitRecord) → operations p ≡ true → operations q ≡ true → permitKey p ≡ permitKey q → allows g t e m (unitePermits p q) ≡ allows g t e m p || allows g t e m q
+  unfolding allows unitePermits permitKey
+  allows-united p q hp hq k = rw (ap (λ x. x .k1) k, ap (λ x. x .k2) k, ap (λ x. x .k3) k)
       (ap (λ b. eqb q.giver g && eqb q.taker t && eqb q.entry e && b) (united p.ops q.ops m (operations-of p hp) (operations-of q hq) mode)
       ∙ and-or-distrib-left (eqb q.giver g && eqb q.taker t && eqb q.entry e) (contains p.ops m) (contains q.ops m))
 
 -- a permit of another entry, and of another giver
-not-here : (g t e m : ℕ) (p : PermitRecord) → p .entry ≢ e → names g t e m p ≡ false
-unfolding names
+not-here : (g t e m : ℕ) (p : PermitRecord) → p .entry ≢ e → allows g t e m p ≡ false
+unfolding allows
 not-here g t e m p n = rw (ne-eqb p.entry e n, and-false (eqb p.giver g && eqb p.taker t))
 
-not-given : (g t e m : ℕ) (p : PermitRecord) → p .giver ≢ g → names g t e m p ≡ false
-unfolding names
+not-given : (g t e m : ℕ) (p : PermitRecord) → p .giver ≢ g → allows g t e m p ≡ false
+unfolding allows
 not-given g t e m p n = rw (ne-eqb p.giver g n)
 
 -- a delegate of the entries `on`, of permits whose operations are from 1 to 3
 module _ (from to : ℕ) (on : Set) (ps : List PermitRecord) (known : all operations ps ≡ true) where
   -- what becomes of one permit
   becomes : ℕ → ℕ → ℕ → ℕ → PermitRecord → Bool
-  becomes g t e m p = permitMoves from to on p && names g t e m (movedPermit to p) || permitKept from on p && names g t e m p
+  becomes g t e m p = permitMoves from to on p && allows g t e m (movedPermit to p) || permitKept from on p && allows g t e m p
 
   moved-known : (p : PermitRecord) → operations p ≡ true → permitMoves from to on p ≡ true → operations (movedPermit to p) ≡ true
   unfolding operations movedPermit
@@ -104,18 +104,18 @@ module _ (from to : ℕ) (on : Set) (ps : List PermitRecord) (known : all operat
   after : (g t e m : ℕ) → (1 ≤ m) × (m ≤ 2) → (r : PermitRecord → Bool) → ((p : PermitRecord) → becomes g t e m p ≡ r p) → stands (movePermits from to on ps) g t e m ≡ any r ps
   unfolding stands movePermits addPermit becomes
   after g t e m mode r h =
-      any-puts permitKey unitePermits (names g t e m) operations (names-united g t e m mode) unite-known (map (movedPermit to) (keep (permitMoves from to on) ps)) (keep (permitKept from on) ps)
+      any-puts permitKey unitePermits (allows g t e m) operations (allows-united g t e m mode) unite-known (map (movedPermit to) (keep (permitMoves from to on) ps)) (keep (permitKept from on) ps)
       (all-map operations (λ p. operations (movedPermit to p)) (movedPermit to) (λ p q. q) _ (all-keep operations (permitMoves from to on) _ moved-known ps known))
       (all-keep operations (permitKept from on) operations (λ p a b. a) ps known)
-      ∙ ap (λ b. b || any (names g t e m) (keep (permitKept from on) ps)) (any-map (names g t e m) (movedPermit to) _ ∙ any-kept _ (permitMoves from to on) ps)
-      ∙ ap (λ b. any (λ p. permitMoves from to on p && names g t e m (movedPermit to p)) ps || b) (any-kept (names g t e m) (permitKept from on) ps)
+      ∙ ap (λ b. b || any (allows g t e m) (keep (permitKept from on) ps)) (any-map (allows g t e m) (movedPermit to) _ ∙ any-kept _ (permitMoves from to on) ps)
+      ∙ ap (λ b. any (λ p. permitMoves from to on p && allows g t e m (movedPermit to p)) ps || b) (any-kept (allows g t e m) (permitKept from on) ps)
       ∙ any-both _ _ ps
       ∙ ap (λ f. any f ps) (fun-ext h)
 
   -- it moves, unless to itself, where it is one of those handed over; else it stays
-  becomes-is : (g t e m : ℕ) (p : PermitRecord) (b : Bool) → permitGiven from on p ≡ b → becomes g t e m p ≡ cond b (not (eqb p.taker to) && names g t e m (movedPermit to p)) (names g t e m p)
+  becomes-is : (g t e m : ℕ) (p : PermitRecord) (b : Bool) → permitGiven from on p ≡ b → becomes g t e m p ≡ cond b (not (eqb p.taker to) && allows g t e m (movedPermit to p)) (allows g t e m p)
   unfolding becomes permitMoves permitKept
-  becomes-is g t e m p b h = rw h (go b (not (eqb p.taker to)) (names g t e m (movedPermit to p)) (names g t e m p))
+  becomes-is g t e m p b h = rw h (go b (not (eqb p.taker to)) (allows g t e m (movedPermit to p)) (allows g t e m p))
     where
       go : (b x y z : Bool) → (b && x) && y || not b && z ≡ cond b (x && y) z
       go true x y z = or-false (x && y)
@@ -142,18 +142,18 @@ module _ (from to : ℕ) (on : Set) (ps : List PermitRecord) (known : all operat
   unfolding movedPermit
   silent g t e m p n = becomes-is g t e m p (permitGiven from on p) refl ∙ go (permitGiven from on p)
     where
-      go : (b : Bool) → cond b (not (eqb p.taker to) && names g t e m (movedPermit to p)) (names g t e m p) ≡ false
+      go : (b : Bool) → cond b (not (eqb p.taker to) && allows g t e m (movedPermit to p)) (allows g t e m p) ≡ false
       go true = ap (λ x. not (eqb p.taker to) && x) (not-here g t e m (movedPermit to p) n) ∙ and-false (not (eqb p.taker to))
       go false = not-here g t e m p n
 
   -- what is handed over does not stand as another's
-  not-theirs : (g t e m : ℕ) (p : PermitRecord) → g ≢ to → not (eqb p.taker to) && names g t e m (movedPermit to p) ≡ false
+  not-theirs : (g t e m : ℕ) (p : PermitRecord) → g ≢ to → not (eqb p.taker to) && allows g t e m (movedPermit to p) ≡ false
   unfolding movedPermit
   not-theirs g t e m p n = ap (λ x. not (eqb p.taker to) && x) (not-given g t e m (movedPermit to p) (λ q. n (sym q))) ∙ and-false (not (eqb p.taker to))
 
   -- it stands as the receiver's, to all but the receiver
-  now-theirs : (t e m : ℕ) (p : PermitRecord) → p .giver ≡ from → t ≢ to → not (eqb p.taker to) && names to t e m (movedPermit to p) ≡ names from t e m p
-  unfolding movedPermit names
+  now-theirs : (t e m : ℕ) (p : PermitRecord) → p .giver ≡ from → t ≢ to → not (eqb p.taker to) && allows to t e m (movedPermit to p) ≡ allows from t e m p
+  unfolding movedPermit allows
   now-theirs t e m p j n = go (same? p.taker t)
     where
       go : {b : Bool} → Same p.taker t b → not (eqb p.taker to) && (eqb to to && b && eqb p.entry e && contains p.ops m) ≡ eqb p.giver from && b && eqb p.entry e && contains p.ops m
@@ -169,26 +169,26 @@ module _ (from to : ℕ) (on : Set) (ps : List PermitRecord) (known : all operat
       go (same i) (same j) = becomes-is from t e m p true (handed p j (ap on i ∙ o)) ∙ not-theirs from t e m p apart
       go (same i) (other n) = becomes-is from t e m p false (of-another p n) ∙ not-given from t e m p n
 
-  all-moved : (t e m : ℕ) → from ≢ to → t ≢ to → on e ≡ true → (p : PermitRecord) → becomes to t e m p ≡ names from t e m p || names to t e m p
+  all-moved : (t e m : ℕ) → from ≢ to → t ≢ to → on e ≡ true → (p : PermitRecord) → becomes to t e m p ≡ allows from t e m p || allows to t e m p
   all-moved t e m apart n o p = go (same? p.entry e) (same? p.giver from)
     where
-      go : {x y : Bool} → Same p.entry e x → Same p.giver from y → becomes to t e m p ≡ names from t e m p || names to t e m p
+      go : {x y : Bool} → Same p.entry e x → Same p.giver from y → becomes to t e m p ≡ allows from t e m p || allows to t e m p
       go (other k) y = rw (silent to t e m p k, not-here from t e m p k, not-here to t e m p k)
       go (same i) (same j) = becomes-is to t e m p true (handed p j (ap on i ∙ o)) ∙ now-theirs t e m p j n
-          ∙ sym (ap (λ x. names from t e m p || x) (not-given to t e m p (λ q. apart (sym j ∙ q))) ∙ or-false (names from t e m p))
-      go (same i) (other k) = becomes-is to t e m p false (of-another p k) ∙ sym (ap (λ x. x || names to t e m p) (not-given from t e m p k))
+          ∙ sym (ap (λ x. allows from t e m p || x) (not-given to t e m p (λ q. apart (sym j ∙ q))) ∙ or-false (allows from t e m p))
+      go (same i) (other k) = becomes-is to t e m p false (of-another p k) ∙ sym (ap (λ x. x || allows to t e m p) (not-given from t e m p k))
 
-  others-stay : (g t e m : ℕ) → g ≢ from → g ≢ to → (p : PermitRecord) → becomes g t e m p ≡ names g t e m p
+  others-stay : (g t e m : ℕ) → g ≢ from → g ≢ to → (p : PermitRecord) → becomes g t e m p ≡ allows g t e m p
   others-stay g t e m f n p = becomes-is g t e m p (permitGiven from on p) refl ∙ go (permitGiven from on p) refl
     where
-      go : (b : Bool) → permitGiven from on p ≡ b → cond b (not (eqb p.taker to) && names g t e m (movedPermit to p)) (names g t e m p) ≡ names g t e m p
+      go : (b : Bool) → permitGiven from on p ≡ b → cond b (not (eqb p.taker to) && allows g t e m (movedPermit to p)) (allows g t e m p) ≡ allows g t e m p
       go true h = not-theirs g t e m p n ∙ sym (not-given g t e m p (λ q. f (sym q ∙ giver-of p h)))
       go false h = refl
 
-  elsewhere-stay : (g t e m : ℕ) → on e ≡ false → (p : PermitRecord) → becomes g t e m p ≡ names g t e m p
+  elsewhere-stay : (g t e m : ℕ) → on e ≡ false → (p : PermitRecord) → becomes g t e m p ≡ allows g t e m p
   elsewhere-stay g t e m o p = go (same? p.entry e)
     where
-      go : {x : Bool} → Same p.entry e x → becomes g t e m p ≡ names g t e m p
+      go : {x : Bool} → Same p.entry e x → becomes g t e m p ≡ allows g t e m p
       go (other n) = silent g t e m p n ∙ sym (not-here g t e m p n)
       go (same i) = becomes-is g t e m p false (elsewhere p (ap on i ∙ o))
 

@@ -31,7 +31,7 @@ pub mod SoundStep
 pub mod Promises
 -- demand 1: the first refusal that applies is the lowest (RefusalLaws), and which one a call gets, in words (RefusalWords.call-refused)
 pub mod TellLaws
-pub mod CheckLaws
+pub mod SaidLaws
 pub mod RefusalLaws
 pub mod RefusalWords
 -- demand 2 in words of the window: the second numbers, and what a delegate does to permits

@@ -17,7 +17,7 @@ use Rattle.rules.specs.Calls.{Call, Open, Initiate, Begin, Complete, Loc
 use Rattle.rules.specs.Effects.{every, entriesNamed, handOver, effect, lockEntry, commitChange, commitGroup, abortChange, abortAll}
 use Rattle.rules.specs.Refusals.{firstFailed, _if_, checks, settle, step}
 use Rattle.rules.proofs.BaseLaws.{and-both, and-left, and-right}
-use Rattle.rules.proofs.CheckLaws.{Unrefused, Turned, merge, merged, merged-first, proper, Said, said-next, said-none, Answered, turned}
+use Rattle.rules.proofs.SaidLaws.{Unrefused, Turned, merge, merged, merged-first, proper, Said, said-next, said-none, AnswerOf, turned}
 use Rattle.rules.proofs.PathLaws.{Arrows, acyclic-paths}
 use Rattle.rules.proofs.SortLaws.{all-insert}
 use Rattle.rules.proofs.SoundDelegate.{hand-held}
@@ -121,8 +121,8 @@ effect-answer W (Status c) = search passes
 effect-answer W (Parent c) = search passes
 effect-answer W (Value e) = search passes
 
-settle-answer : (f : ℕ) (W : Window) (o : Outcome) → Unrefused (o .answer) → Answered f (settle f W o .answer)
-unfolding settle unchanged Answered
+settle-answer : (f : ℕ) (W : Window) (o : Outcome) → Unrefused (o .answer) → AnswerOf f (settle f W o .answer)
+unfolding settle unchanged AnswerOf
 settle-answer zero W o h = h
 settle-answer (suc f) W o h = refl
 

@@ -63,9 +63,9 @@ Said (k ∷ l) [] = ⊥
 Said (k ∷ l) (r ∷ w) = (k .code ≡ r .0) × (Tells (k .fails) (r .1)) × (k .fails ≡ false → Said l w)
 
 -- the answer of a call whose first refusal is f, 0 if there is none
-unfoldable pub Answered : ℕ → ℕ → Type 0
-Answered zero a = Unrefused a
-Answered (suc f) a = a ≡ suc f
+unfoldable pub AnswerOf : ℕ → ℕ → Type 0
+AnswerOf zero a = Unrefused a
+AnswerOf (suc f) a = a ≡ suc f
 
 -- a number that no check has is not the first
 first-other : (l : List Check) (n : ℕ) → all (λ j. not (eqb j.code n)) l ≡ true → 0 < n → firstFailed l ≢ n
@@ -77,21 +77,21 @@ first-other (k ∷ l) n h p e = go (k .fails) (first-other l n (and-right (not (
     go true f q = eqb-false k.code n (not-true _ (and-left (not (eqb k.code n)) _ h)) q
     go false f q = f q
 
-answered-other : (f a n : ℕ) → Answered f a → f ≢ n → 0 < n → n < 20 → a ≢ n
-unfolding Answered
+answered-other : (f a n : ℕ) → AnswerOf f a → f ≢ n → 0 < n → n < 20 → a ≢ n
+unfolding AnswerOf
 answered-other zero a n (inl e) h p q = omega (arith, e)
 answered-other zero a n (inr (inl e)) h p q = omega (arith, e)
 answered-other zero a n (inr (inr e)) h p q = omega (arith, e)
 answered-other (suc f) a n e h p q = λ x. h (sym e ∙ x)
 
-answered-is : (f a : ℕ) → 0 < f → Answered f a → a ≡ f
-unfolding Answered
+answered-is : (f a : ℕ) → 0 < f → AnswerOf f a → a ≡ f
+unfolding AnswerOf
 answered-is zero a h e = absurd (omega arith)
 answered-is (suc f) a h e = e
 
 -- the first check that fails decides
-pub turned : (a : ℕ) (l : List Check) (w : List (ℕ × Type 0)) → proper l ≡ true → Said l w → Answered (firstFailed l) a → Turned a w
-unfolding Turned Said proper firstFailed Answered
+pub turned : (a : ℕ) (l : List Check) (w : List (ℕ × Type 0)) → proper l ≡ true → Said l w → AnswerOf (firstFailed l) a → Turned a w
+unfolding Turned Said proper firstFailed AnswerOf
 turned a [] [] p s h = h
 turned a [] (r ∷ w) p s h = absurd s
 turned a (k ∷ l) [] p s h = absurd s
@@ -103,7 +103,7 @@ turned a (k ∷ l) (r ∷ w) p s h = go (k .fails) refl h (λ e. turned a l w (q
     above : 0 < k .code
     above = ltb-true 0 k.code (q .0)
 
-    go : (b : Bool) → k .fails ≡ b → Answered (cond b k.code (firstFailed l)) a → (k .fails ≡ false → Answered (firstFailed l) a → Turned a w)
+    go : (b : Bool) → k .fails ≡ b → AnswerOf (cond b k.code (firstFailed l)) a → (k .fails ≡ false → AnswerOf (firstFailed l) a → Turned a w)
         → (a ≡ r .0 ↔ r .1) × ((r .1 → ⊥) → Turned a w)
     go true e h ih = ((λ x. s .1 .0 e, λ x. answered-is k.code a above h ∙ s .0), λ n. absurd (n (s .1 .0 e)))
     go false e h ih = (
