@@ -6,7 +6,7 @@ CFLAGS = -O2
 
 version = $(shell sed -n 's/^\#define WINDOW_VERSION //p' include/window.h)
 headers = include/window.h include/window_text.h
-sources = crates.txt $(shell find crates -path '*/src' -o -path '*/src/*')
+sources = crates.txt $(shell find crates -name must-fail -prune -o -print)
 root = $(DESTDIR)$(PREFIX)
 
 target/libwindow.a: target/staticlib/libwindow.a target/window_text.o

@@ -17,9 +17,9 @@
  * Memory. It needs no alignment, and may be NULL where length is 0. A window holds no pointers, and its numbers are
  * little-endian on every machine: between two calls it may be copied, saved, mapped or moved to another machine.
  *
- * Copies. A process that is killed inside a call may leave memory that is not sound, or a window that holds a part of
- * the call's work. Who has to go on after that keeps a copy: the WINDOW_SIZE bytes, copied after a call was answered
- * WINDOW_DONE and before the next.
+ * Copies. A process that is killed inside a call may leave memory that is not sound, or a sound window that holds only
+ * a part of the call's work. Who has to go on after that keeps a copy, the WINDOW_SIZE bytes as they were between two
+ * calls, and goes back to it whatever the next call would answer.
  *
  * Threads. Calls on different windows may run at once. Calls on one window must not overlap, but for read, status,
  * parent and value: they only read, and may run at once with each other.
@@ -210,8 +210,8 @@ WINDOW_MUST_USE window_reply window_depend(uint8_t *window, size_t length, uint3
  * Commits the change with its whole group, all that group ties join to it in any number of steps; number: how many
  * changes this call ended, 0 where the change was committed before.
  *   change  the change to commit
- * Answers: WINDOW_NO_CHANGE, WINDOW_BLOCKED (a member is not completed, or a leader of a member has not ended; number:
- * the lowest of those), WINDOW_ENDED (the change was aborted).
+ * Answers: WINDOW_NO_CHANGE, WINDOW_BLOCKED (a member is not completed, or the leader of a wait or fall tie to a member
+ * has not ended; number: the lowest of those), WINDOW_ENDED (the change was aborted).
  */
 WINDOW_MUST_USE window_reply window_commit(uint8_t *window, size_t length, uint32_t change);
 
