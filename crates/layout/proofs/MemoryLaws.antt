@@ -96,7 +96,7 @@ module _ (mem : List ℕ) where
   sound-front h = and-right (long mem) _ h
 
   -- sound memory is its window's bytes and the rest
-  memory-again : soundMemory mem ≡ true → encode (windowOf mem) ++ drop windowSize mem ≡ mem
+  pub memory-again : soundMemory mem ≡ true → encode (windowOf mem) ++ drop windowSize mem ≡ mem
   memory-again h = rw (bytes-again (take windowSize mem) (sound-front h)) (take-append-drop windowSize mem)
 
   pub memory-sound : soundMemory mem ≡ true → Sound limits (windowOf mem)

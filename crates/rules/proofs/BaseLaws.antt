@@ -118,6 +118,15 @@ allBelow-at (suc n) p e c h = go (same? c n) (allBelow-at n p (and-left (allBelo
     go (same q) ih = rw q (and-right (allBelow n p) (p n) e)
     go (other q) ih = ih (omega arith)
 
+pub allBelow-fails : (n : ℕ) (p : ℕ → Bool) → allBelow n p ≡ false → (c : ℕ) × (p c ≡ false)
+unfolding allBelow
+allBelow-fails zero p e = absurd (false≢true (sym e))
+allBelow-fails (suc n) p e = go (allBelow n p) e (allBelow-fails n p)
+  where
+    go : (b : Bool) → b && p n ≡ false → (b ≡ false → (c : ℕ) × (p c ≡ false)) → (c : ℕ) × (p c ≡ false)
+    go true q ih = (n, q)
+    go false q ih = ih refl
+
 -- both cases alike
 pub cond-same : (b : Bool) (a : ℕ) → cond b a a ≡ a
 cond-same true a = refl

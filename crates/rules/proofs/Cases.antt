@@ -133,6 +133,8 @@ refused =
     ∷ (Depend 4 4 4, 3, 0) ∷ (Depend 4 1 4, 3, 0) ∷ (Depend 4 1 1, 5, 0) ∷ (Depend 0 1 1, 5, 0) ∷ (Depend 2 1 1, 6, 0)
     ∷ (Depend 2 1 2, 0, 0) ∷ (Depend 2 2 1, 9, 0) ∷ (Depend 2 1 3, 11, 0) ∷ (Depend 2 1 2, 0, 0)
     ∷ (Commit 4, 3, 0) ∷ (Commit 2, 20, 1) ∷ (Complete 1, 0, 0) ∷ (Commit 1, 0, 1) ∷ (Commit 1, 0, 0) ∷ (Abort 1, 21, 0) ∷ (Abort 4, 3, 0) ∷ (Complete 1, 7, 0)
+    ∷ (Delegate 2 3 1, 0, 0) ∷ (Lock 3 1 2, 0, 0) ∷ (Permit 3 2 1 1, 0, 0) ∷ (Lock 2 1 1, 0, 0) ∷ (Depend 1 2 3, 0, 0)
+    ∷ (Permit 1 1 1 1, 6, 0) ∷ (Delegate 1 1 1, 6, 0) ∷ (Depend 1 1 1, 6, 0)
     ∷ (Permit 1 2 1 1, 7, 0) ∷ (Permit 2 1 1 1, 7, 0) ∷ (Delegate 1 2 1, 7, 0) ∷ (Delegate 2 1 1, 7, 0) ∷ (Depend 1 1 2, 7, 0) ∷ (Depend 1 2 1, 7, 0)
     ∷ (Initiate 1, 7, 0) ∷ (Read 1 1, 7, 0) ∷ (Abort 2, 0, 1) ∷ (Commit 2, 21, 0) ∷ (Abort 2, 0, 0)
     ∷ (Status 1, 0, 4) ∷ (Status 2, 0, 5) ∷ (Status 3, 0, 2) ∷ (Parent 2, 0, 1) ∷ (Value 1, 0, 6) ∷ []

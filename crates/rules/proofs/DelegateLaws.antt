@@ -18,7 +18,7 @@ use Rattle.rules.specs.Effects.{every, entriesNamed, moveHeld, movedReco
 use Rattle.rules.specs.Refusals.{checks, firstFailed, _if_, step}
 use Rattle.rules.proofs.BaseLaws.{cond-same, and-both, and-left, eqb-same, Same, same, other, same?, allBelow-at}
 use Rattle.rules.proofs.ListLaws.{any-map, any-kept, any-both, any-false, all-map, all-keep, all-weaken}
-use Rattle.rules.proofs.RefusalLaws.{done-unrefused}
+use Rattle.rules.proofs.RuleLaws.{done-unrefused}
 use Rattle.rules.proofs.SortLaws.{any-puts}
 use Rattle.rules.proofs.SoundParts.{Sound, permit-parts, inside-of}
 use Rattle.rules.proofs.SoundStep.{passed, codes}
@@ -185,6 +185,19 @@ module _ (from to : ℕ) (on : Set) (ps : List PermitRecord) (known : all operat
       go true h = not-theirs g t e m p n ∙ sym (not-given g t e m p (λ q. f (sym q ∙ giver-of p h)))
       go false h = refl
 
+  -- "A permit that would be from *to* to itself is dropped"
+  none-itself : (e m : ℕ) → from ≢ to → (p : PermitRecord) → becomes to to e m p ≡ allows to to e m p
+  unfolding movedPermit allows
+  none-itself e m apart p = becomes-is to to e m p (permitGiven from on p) refl ∙ go (permitGiven from on p) refl
+    where
+      dropped : (b : Bool) → not b && (eqb to to && b && eqb p.entry e && contains p.ops m) ≡ false
+      dropped true = refl
+      dropped false = rw (and-false (eqb to to))
+
+      go : (b : Bool) → permitGiven from on p ≡ b → cond b (not (eqb p.taker to) && allows to to e m (movedPermit to p)) (allows to to e m p) ≡ allows to to e m p
+      go true h = dropped (eqb p.taker to) ∙ sym (not-given to to e m p (λ q. apart (sym (giver-of p h) ∙ q)))
+      go false h = refl
+
   elsewhere-stay : (g t e m : ℕ) → on e ≡ false → (p : PermitRecord) → becomes g t e m p ≡ allows g t e m p
   elsewhere-stay g t e m o p = go (same? p.entry e)
     where
@@ -203,6 +216,8 @@ pub record PermitsMoved (W X : Window) (from to : ℕ) (on : Set) : Type 0 where
   pub giver : (k e m : ℕ) → Mode m → on e ≡ true → stands X.permits from k e m ≡ false
   -- who receives has given what either of the two had, but to itself
   pub receiver : (k e m : ℕ) → Mode m → on e ≡ true → k ≢ to → stands X.permits to k e m ≡ stands W.permits from k e m || stands W.permits to k e m
+  -- "A permit that would be from *to* to itself is dropped": none comes about
+  pub itself : (e m : ℕ) → Mode m → stands X.permits to to e m ≡ stands W.permits to to e m
   -- "Permits received do not move", nor those that others have given
   pub others : (g k e m : ℕ) → Mode m → g ≢ from → g ≢ to → stands X.permits g k e m ≡ stands W.permits g k e m
   pub elsewhere : (g k e m : ℕ) → Mode m → on e ≡ false → stands X.permits g k e m ≡ stands W.permits g k e m
@@ -212,6 +227,7 @@ unfolding stands
 moves-permits W X from to on e known apart = rw e (record {
   giver = λ k e m w o. after from to on W.permits known from k e m w _ (none-left from to on W.permits known k e m apart o) ∙ any-false W.permits;
   receiver = λ k e m w o n. after from to on W.permits known to k e m w _ (all-moved from to on W.permits known k e m apart n o) ∙ sym (any-both _ _ W.permits);
+  itself = λ e m w. after from to on W.permits known to to e m w _ (none-itself from to on W.permits known e m apart);
   others = λ g k e m w f n. after from to on W.permits known g k e m w _ (others-stay from to on W.permits known g k e m f n);
   elsewhere = λ g k e m w o. after from to on W.permits known g k e m w _ (elsewhere-stay from to on W.permits known g k e m o);
 })
@@ -263,6 +279,8 @@ pub record HandedOver (W X : Window) (from to : ℕ) (on : Set) : Type 0 where
   pub log : (becomes : LogRecord → LogRecord) × (X .log ≡ map becomes W.log) × ((r : LogRecord) → OwnerMoved from to on r (becomes r))
   pub locks : LocksMoved W X from to on
   pub permits : PermitsMoved W X from to on
+  -- and nothing else
+  pub rest : (X .entries ≡ W .entries) × (X .value ≡ W .value) × (X .given ≡ W .given) × (X .status ≡ W .status) × (X .parent ≡ W .parent) × (X .ties ≡ W .ties)
 
 pub delegate-moves : (L : Limits) (W : Window) → Sound L W → (f t e : ℕ) → step L W (Delegate f t e) .answer ≡ 0 → HandedOver W (step L W (Delegate f t e) .after) f t (entriesNamed e)
 unfolding effect done handOver moveLog checks _if_ operations
@@ -270,6 +288,7 @@ delegate-moves L W z f t e a = record {
   log = (movedRecord f t on, ap (λ o. o .after .log) (u .1), moves-owner f t on);
   locks = moves-locks W X f t on (ap (λ o. o .after .held) (u .1)) apart;
   permits = moves-permits W X f t on (ap (λ o. o .after .permits) (u .1)) known apart;
+  rest = rw (u .1) (refl, refl, refl, refl, refl, refl);
 }
   where
     on : Set

@@ -1,7 +1,7 @@
 -- Tests of all or some of a list, of which a part is kept, of which each is changed, to which one is added; how long they are. Assumes nothing.
 use mathlib.Core.Path.{_≡_, refl, _∙_, ap}
 use mathlib.Core.Logic.{⊎-elim}
-use mathlib.Core.Bool.{Bool, true, false, not, cond, _&&_, _||_, false≢true}
+use mathlib.Core.Bool.{Bool, true, false, not, cond, _&&_, _||_, false≢true, true≢false}
 use mathlib.Core.List.{List, [], _∷_, _++_, map, List·Memᴰ, List·Memᴰ·head, List·Memᴰ·tail}
 use Prim.Native.Nat.{ℕ, zero, suc, _+_, _≤_, _<_}
 use native.Mathlib.Nat.{not-suc-le-zero, le-of-suc-le-suc}
@@ -61,6 +61,16 @@ module _ {ℓ} {A : Type ℓ} where
   unfolding any
   any-find p [] e = absurd (false≢true e)
   any-find p (x ∷ l) e = ⊎-elim (λ a. (x, List·Memᴰ·head refl, a)) (λ a. let m = any-find p l a in (m .0, List·Memᴰ·tail (m .1), m .2)) (or-cases (p x) (any p l) e)
+
+  -- one that does not, where not all do
+  pub all-fails : (p : A → Bool) (l : List A) → all p l ≡ false → (x : A) × List·Memᴰ x l × (p x ≡ false)
+  unfolding all
+  all-fails p [] e = absurd (true≢false e)
+  all-fails p (x ∷ l) e = go (p x) refl e (all-fails p l)
+    where
+      go : (b : Bool) → p x ≡ b → b && all p l ≡ false → (all p l ≡ false → (y : A) × List·Memᴰ y l × (p y ≡ false)) → (y : A) × List·Memᴰ y (x ∷ l) × (p y ≡ false)
+      go true h q ih = let m = ih q in (m .0, List·Memᴰ·tail (m .1), m .2)
+      go false h q ih = (x, List·Memᴰ·head refl, h)
 
   pub all-weaken : (p q : A → Bool) → ((x : A) → p x ≡ true → q x ≡ true) → (l : List A) → all p l ≡ true → all q l ≡ true
   all-weaken p q f l e = all-members q l (λ x m. f x (all-member p m e))

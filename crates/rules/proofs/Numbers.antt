@@ -6,20 +6,19 @@ use mathlib.Core.Bool.{Bool, true, false, not, cond, _&&_, false≢true}
 use Prim.Native.Nat.{ℕ, zero, suc, _<_}
 use native.Mathlib.Omega.{arith}
 use lib.Dec.{eqb}
-use borrow.Author.Tests.{eqb-true, ne-eqb}
+use borrow.Author.Tests.{ne-eqb}
 use Rattle.rules.specs.Base.{anyBelow, countBelow, lowestBelow}
 use Rattle.rules.specs.Sets.{Set, putAll}
-use Rattle.rules.specs.Window.{Limits, TieRecord, Window, withValue, noChange, live, isEnded}
+use Rattle.rules.specs.Window.{Limits, Window, withValue, noChange, live, isEnded}
 use Rattle.rules.specs.Ties.{isArrow, tied, groupOf, endSet}
 use Rattle.rules.specs.Calls.{Call, Open, Initiate, Begin, Complete, Lock, Read, Write, Permit, Delegate, Depend, Commit, Abort, Status, Parent, Value, Outcome, done, unchanged}
-use Rattle.rules.specs.Effects.{addChange, covers, grantable, putHeld, lockEntry, commitBlockers, commitGroup, commitChange, endAll, size, abortChange, abortAll, effect, leadsTo, leadersOf}
+use Rattle.rules.specs.Effects.{addChange, covers, grantable, putHeld, lockEntry, commitBlockers, commitGroup, commitChange, endAll, size, abortChange, abortAll, effect}
 use Rattle.rules.specs.Refusals.{checks, firstFailed, _if_, settle, step}
-use Rattle.rules.proofs.BaseLaws.{or-left, or-right, and-both, and-left, and-right, put-same, put-other}
+use Rattle.rules.proofs.BaseLaws.{or-left, put-same, put-other}
 use Rattle.rules.proofs.BoundLaws.{count-ext, count-bound, lowest-hit, lowest-below}
 use Rattle.rules.proofs.DemandMoves.{live-status, not-ended}
-use Rattle.rules.proofs.ListLaws.{any-weaken}
-use Rattle.rules.proofs.Promises.{blocks, commit-live, abort-ends}
-use Rattle.rules.proofs.RefusalLaws.{done-unrefused}
+use Rattle.rules.proofs.Promises.{blocks, leader-blocks, commit-live}
+use Rattle.rules.proofs.RuleLaws.{done-unrefused}
 use Rattle.rules.proofs.SoundParts.{Sound, live-of}
 use Rattle.rules.proofs.SoundStep.{group-live, fall-live}
 
@@ -111,12 +110,9 @@ way-of : (W : Window) (c d : ℕ) → commitBlockers W (groupOf W c) d ≡ true 
 way-of W c d e = ⊎-elim (λ m. uncompleted (m .0) (m .1)) (λ m. leads (m .0) (m .2) (m .1)) (blocks W (groupOf W c) d e)
 
 of-way : (W : Window) (c d : ℕ) → InTheWay W c d → commitBlockers W (groupOf W c) d ≡ true
-unfolding commitBlockers leadersOf leadsTo tied
+unfolding commitBlockers
 of-way W c d (uncompleted g n) = or-left (groupOf W c d && not (eqb (W .status d) 3)) _ (rw (g, ne-eqb (W .status d) 3 n))
-of-way W c d (leads f g t) = or-right (groupOf W c d && not (eqb (W .status d) 3)) _ (any-weaken _ (λ u. isArrow u.kind && eqb u.leader d && groupOf W c u.follower) one W.ties t)
-  where
-    one : (u : TieRecord) → isArrow u.kind && eqb u.leader d && eqb u.follower f ≡ true → isArrow u.kind && eqb u.leader d && groupOf W c u.follower ≡ true
-    one u q = let k = isArrow u.kind && eqb u.leader d in and-both k _ (and-left k _ q) (rw (eqb-true u.follower f (and-right k _ q)) g)
+of-way W c d (leads f g t) = leader-blocks W (groupOf W c) d f g t
 
 -- a commit of a group that is answered 20 names the lowest
 group-blocked : (W : Window) (g : Set) → commitGroup W g .answer ≡ 20 → (anyBelow (suc W.given) (commitBlockers W g) ≡ true) × (commitGroup W g .number ≡ lowestBelow (suc W.given) (commitBlockers W g))

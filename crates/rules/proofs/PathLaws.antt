@@ -1,18 +1,18 @@
 -- Least closed sets and acyclic ties in words of paths. Assumes nothing.
-use mathlib.Core.Path.{_≡_, refl, fun-ext}
+use mathlib.Core.Path.{_≡_, refl, ap, fun-ext}
 use mathlib.Core.Logic.{_⊎_, inl, inr, _↔_}
 use mathlib.Core.Bool.{Bool, true, false, not, _&&_, _||_, false≢true}
 use mathlib.Core.List.{List, List·Memᴰ}
 use Prim.Native.Nat.{ℕ, suc, _<_}
 use native.Mathlib.Omega.{arith}
 use lib.Dec.{ltb, eqb}
-use borrow.Author.Tests.{ltb-true, lt-ltb}
+use borrow.Author.Tests.{not-true, not-false, ltb-true, lt-ltb}
 use Rattle.rules.specs.Base.{all, keep}
 use Rattle.rules.specs.Sets.{Set, Rel, only, closure, reach}
 use Rattle.rules.specs.Window.{TieRecord}
 use Rattle.rules.specs.Ties.{isArrow, tied, grouped, falling, leading, acyclic}
-use Rattle.rules.proofs.BaseLaws.{and-eqs, or-left, or-right, or-cases, or-map, and-map, eqb-same, both-ways, no-true}
-use Rattle.rules.proofs.ListLaws.{all-weaken, all-keep, all-members, any-keep, find}
+use Rattle.rules.proofs.BaseLaws.{and-eqs, or-left, or-right, or-cases, or-none, or-map, and-map, eqb-same, both-ways, no-true}
+use Rattle.rules.proofs.ListLaws.{all-weaken, all-keep, all-members, all-fails, any-keep, find}
 use Rattle.rules.proofs.SetLaws.{closure-to, closure-holds, closure-closed, reach-to}
 use Rattle.rules.proofs.TieLaws.{grouped-ends, falling-ends, leading-ends, stands-tied}
 
@@ -159,6 +159,15 @@ module _ (ts : List TieRecord) where
     acyclic-paths = (
       λ h x p. let m = first p in acyclic-clear h (m .leader) (m .follower) (m .arrow) (way-join (m .fro) (m .to)),
       λ h. clear-acyclic (λ l f e w. h l (further (one (record { leader = l; follower = f; leaves = stay; tie = e; enters = stay })) w)),
+    )
+
+    -- and where they are not acyclic one does
+    pub cyclic-paths : not (acyclic n ts) ≡ true ↔ ((x : ℕ) × Arrows ts x x)
+    unfolding acyclic
+    cyclic-paths = (
+      λ h. let m = all-fails _ ts (not-true _ h) in let t = m .0 in let o = or-none (not (isArrow t.kind)) _ (m .2) in
+      (t .leader, further (one (record { leader = t .leader; follower = t .follower; leaves = stay; tie = stands-tied isArrow (m .1) (not-false _ (o .0)); enters = stay })) (reach-ways n (leading ts) leading-bounded t.follower t.leader .0 (not-false _ (o .1)))),
+      λ m. ap not (no-true _ (λ h. acyclic-paths .0 h (m .0) (m .1))),
     )
 
 -- fewer ties close no cycle, and neither does one more change

@@ -17,7 +17,7 @@ use Rattle.rules.specs.Ties.{makeTie, addTie, acyclic, isArrow, tied, gr
 use Rattle.rules.specs.Calls.{Lock, Commit, Abort, done, unchanged}
 use Rattle.rules.specs.Effects.{covers, lockBlockers, grantable, lockEntry, commitBlockers, commitGroup, commitChange, undo, endAll, abortAll, abortChange, effect, leadsTo, leadersOf}
 use Rattle.rules.specs.Refusals.{checks, firstFailed, _if_, settle, step}
-use Rattle.rules.proofs.BaseLaws.{or-cases, or-none, and-both, and-left, and-right, none-below, anyBelow-none}
+use Rattle.rules.proofs.BaseLaws.{or-right, or-cases, or-none, and-both, and-left, and-right, none-below, anyBelow-none}
 use Rattle.rules.proofs.DemandMoves.{live-status, not-ended}
 use Rattle.rules.proofs.ListLaws.{any-find, any-weaken}
 use Rattle.rules.proofs.PathLaws.{Way, reach-ways, Arrows, grouped-bounded, falling-bounded, acyclic-paths}
@@ -97,6 +97,14 @@ blocks W g d e = ⊎-elim (λ q. inl (and-left (g d) _ q, eqb-false (W .status d
     led q = let m = any-find _ W.ties q in let t = m .0 in let u = and-left (isArrow t.kind && eqb t.leader d) (g t.follower) (m .2) in
         (t .follower, rw (eqb-true t.leader d (and-right (isArrow t.kind) (eqb t.leader d) u)) at (stands-tied isArrow (m .1) (and-left (isArrow t.kind) (eqb t.leader d) u)), and-right (isArrow t.kind && eqb t.leader d) (g t.follower) (m .2))
 
+-- such a leader does
+pub leader-blocks : (W : Window) (g : Set) (d f : ℕ) → g f ≡ true → tied W.ties isArrow d f ≡ true → commitBlockers W g d ≡ true
+unfolding commitBlockers leadersOf leadsTo tied
+leader-blocks W g d f h e = or-right (g d && not (eqb (W .status d) 3)) _ (any-weaken _ (λ t. isArrow t.kind && eqb t.leader d && g t.follower) one W.ties e)
+  where
+    one : (t : TieRecord) → isArrow t.kind && eqb t.leader d && eqb t.follower f ≡ true → isArrow t.kind && eqb t.leader d && g t.follower ≡ true
+    one t q = let k = isArrow t.kind && eqb t.leader d in and-both k _ (and-left k _ q) (rw (eqb-true t.follower f (and-right k _ q)) h)
+
 -- "a change commits exactly when its whole group is completed and none of them has a live leader to wait for or fall with"
 module _ (L : Limits) (W : Window) (z : Sound L W) (c : ℕ) (lc : live W c ≡ true) where
   pub commit-live : step L W (Commit c) ≡ commitGroup W (groupOf W c)
@@ -116,20 +124,14 @@ module _ (L : Limits) (W : Window) (z : Sound L W) (c : ℕ) (lc : live W c ≡ 
     pub unled : (l f : ℕ) → groupOf W c f ≡ true → tied W.ties isArrow l f ≡ true → ⊥
 
   pub free-of : anyBelow (suc W.given) (commitBlockers W (groupOf W c)) ≡ false → Free
-  unfolding commitBlockers leadersOf leadsTo tied
-  free-of none = record { completed = completed; unled = unled }
+  unfolding commitBlockers
+  free-of none = record {
+    completed = λ d g. eqb-true (W .status d) 3 (not-false _ (rw g at (or-none (groupOf W c d && not (eqb (W .status d) 3)) _ (clear d (group-live L W z c lc d g)) .0)));
+    unled = λ l f g e. true≢false (sym (leader-blocks W (groupOf W c) l f g e) ∙ clear l (tied-ends (live W) W.ties (ends-live L W z) isArrow l f e .0));
+  }
     where
-      clear : (d : ℕ) → live W d ≡ true → (groupOf W c d && not (eqb (W .status d) 3) ≡ false) × (any (λ t. isArrow t.kind && eqb t.leader d && groupOf W c t.follower) W.ties ≡ false)
-      clear d h = or-none _ _ (anyBelow-none (suc W.given) (commitBlockers W (groupOf W c)) none d (live-below W d h))
-
-      completed : (d : ℕ) → groupOf W c d ≡ true → W .status d ≡ 3
-      completed d g = eqb-true (W .status d) 3 (not-false _ (rw g at (clear d (group-live L W z c lc d g) .0)))
-
-      unled : (l f : ℕ) → groupOf W c f ≡ true → any (λ t. isArrow t.kind && eqb t.leader l && eqb t.follower f) W.ties ≡ true → ⊥
-      unled l f g e = true≢false (sym (any-weaken _ (λ t. isArrow t.kind && eqb t.leader l && groupOf W c t.follower) one W.ties e) ∙ clear l (tied-ends (live W) W.ties (ends-live L W z) isArrow l f e .0) .1)
-        where
-          one : (t : TieRecord) → isArrow t.kind && eqb t.leader l && eqb t.follower f ≡ true → isArrow t.kind && eqb t.leader l && groupOf W c t.follower ≡ true
-          one t q = and-both (isArrow t.kind && eqb t.leader l) _ (and-left (isArrow t.kind && eqb t.leader l) _ q) (rw (eqb-true t.follower f (and-right (isArrow t.kind && eqb t.leader l) _ q)) g)
+      clear : (d : ℕ) → live W d ≡ true → commitBlockers W (groupOf W c) d ≡ false
+      clear d h = anyBelow-none (suc W.given) (commitBlockers W (groupOf W c)) none d (live-below W d h)
 
   of-free : Free → anyBelow (suc W.given) (commitBlockers W (groupOf W c)) ≡ false
   of-free f = none-below (suc W.given) (commitBlockers W (groupOf W c))

@@ -4,18 +4,18 @@ use mathlib.Core.Path.{_≡_, refl, sym, _∙_}
 use mathlib.Core.Logic.{_⊎_, inl, inr, ⊎-elim}
 use mathlib.Core.Bool.{Bool, true, false, cond, _&&_, false≢true, true≢false}
 use mathlib.Core.List.{List, [], _∷_}
-use Prim.Native.Nat.{ℕ, zero, suc, _<_, _≤_}
+use Prim.Native.Nat.{ℕ, _<_, _≤_}
 use native.Mathlib.Omega.{arith}
 use lib.Dec.{leb, ltb, eqb}
 use borrow.Author.Tests.{eqb-true, ltb-true, leb-true}
 use Rattle.rules.specs.Base.{all, any}
 use Rattle.rules.specs.Window.{Limits, Window}
-use Rattle.rules.specs.Calls.{Call, Open, Initiate, Begin, Complete, Lock, Read, Write, Permit, Delegate, Depend, Commit, Abort, Status, Parent, Value, Outcome, unchanged}
+use Rattle.rules.specs.Calls.{Call, Open, Initiate, Begin, Complete, Lock, Read, Write, Permit, Delegate, Depend, Commit, Abort, Status, Parent, Value}
 use Rattle.rules.specs.Effects.{effect}
 use Rattle.rules.specs.Refusals.{Check, firstFailed, _if_, checks, settle, step}
 use Rattle.rules.proofs.BaseLaws.{or-left, or-right, or-cases, and-both, and-left, and-right, or-none, eqb-same}
 use Rattle.rules.proofs.ListLaws.{find}
-use Rattle.rules.proofs.SoundStep.{codes}
+use Rattle.rules.proofs.SoundStep.{codes, settle-answer}
 
 -- no number is below one before it
 unfoldable pub neverFall : List Check → Bool
@@ -64,11 +64,6 @@ numbered : (l : List Check) (n : ℕ) → all (λ k. ltb 0 k.code) l ≡ true �
 unfolding applies
 numbered l n c a = let m = find _ _ l a c in omega (arith, eqb-true (m .0 .code) n (and-left (eqb (m .0 .code) n) _ (m .1)), ltb-true 0 (m .0 .code) (m .2))
 
-settled : (a : ℕ) (W : Window) (o : Outcome) → 0 < a → settle a W o .answer ≡ a
-unfolding settle unchanged
-settled zero W o h = absurd (omega arith)
-settled (suc a) W o h = refl
-
 -- demand 1: a call to which a refusal applies is answered with one that applies, and with none that is higher
 pub refused-lowest : (L : Limits) (W : Window) (c : Call) (n : ℕ) → applies (checks L W c) n ≡ true
     → (applies (checks L W c) (step L W c .answer) ≡ true) × (step L W c .answer ≤ n)
@@ -76,7 +71,7 @@ unfolding step
 refused-lowest L W c n a =
     let l = checks L W c in
     let m = first-lowest l n (never-fall L W c) a in
-    let e = settled (firstFailed l) W (effect W c) (numbered l (firstFailed l) (codes L W c) (m .0)) in
+    let e = settle-answer (firstFailed l) W (effect W c) (numbered l (firstFailed l) (codes L W c) (m .0)) in
     rw e m
 
 -- none applies: none fails
@@ -93,12 +88,3 @@ none-fails (k ∷ l) h = go (k .fails) refl (none-fails l (λ n. or-none (eqb k.
 pub unrefused : (L : Limits) (W : Window) (c : Call) → ((n : ℕ) → applies (checks L W c) n ≡ false) → step L W c ≡ effect W c
 unfolding step settle
 unrefused L W c h = rw (none-fails (checks L W c) h)
-
--- a call answered 0 was not refused
-pub done-unrefused : (L : Limits) (W : Window) (c : Call) → step L W c .answer ≡ 0 → (firstFailed (checks L W c) ≡ 0) × (step L W c ≡ effect W c)
-unfolding step settle unchanged
-done-unrefused L W c = go (firstFailed (checks L W c))
-  where
-    go : (a : ℕ) → settle a W (effect W c) .answer ≡ 0 → (a ≡ 0) × (settle a W (effect W c) ≡ effect W c)
-    go zero e = (refl, refl)
-    go (suc a) e = absurd (omega arith)

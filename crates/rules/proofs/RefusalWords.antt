@@ -1,13 +1,13 @@
 -- Each refusal of each call in words: a call is answered with a refusal's number exactly when what it says holds and none before it does. Assumes nothing.
-use mathlib.Core.Path.{_≡_, refl}
+use mathlib.Core.Path.{_≡_, refl, sym, _∙_, ap}
 use mathlib.Core.Logic.{_⊎_, inl, inr, _↔_, _≢_}
-use mathlib.Core.Bool.{Bool, true, false, not, cond, _&&_, _||_}
+use mathlib.Core.Bool.{Bool, true, false, not, cond, _&&_, _||_, true≢false}
 use mathlib.Core.List.{List, [], _∷_}
 use Prim.Native.Nat.{ℕ, zero, suc, _<_, _≤_}
 use native.Mathlib.Omega.{arith}
 use lib.Dec.{ltb, eqb}
 use lib.ListN.{length}
-use borrow.Author.Tests.{not-false, ltb-true, lt-ltb}
+use borrow.Author.Tests.{not-true, not-false, ltb-true, lt-ltb}
 use Rattle.rules.specs.Base.{outside, all, insert}
 use Rattle.rules.specs.Window.{Limits, Window, tieKey, withTies, noChange, noEntry, live, running}
 use Rattle.rules.specs.Locks.{makePermit, addPermit, pairPermitted, clashesPermitted}
@@ -16,13 +16,13 @@ use Rattle.rules.specs.Sound.{tieSound}
 use Rattle.rules.specs.Calls.{Call, Open, Initiate, Begin, Complete, Lock, Read, Write, Permit, Delegate, Depend, Commit, Abort, Status, Parent, Value, Outcome, done, unchanged}
 use Rattle.rules.specs.Effects.{every, entriesNamed, handOver, effect, lockEntry, commitChange, commitGroup, abortChange, abortAll}
 use Rattle.rules.specs.Refusals.{firstFailed, _if_, checks, settle, step}
-use Rattle.rules.proofs.BaseLaws.{and-both, and-left, and-right}
+use Rattle.rules.proofs.BaseLaws.{and-both, and-left, and-right, no-true, allBelow-fails}
 use Rattle.rules.proofs.SaidLaws.{Unrefused, Turned, merge, merged, merged-first, proper, Said, said-next, said-none, AnswerOf, turned}
-use Rattle.rules.proofs.PathLaws.{Arrows, acyclic-paths}
+use Rattle.rules.proofs.PathLaws.{Arrows, cyclic-paths}
 use Rattle.rules.proofs.SortLaws.{all-insert}
 use Rattle.rules.proofs.SoundDelegate.{hand-held}
 use Rattle.rules.proofs.SoundDepend.{make-sound}
-use Rattle.rules.proofs.SoundParts.{Sound, fits-all, fit-locks, ends-below}
+use Rattle.rules.proofs.SoundParts.{Sound, fits-all, ends-below}
 use Rattle.rules.proofs.TellLaws.{Tells, tells-equal, tells-less, tells-most, tells-above, tells-not, tells-or, tells-and, tells-nor, Outside, tells-outside}
 
 -- "A change number is 0 or above the highest given"
@@ -47,10 +47,10 @@ refusals L W (Permit g t e o) =
     ∷ (7, (Live W g → ⊥) ⊎ ((t ≢ 0) × (Live W t → ⊥))) ∷ (11, L .permits < length (addPermit (makePermit g t e o) W.permits)) ∷ []
 refusals L W (Delegate f t e) =
     (3, NoChange W f ⊎ NoChange W t) ∷ (4, (e ≢ 65535) × (W .entries ≤ e)) ∷ (6, f ≡ t) ∷ (7, Live W f × Live W t → ⊥)
-    ∷ (10, ((x a b : ℕ) → pairPermitted (handOver W f t (entriesNamed e)) x a b ≡ true) → ⊥) ∷ []
+    ∷ (10, (x : ℕ) × (a : ℕ) × (b : ℕ) × (pairPermitted (handOver W f t (entriesNamed e)) x a b ≡ false)) ∷ []
 refusals L W (Depend k l f) =
     (3, NoChange W l ⊎ NoChange W f) ∷ (5, Outside 1 3 k) ∷ (6, l ≡ f) ∷ (7, Live W l × Live W f → ⊥)
-    ∷ (9, ((x : ℕ) → Arrows (addTie (makeTie k l f) W.ties) x x → ⊥) → ⊥) ∷ (11, L .ties < length (addTie (makeTie k l f) W.ties)) ∷ []
+    ∷ (9, (x : ℕ) × Arrows (addTie (makeTie k l f) W.ties) x x) ∷ (11, L .ties < length (addTie (makeTie k l f) W.ties)) ∷ []
 refusals L W (Commit c) = (3, NoChange W c) ∷ []
 refusals L W (Abort c) = (3, NoChange W c) ∷ []
 refusals L W (Status c) = (3, NoChange W c) ∷ []
@@ -150,20 +150,22 @@ ruleset tells = (said-next, said-none, tells-equal, tells-less, tells-most, tell
 module _ (L : Limits) (W : Window) (z : Sound L W) where
   -- 10 in words, where both changes are live
   tells-clash : (f t e : ℕ) → not (live W f && live W t) ≡ false
-      → Tells (not (clashesPermitted (handOver W f t (entriesNamed e)))) (((x a b : ℕ) → pairPermitted (handOver W f t (entriesNamed e)) x a b ≡ true) → ⊥)
-  unfolding handOver live
-  tells-clash f t e l = let to = and-right (live W f) (live W t) (not-false _ l) in
-      tells-not _ _ (fits-all (handOver W f t (entriesNamed e)) (hand-held L W f t (entriesNamed e) z to), fit-locks (handOver W f t (entriesNamed e)))
+      → Tells (not (clashesPermitted (handOver W f t (entriesNamed e)))) ((x : ℕ) × (a : ℕ) × (b : ℕ) × (pairPermitted (handOver W f t (entriesNamed e)) x a b ≡ false))
+  unfolding handOver live clashesPermitted
+  tells-clash f t e l = let to = and-right (live W f) (live W t) (not-false _ l) in let X = handOver W f t (entriesNamed e) in (
+    λ h. let x = allBelow-fails W.entries _ (not-true _ h) in let a = allBelow-fails (suc W.given) _ (x .1) in let b = allBelow-fails (suc W.given) _ (a .1) in (x .0, a .0, b .0, b .1),
+    λ m. ap not (no-true _ (λ h. true≢false (sym (fits-all X (hand-held L W f t (entriesNamed e) z to) h (m .0) (m .1) (m .2)) ∙ m .3))),
+  )
 
   -- 9 in words, where the tie is one that could stand
   tells-return : (k l f : ℕ) → outside 1 3 k ≡ false → eqb l f ≡ false → not (live W l && live W f) ≡ false
-      → Tells (not (acyclic (suc W.given) (addTie (makeTie k l f) W.ties))) (((x : ℕ) → Arrows (addTie (makeTie k l f) W.ties) x x → ⊥) → ⊥)
+      → Tells (not (acyclic (suc W.given) (addTie (makeTie k l f) W.ties))) ((x : ℕ) × Arrows (addTie (makeTie k l f) W.ties) x x)
   unfolding addTie withTies live
   tells-return k l f r a h =
       let both = not-false _ h in
       let s = make-sound (live W) k l f r a (and-left (live W l) _ both) (and-right (live W l) _ both) in
       let ts = insert tieKey (λ x y. y) (makeTie k l f) W.ties in
-      tells-not _ _ (acyclic-paths ts (suc W.given) (ends-below (withTies W ts) (all-insert tieKey (λ x y. y) (tieSound (live W)) (makeTie k l f) s (λ y q. q) W.ties (z .ties))))
+      cyclic-paths ts (suc W.given) (ends-below (withTies W ts) (all-insert tieKey (λ x y. y) (tieSound (live W)) (makeTie k l f) s (λ y q. q) W.ties (z .ties)))
 
   said : (c : Call) → Said (merged (checks L W c)) (refusals L W c)
   unfolding merged merge checks _if_ refusals Outside every

@@ -3,6 +3,7 @@ use mathlib.Core.Path.{_≡_, refl, sym, _∙_}
 use mathlib.Core.Logic.{_≢_}
 use mathlib.Core.Bool.{Bool, true, false, cond, _||_, false≢true}
 use Prim.Native.Nat.{ℕ, zero, suc}
+use native.Mathlib.Omega.{arith}
 use lib.Dec.{ltb}
 use Rattle.rules.specs.Base.{exceeds}
 use Rattle.rules.specs.Window.{Limits, Window, fresh}
@@ -60,6 +61,15 @@ quiet-effect W (Value e) = search quiets
 pub quiet : (L : Limits) (W : Window) (c : Call) → Quiet W (step L W c)
 unfolding step
 quiet L W c = quiet-settle W (firstFailed (checks L W c)) (effect W c) (quiet-effect W c)
+
+-- a call answered 0 was not refused
+pub done-unrefused : (L : Limits) (W : Window) (c : Call) → step L W c .answer ≡ 0 → (firstFailed (checks L W c) ≡ 0) × (step L W c ≡ effect W c)
+unfolding step settle unchanged
+done-unrefused L W c = go (firstFailed (checks L W c))
+  where
+    go : (a : ℕ) → settle a W (effect W c) .answer ≡ 0 → (a ≡ 0) × (settle a W (effect W c) ≡ effect W c)
+    go zero e = (refl, refl)
+    go (suc a) e = absurd (omega arith)
 
 -- a call that is an open
 pub is-open : (c : Call) → isOpen c ≡ true → (n : ℕ) × (c ≡ Open n)

@@ -15,6 +15,7 @@ use Rattle.rules.specs.Calls.{Call, Open, Initiate, Begin, Complete, Loc
 use Rattle.rules.specs.Effects.{effect, covers, lockEntry, writeEntry, entriesNamed, commitChange, abortChange, grantable, commitBlockers, commitGroup, abortAll, undo, addRecord}
 use Rattle.rules.specs.Refusals.{Check, firstFailed, _if_, checks, step, settle}
 use Rattle.rules.proofs.BaseLaws.{and-left, and-right, or-none}
+use Rattle.rules.proofs.RuleLaws.{done-unrefused}
 use Rattle.rules.proofs.SetLaws.{reach-to}
 use Rattle.rules.proofs.SoundDelegate.{hand-sound}
 use Rattle.rules.proofs.SoundDepend.{make-sound, depend-sound}
@@ -159,7 +160,8 @@ step-sound L W c a k = settled L W c (effect-sound L W k c a) (λ h. k)
 pub step-keeps : (L : Limits) (W : Window) (c : Call) → fits c ≡ true → sound L W ≡ true → Blank L W → (sound L (step L W c .after) ≡ true) × Blank L (step L W c .after)
 step-keeps L W c a s b = let k = step-sound L W c a (sound-parts L W s b) in (parts-sound L (step L W c .after) k, sound-blank L (step L W c .after) k)
 
-settle-answer : (a : ℕ) (W : Window) (o : Outcome) → 0 < a → settle a W o .answer ≡ a
+-- a refusal is the answer
+pub settle-answer : (a : ℕ) (W : Window) (o : Outcome) → 0 < a → settle a W o .answer ≡ a
 unfolding settle unchanged
 settle-answer zero W o h = absurd (omega arith)
 settle-answer (suc a) W o h = refl
@@ -170,9 +172,5 @@ unfolding step
 opened-sound L W n h = settled L W (Open n) (open-sound L W n) (λ l. absurd (omega (arith, settle-answer (firstFailed (checks L W (Open n))) W (effect W (Open n)) l)))
 
 pub opened-fresh : (L : Limits) (W : Window) (n : ℕ) → step L W (Open n) .answer ≡ 0 → step L W (Open n) .after ≡ fresh n
-unfolding step settle effect done
-opened-fresh L W n h = go (firstFailed (checks L W (Open n))) h
-  where
-    go : (a : ℕ) → settle a W (effect W (Open n)) .answer ≡ 0 → settle a W (effect W (Open n)) .after ≡ fresh n
-    go zero e = refl
-    go (suc a) e = absurd (omega (arith, settle-answer (suc a) W (effect W (Open n)) (omega arith)))
+unfolding effect done
+opened-fresh L W n h = ap (λ o. o .after) (done-unrefused L W (Open n) h .1)

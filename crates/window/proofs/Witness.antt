@@ -1,9 +1,9 @@
 -- `Made` is not empty: it holds of what `perform` gives, for any call on any memory. So `code-kept` speaks of every list of calls. Assumes nothing.
 use mathlib.Core.Path.{_≡_, refl, sym, _∙_, ap}
 use mathlib.Core.Bool.{true, false, false≢true}
-use mathlib.Core.List.{List, [], _∷_, _++_}
+use mathlib.Core.List.{List, [], _∷_}
 use Prim.Native.Nat.{ℕ, zero, suc, _≤_}
-use lib.ListN.{length, drop, take, take-append-drop}
+use lib.ListN.{length}
 use borrow.Author.Tests.{le-leb, le-ltb}
 use contract.Lifetimes.{Lfts}
 use denote.Ref.{RefT}
@@ -14,9 +14,9 @@ use Rattle.rules.specs.Refusals.{checks, firstFailed, settle, step}
 use Rattle.rules.specs.Events.{actionOf, isOpening, isOpen}
 use Rattle.rules.proofs.BaseLaws.{over-false}
 use Rattle.rules.proofs.RuleLaws.{open-is}
-use Rattle.layout.specs.Codec.{windowSize, encode}
+use Rattle.layout.specs.Codec.{windowSize}
 use Rattle.layout.specs.Memory.{soundMemory, long, windowOf, layInto, handBack, perform}
-use Rattle.layout.proofs.MemoryLaws.{bytes-again, sound-front, open-answered, Performed, refused, ruled, begun, kept, performed}
+use Rattle.layout.proofs.MemoryLaws.{memory-again, open-answered, Performed, refused, ruled, begun, kept, performed}
 use Rattle.replies.specs.declared.Reply.{Reply}
 use Rattle.replies.specs.Gives.{Gives}
 use Rattle.window.specs.Seen.{Done}
@@ -36,12 +36,9 @@ module _ (mem : List ℕ) (c : Call) (o : isOpen c ≡ false) (e : (W : Window) 
   perform-leaves : perform mem c .after ≡ mem
   perform-leaves = go (performed mem c)
     where
-      laid : soundMemory mem ≡ true → encode (step limits (windowOf mem) c .after) ++ drop windowSize mem ≡ mem
-      laid h = rw (step-leaves (windowOf mem), bytes-again (take windowSize mem) (sound-front mem h)) (take-append-drop windowSize mem)
-
       go : {r : RuleReply (List ℕ)} → Performed mem c r → r .after ≡ mem
       go refused = unfold handBack in refl
-      go (ruled h) = unfold layInto in laid h
+      go (ruled h) = unfold layInto in rw (step-leaves (windowOf mem)) (memory-again mem h)
       go (begun l i z) = absurd (false≢true (sym o ∙ i))
       go (kept n) = unfold handBack in refl
 
