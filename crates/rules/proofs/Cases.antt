@@ -1,5 +1,5 @@
 -- The starred calls to try and some beside them, each as one list, for tables of any size that have room for them. By computation. Assumes nothing.
--- `SizeLaws` has those in which a largest figure plays a part.
+-- `SizeLaws` has the starred ones in which a largest figure plays a part; the last list, checking-order, is for small tables, so that 11 applies too.
 use mathlib.Core.Path.{_≡_, refl}
 use mathlib.Core.List.{List, [], _∷_, map}
 use Prim.Native.Nat.{ℕ, suc}
@@ -115,8 +115,8 @@ small = record { entries = 2; changes = 3; records = 2; permits = 1; ties = 1 }
 
 -- each refusal of each call, where it can be on arguments to which later ones apply too, and the numbers of the calls that look:
 -- every call with its answer and second number
-abbrev refused : List (Call × ℕ × ℕ)
-refused =
+abbrev tried : List (Call × ℕ × ℕ)
+tried =
     (Open 0, 2, 0) ∷ (Open 3, 2, 0) ∷ (Open 2, 0, 0)
     ∷ (Initiate 1, 3, 0) ∷ (Initiate 0, 0, 1) ∷ (Initiate 1, 7, 0)
     ∷ (Begin 0, 3, 0) ∷ (Begin 2, 3, 0) ∷ (Complete 2, 3, 0) ∷ (Complete 1, 7, 0) ∷ (Begin 1, 0, 0) ∷ (Begin 1, 7, 0) ∷ (Initiate 1, 0, 2)
@@ -139,6 +139,6 @@ refused =
     ∷ (Initiate 1, 7, 0) ∷ (Read 1 1, 7, 0) ∷ (Abort 2, 0, 1) ∷ (Commit 2, 21, 0) ∷ (Abort 2, 0, 0)
     ∷ (Status 1, 0, 4) ∷ (Status 2, 0, 5) ∷ (Status 3, 0, 2) ∷ (Parent 2, 0, 1) ∷ (Value 1, 0, 6) ∷ []
 
-pub checking-order : answers (step small) (fresh 0) (map (λ x. x .0) refused) ≡ map (λ x. (x .1, x .2)) refused
+pub checking-order : answers (step small) (fresh 0) (map (λ x. x .0) tried) ≡ map (λ x. (x .1, x .2)) tried
 unfolding rules
 checking-order = refl

@@ -1,8 +1,8 @@
--- What a delegate moves, in words: on the entries named the giver has no lock and no given permit left, the receiver has the greater lock
--- and what either of the two had permitted, and all others are as before. Assumes nothing.
+-- What a delegate moves, in words: on the entries named the giver has no lock, log record and given permit left, the receiver has the
+-- greater lock, the records and what either of the two had permitted; all else is as before. Assumes nothing.
 use mathlib.Core.Path.{_≡_, refl, sym, _∙_, ap, fun-ext}
 use mathlib.Core.Logic.{_⊎_, _↔_, _≢_}
-use mathlib.Core.Bool.{Bool, true, false, not, cond, _&&_, _||_, or-false, and-false, and-or-distrib-left}
+use mathlib.Core.Bool.{Bool, true, false, not, cond, _&&_, _||_, Bool·beq, false≢true, or-false, and-false, and-or-distrib-left}
 use mathlib.Core.List.{List, map}
 use Prim.Native.Nat.{ℕ, zero, suc, _≤_, max}
 use native.Mathlib.Omega.{arith}
@@ -17,12 +17,16 @@ use Rattle.rules.specs.Calls.{Delegate, done}
 use Rattle.rules.specs.Effects.{every, entriesNamed, moveHeld, movedRecord, moveLog, handOver, effect, permitGiven, permitMoves, permitKept, movedPermit, movePermits}
 use Rattle.rules.specs.Refusals.{checks, firstFailed, _if_, step}
 use Rattle.rules.proofs.BaseLaws.{cond-same, and-both, and-left, eqb-same, Same, same, other, same?, allBelow-at}
-use Rattle.rules.proofs.ListLaws.{any-map, any-kept, any-both, any-false, all-map, all-keep, all-weaken}
+use Rattle.rules.proofs.ListLaws.{any-map, any-kept, any-either, any-false, all-map, all-keep, all-weaken}
 use Rattle.rules.proofs.RuleLaws.{done-unrefused}
 use Rattle.rules.proofs.SortLaws.{any-puts}
 use Rattle.rules.proofs.SoundParts.{Sound, permit-parts, inside-of}
 use Rattle.rules.proofs.SoundStep.{passed, codes}
 use Rattle.rules.proofs.TellLaws.{tells-equal, tells-or}
+
+-- a mode
+abbrev pub Mode : ℕ → Type 0
+Mode m = (1 ≤ m) × (m ≤ 2)
 
 -- a permit for a mode stands, from this giver to this very taker (0: to anybody), on this entry
 unfoldable pub allows : ℕ → ℕ → ℕ → ℕ → PermitRecord → Bool
@@ -32,30 +36,27 @@ unfoldable pub stands : List PermitRecord → ℕ → ℕ → ℕ → ℕ → Bo
 stands ps g t e m = any (allows g t e m) ps
 
 -- OPERATIONS UNITED
--- two tests that come out alike
-alike : Bool → Bool → Bool
-alike true b = b
-alike false b = not b
-
-alike-same : (a b : Bool) → alike a b ≡ true → a ≡ b
-unfolding alike
-alike-same true b e = sym e
-alike-same false b e = sym (not-true b e)
+-- tests that come out alike are equal
+alike : (a b : Bool) → Bool·beq a b ≡ true → a ≡ b
+alike true true e = refl
+alike true false e = absurd (false≢true e)
+alike false true e = absurd (false≢true e)
+alike false false e = refl
 
 -- the united operations contain a mode where either do: for operations from 1 to 3 and modes 1 and 2
 unites : ℕ → ℕ → ℕ → Bool
-unites i j k = alike (contains (cond (contains (suc j) (suc i)) (suc j) 3) (suc k)) (contains (suc i) (suc k) || contains (suc j) (suc k))
+unites i j k = Bool·beq (contains (cond (contains (suc j) (suc i)) (suc j) 3) (suc k)) (contains (suc i) (suc k) || contains (suc j) (suc k))
 
 united-table : allBelow 3 (λ i. allBelow 3 (λ j. allBelow 2 (unites i j))) ≡ true
-unfolding unites alike allBelow contains
+unfolding unites allBelow contains
 united-table = refl
 
-united : (a b m : ℕ) → (1 ≤ a) × (a ≤ 3) → (1 ≤ b) × (b ≤ 3) → (1 ≤ m) × (m ≤ 2) → contains (cond (contains b a) b 3) m ≡ contains a m || contains b m
+united : (a b m : ℕ) → (1 ≤ a) × (a ≤ 3) → (1 ≤ b) × (b ≤ 3) → Mode m → contains (cond (contains b a) b 3) m ≡ contains a m || contains b m
 unfolding unites
 united zero b m x y z = absurd (omega (arith, x .0))
 united (suc i) zero m x y z = absurd (omega (arith, y .0))
 united (suc i) (suc j) zero x y z = absurd (omega (arith, z .0))
-united (suc i) (suc j) (suc k) x y z = alike-same _ _ (allBelow-at 2 _ (allBelow-at 3 _ (allBelow-at 3 _ united-table i (omega (arith, x .1))) j (omega (arith, y .1))) k (omega (arith, z .1)))
+united (suc i) (suc j) (suc k) x y z = alike _ _ (allBelow-at 2 _ (allBelow-at 3 _ (allBelow-at 3 _ united-table i (omega (arith, x .1))) j (omega (arith, y .1))) k (omega (arith, z .1)))
 
 -- operations from 1 to 3
 operations : PermitRecord → Bool
@@ -66,7 +67,7 @@ unfolding operations
 operations-of p h = inside-of 1 3 p.ops (not-true _ h)
 
 -- WHAT STANDS AFTER
-module _ (g t e m : ℕ) (mode : (1 ≤ m) × (m ≤ 2)) where
+module _ (g t e m : ℕ) (mode : Mode m) where
   -- two permits of one key, united
   allows-united : (p q : PermitRecord) → operations p ≡ true → operations q ≡ true → permitKey p ≡ permitKey q → allows g t e m (unitePermits p q) ≡ allows g t e m p || allows g t e m q
   unfolding allows unitePermits permitKey
@@ -83,34 +84,11 @@ not-given : (g t e m : ℕ) (p : PermitRecord) → p .giver ≢ g → allows g t
 unfolding allows
 not-given g t e m p n = rw (ne-eqb p.giver g n)
 
--- a delegate of the entries `on`, of permits whose operations are from 1 to 3
-module _ (from to : ℕ) (on : Set) (ps : List PermitRecord) (known : all operations ps ≡ true) where
+-- a delegate of the entries `on`
+module _ (from to : ℕ) (on : Set) where
   -- what becomes of one permit
   becomes : ℕ → ℕ → ℕ → ℕ → PermitRecord → Bool
   becomes g t e m p = permitMoves from to on p && allows g t e m (movedPermit to p) || permitKept from on p && allows g t e m p
-
-  moved-known : (p : PermitRecord) → operations p ≡ true → permitMoves from to on p ≡ true → operations (movedPermit to p) ≡ true
-  unfolding operations movedPermit
-  moved-known p h q = h
-
-  unite-known : (p q : PermitRecord) → operations q ≡ true → operations (unitePermits p q) ≡ true
-  unfolding operations unitePermits outside
-  unite-known p q h = go (contains q.ops p.ops)
-    where
-      go : (b : Bool) → not (outside 1 3 (cond b q.ops 3)) ≡ true
-      go true = h
-      go false = refl
-
-  after : (g t e m : ℕ) → (1 ≤ m) × (m ≤ 2) → (r : PermitRecord → Bool) → ((p : PermitRecord) → becomes g t e m p ≡ r p) → stands (movePermits from to on ps) g t e m ≡ any r ps
-  unfolding stands movePermits addPermit becomes
-  after g t e m mode r h =
-      any-puts permitKey unitePermits (allows g t e m) operations (allows-united g t e m mode) unite-known (map (movedPermit to) (keep (permitMoves from to on) ps)) (keep (permitKept from on) ps)
-      (all-map operations (λ p. operations (movedPermit to p)) (movedPermit to) (λ p q. q) _ (all-keep operations (permitMoves from to on) _ moved-known ps known))
-      (all-keep operations (permitKept from on) operations (λ p a b. a) ps known)
-      ∙ ap (λ b. b || any (allows g t e m) (keep (permitKept from on) ps)) (any-map (allows g t e m) (movedPermit to) _ ∙ any-kept _ (permitMoves from to on) ps)
-      ∙ ap (λ b. any (λ p. permitMoves from to on p && allows g t e m (movedPermit to p)) ps || b) (any-kept (allows g t e m) (permitKept from on) ps)
-      ∙ any-both _ _ ps
-      ∙ ap (λ f. any f ps) (fun-ext h)
 
   -- it moves, unless to itself, where it is one of those handed over; else it stays
   becomes-is : (g t e m : ℕ) (p : PermitRecord) (b : Bool) → permitGiven from on p ≡ b → becomes g t e m p ≡ cond b (not (eqb p.taker to) && allows g t e m (movedPermit to p)) (allows g t e m p)
@@ -121,9 +99,9 @@ module _ (from to : ℕ) (on : Set) (ps : List PermitRecord) (known : all operat
       go true x y z = or-false (x && y)
       go false x y z = refl
 
-  handed : (p : PermitRecord) → p .giver ≡ from → on p.entry ≡ true → permitGiven from on p ≡ true
+  given-there : (p : PermitRecord) → p .giver ≡ from → on p.entry ≡ true → permitGiven from on p ≡ true
   unfolding permitGiven
-  handed p j o = and-both (eqb p.giver from) _ (eq-eqb p.giver from j) o
+  given-there p j o = and-both (eqb p.giver from) _ (eq-eqb p.giver from j) o
 
   giver-of : (p : PermitRecord) → permitGiven from on p ≡ true → p .giver ≡ from
   unfolding permitGiven
@@ -133,9 +111,9 @@ module _ (from to : ℕ) (on : Set) (ps : List PermitRecord) (known : all operat
   unfolding permitGiven
   of-another p n = rw (ne-eqb p.giver from n)
 
-  elsewhere : (p : PermitRecord) → on p.entry ≡ false → permitGiven from on p ≡ false
+  given-elsewhere : (p : PermitRecord) → on p.entry ≡ false → permitGiven from on p ≡ false
   unfolding permitGiven
-  elsewhere p o = rw o (and-false (eqb p.giver from))
+  given-elsewhere p o = rw o (and-false (eqb p.giver from))
 
   -- on another entry than e it says nothing of e
   silent : (g t e m : ℕ) (p : PermitRecord) → p .entry ≢ e → becomes g t e m p ≡ false
@@ -166,7 +144,7 @@ module _ (from to : ℕ) (on : Set) (ps : List PermitRecord) (known : all operat
     where
       go : {x y : Bool} → Same p.entry e x → Same p.giver from y → becomes from t e m p ≡ false
       go (other n) y = silent from t e m p n
-      go (same i) (same j) = becomes-is from t e m p true (handed p j (ap on i ∙ o)) ∙ not-theirs from t e m p apart
+      go (same i) (same j) = becomes-is from t e m p true (given-there p j (ap on i ∙ o)) ∙ not-theirs from t e m p apart
       go (same i) (other n) = becomes-is from t e m p false (of-another p n) ∙ not-given from t e m p n
 
   all-moved : (t e m : ℕ) → from ≢ to → t ≢ to → on e ≡ true → (p : PermitRecord) → becomes to t e m p ≡ allows from t e m p || allows to t e m p
@@ -174,7 +152,7 @@ module _ (from to : ℕ) (on : Set) (ps : List PermitRecord) (known : all operat
     where
       go : {x y : Bool} → Same p.entry e x → Same p.giver from y → becomes to t e m p ≡ allows from t e m p || allows to t e m p
       go (other k) y = rw (silent to t e m p k, not-here from t e m p k, not-here to t e m p k)
-      go (same i) (same j) = becomes-is to t e m p true (handed p j (ap on i ∙ o)) ∙ now-theirs t e m p j n
+      go (same i) (same j) = becomes-is to t e m p true (given-there p j (ap on i ∙ o)) ∙ now-theirs t e m p j n
           ∙ sym (ap (λ x. allows from t e m p || x) (not-given to t e m p (λ q. apart (sym j ∙ q))) ∙ or-false (allows from t e m p))
       go (same i) (other k) = becomes-is to t e m p false (of-another p k) ∙ sym (ap (λ x. x || allows to t e m p) (not-given from t e m p k))
 
@@ -203,13 +181,34 @@ module _ (from to : ℕ) (on : Set) (ps : List PermitRecord) (known : all operat
     where
       go : {x : Bool} → Same p.entry e x → becomes g t e m p ≡ allows g t e m p
       go (other n) = silent g t e m p n ∙ sym (not-here g t e m p n)
-      go (same i) = becomes-is g t e m p false (elsewhere p (ap on i ∙ o))
+      go (same i) = becomes-is g t e m p false (given-elsewhere p (ap on i ∙ o))
+
+  -- what stands after it, of permits whose operations are from 1 to 3
+  module _ (ps : List PermitRecord) (known : all operations ps ≡ true) where
+    moved-known : (p : PermitRecord) → operations p ≡ true → permitMoves from to on p ≡ true → operations (movedPermit to p) ≡ true
+    unfolding operations movedPermit
+    moved-known p h q = h
+
+    unite-known : (p q : PermitRecord) → operations q ≡ true → operations (unitePermits p q) ≡ true
+    unfolding operations unitePermits outside
+    unite-known p q h = go (contains q.ops p.ops)
+      where
+        go : (b : Bool) → not (outside 1 3 (cond b q.ops 3)) ≡ true
+        go true = h
+        go false = refl
+
+    stands-after : (g t e m : ℕ) → Mode m → (r : PermitRecord → Bool) → ((p : PermitRecord) → becomes g t e m p ≡ r p) → stands (movePermits from to on ps) g t e m ≡ any r ps
+    unfolding stands movePermits addPermit becomes
+    stands-after g t e m mode r h =
+        any-puts permitKey unitePermits (allows g t e m) operations (allows-united g t e m mode) unite-known (map (movedPermit to) (keep (permitMoves from to on) ps)) (keep (permitKept from on) ps)
+        (all-map operations (λ p. operations (movedPermit to p)) (movedPermit to) (λ p q. q) _ (all-keep operations (permitMoves from to on) _ moved-known ps known))
+        (all-keep operations (permitKept from on) operations (λ p a b. a) ps known)
+        ∙ ap (λ b. b || any (allows g t e m) (keep (permitKept from on) ps)) (any-map (allows g t e m) (movedPermit to) _ ∙ any-kept _ (permitMoves from to on) ps)
+        ∙ ap (λ b. any (λ p. permitMoves from to on p && allows g t e m (movedPermit to p)) ps || b) (any-kept (allows g t e m) (permitKept from on) ps)
+        ∙ any-either _ _ ps
+        ∙ ap (λ f. any f ps) (fun-ext h)
 
 -- IN WORDS
--- a mode
-abbrev pub Mode : ℕ → Type 0
-Mode m = (1 ≤ m) × (m ≤ 2)
-
 -- W before and X after the permits that *from* has given on the entries `on` became those of *to*
 pub record PermitsMoved (W X : Window) (from to : ℕ) (on : Set) : Type 0 where
   -- who hands over has none left there
@@ -225,11 +224,11 @@ pub record PermitsMoved (W X : Window) (from to : ℕ) (on : Set) : Type 0 where
 moves-permits : (W X : Window) (from to : ℕ) (on : Set) → X .permits ≡ movePermits from to on W.permits → all operations W.permits ≡ true → from ≢ to → PermitsMoved W X from to on
 unfolding stands
 moves-permits W X from to on e known apart = rw e (record {
-  giver = λ k e m w o. after from to on W.permits known from k e m w _ (none-left from to on W.permits known k e m apart o) ∙ any-false W.permits;
-  receiver = λ k e m w o n. after from to on W.permits known to k e m w _ (all-moved from to on W.permits known k e m apart n o) ∙ sym (any-both _ _ W.permits);
-  itself = λ e m w. after from to on W.permits known to to e m w _ (none-itself from to on W.permits known e m apart);
-  others = λ g k e m w f n. after from to on W.permits known g k e m w _ (others-stay from to on W.permits known g k e m f n);
-  elsewhere = λ g k e m w o. after from to on W.permits known g k e m w _ (elsewhere-stay from to on W.permits known g k e m o);
+  giver = λ k e m w o. stands-after from to on W.permits known from k e m w _ (none-left from to on k e m apart o) ∙ any-false W.permits;
+  receiver = λ k e m w o n. stands-after from to on W.permits known to k e m w _ (all-moved from to on k e m apart n o) ∙ sym (any-either _ _ W.permits);
+  itself = λ e m w. stands-after from to on W.permits known to to e m w _ (none-itself from to on e m apart);
+  others = λ g k e m w f n. stands-after from to on W.permits known g k e m w _ (others-stay from to on g k e m f n);
+  elsewhere = λ g k e m w o. stands-after from to on W.permits known g k e m w _ (elsewhere-stay from to on g k e m o);
 })
 
 -- the entries that it names: one, or "65,535 is every entry"

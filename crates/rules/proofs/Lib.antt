@@ -34,7 +34,7 @@ pub mod TellLaws
 pub mod SaidLaws
 pub mod RefusalLaws
 pub mod RefusalWords
--- demand 2 in words of the window: the second numbers, and what a delegate does to permits
+-- demand 2 in words of the window: the second numbers, and what a delegate moves
 pub mod Numbers
 pub mod DelegateLaws
 -- demand 3 of the rules (Demand.rules-kept); DemandAlike carries it to whatever answers alike

@@ -12,15 +12,6 @@ use Rattle.rules.specs.Base.{exceeds, all, any, keep, table}
 use Rattle.rules.proofs.BaseLaws.{or-left, or-right, or-cases, or-swap, and-both, and-left, and-right, never, over-less}
 
 module _ {ℓ} {A : Type ℓ} where
-  pub any-keep : (p q : A → Bool) (l : List A) → any p (keep q l) ≡ true → any p l ≡ true
-  unfolding any keep
-  any-keep p q [] e = e
-  any-keep p q (x ∷ l) e = go (q x) e (any-keep p q l)
-    where
-      go : (b : Bool) → any p (cond b (x ∷ keep q l) (keep q l)) ≡ true → (any p (keep q l) ≡ true → any p l ≡ true) → p x || any p l ≡ true
-      go true e′ ih = ⊎-elim (λ a. or-left (p x) (any p l) a) (λ a. or-right (p x) (any p l) (ih a)) (or-cases (p x) (any p (keep q l)) e′)
-      go false e′ ih = or-right (p x) (any p l) (ih e′)
-
   -- what holds of all, and what holds of those that are kept because they are
   pub all-keep : (p q r : A → Bool) → ((x : A) → p x ≡ true → q x ≡ true → r x ≡ true) → (l : List A) → all p l ≡ true → all r (keep q l) ≡ true
   unfolding all keep
@@ -168,10 +159,13 @@ any-kept f q (x ∷ l) = go (q x) (any-kept f q l)
     go true e = ap (λ b. f x || b) e
     go false e = e
 
-pub any-both {ℓ} : {A : Type ℓ} (f h : A → Bool) (l : List A) → any f l || any h l ≡ any (λ x. f x || h x) l
+pub any-keep {ℓ} : {A : Type ℓ} (p q : A → Bool) (l : List A) → any p (keep q l) ≡ true → any p l ≡ true
+any-keep p q l e = any-weaken (λ x. q x && p x) p (λ x. and-right (q x) (p x)) l (rw (any-kept p q l) at e)
+
+pub any-either {ℓ} : {A : Type ℓ} (f h : A → Bool) (l : List A) → any f l || any h l ≡ any (λ x. f x || h x) l
 unfolding any
-any-both f h [] = refl
-any-both f h (x ∷ l) = or-swap (f x) (any f l) (h x) (any h l) ∙ ap (λ b. (f x || h x) || b) (any-both f h l)
+any-either f h [] = refl
+any-either f h (x ∷ l) = or-swap (f x) (any f l) (h x) (any h l) ∙ ap (λ b. (f x || h x) || b) (any-either f h l)
 
 pub any-false {ℓ} : {A : Type ℓ} (l : List A) → any (λ x. false) l ≡ false
 unfolding any

@@ -1,5 +1,5 @@
 -- Demand 2 of the second numbers, in words of the window: which changes a commit ends, how many an end has ended, who is in the way of a
--- commit, and what the calls that look at the window say. Assumes nothing.
+-- commit, which number a new change gets, what the calls that look at the window say, and whose number is always 0. Assumes nothing.
 use mathlib.Core.Path.{_≡_, refl, sym, _∙_, ap}
 use mathlib.Core.Logic.{_⊎_, ⊎-elim, _≢_}
 use mathlib.Core.Bool.{Bool, true, false, not, cond, _&&_, false≢true}
@@ -146,7 +146,7 @@ blocked-number L W c e =
     (rw k (way-of W c (lowestBelow n s) (lowest-hit s n (b .0) .1)), λ d h w. false≢true (sym (lowest-below s n d (rw k at h)) ∙ of-way W c d w))
 
 -- WHAT THE OTHER CALLS SAY
--- a new change: the number after the highest given, initiated, with its parent; everybody else is as before
+-- a new change: the number after the highest given, initiated, with its parent; the status and parent of everybody else are as before
 pub record Added (W X : Window) (n p : ℕ) : Type 0 where
   pub next : n ≡ suc W.given
   pub given : X .given ≡ n

@@ -166,7 +166,7 @@ module _ (ts : List TieRecord) where
     unfolding acyclic
     cyclic-paths = (
       λ h. let m = all-fails _ ts (not-true _ h) in let t = m .0 in let o = or-none (not (isArrow t.kind)) _ (m .2) in
-      (t .leader, further (one (record { leader = t .leader; follower = t .follower; leaves = stay; tie = stands-tied isArrow (m .1) (not-false _ (o .0)); enters = stay })) (reach-ways n (leading ts) leading-bounded t.follower t.leader .0 (not-false _ (o .1)))),
+          (t .leader, further (one (record { leader = t .leader; follower = t .follower; leaves = stay; tie = stands-tied isArrow (m .1) (not-false _ (o .0)); enters = stay })) (reach-ways n (leading ts) leading-bounded t.follower t.leader .0 (not-false _ (o .1)))),
       λ m. ap not (no-true _ (λ h. acyclic-paths .0 h (m .0) (m .1))),
     )
 

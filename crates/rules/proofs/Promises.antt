@@ -88,6 +88,14 @@ module _ (L : Limits) (W : Window) (z : Sound L W) (c e m : ℕ) (passed : first
     λ f. lock-answer ∙ of-zero (grantable W c e m) (unblocked f),
   )
 
+-- the leader of an arrow to a member blocks a commit
+pub leader-blocks : (W : Window) (g : Set) (d f : ℕ) → g f ≡ true → tied W.ties isArrow d f ≡ true → commitBlockers W g d ≡ true
+unfolding commitBlockers leadersOf leadsTo tied
+leader-blocks W g d f h e = or-right (g d && not (eqb (W .status d) 3)) _ (any-weaken _ (λ t. isArrow t.kind && eqb t.leader d && g t.follower) one W.ties e)
+  where
+    one : (t : TieRecord) → isArrow t.kind && eqb t.leader d && eqb t.follower f ≡ true → isArrow t.kind && eqb t.leader d && g t.follower ≡ true
+    one t q = let k = isArrow t.kind && eqb t.leader d in and-both k _ (and-left k _ q) (rw (eqb-true t.follower f (and-right k _ q)) h)
+
 -- who blocks a commit: a member that is not completed, or the leader of an arrow to a member
 pub blocks : (W : Window) (g : Set) (d : ℕ) → commitBlockers W g d ≡ true → ((g d ≡ true) × (W .status d ≢ 3)) ⊎ ((f : ℕ) × (tied W.ties isArrow d f ≡ true) × (g f ≡ true))
 unfolding commitBlockers leadersOf leadsTo
@@ -96,14 +104,6 @@ blocks W g d e = ⊎-elim (λ q. inl (and-left (g d) _ q, eqb-false (W .status d
     led : any (λ t. isArrow t.kind && eqb t.leader d && g t.follower) W.ties ≡ true → (f : ℕ) × (tied W.ties isArrow d f ≡ true) × (g f ≡ true)
     led q = let m = any-find _ W.ties q in let t = m .0 in let u = and-left (isArrow t.kind && eqb t.leader d) (g t.follower) (m .2) in
         (t .follower, rw (eqb-true t.leader d (and-right (isArrow t.kind) (eqb t.leader d) u)) at (stands-tied isArrow (m .1) (and-left (isArrow t.kind) (eqb t.leader d) u)), and-right (isArrow t.kind && eqb t.leader d) (g t.follower) (m .2))
-
--- such a leader does
-pub leader-blocks : (W : Window) (g : Set) (d f : ℕ) → g f ≡ true → tied W.ties isArrow d f ≡ true → commitBlockers W g d ≡ true
-unfolding commitBlockers leadersOf leadsTo tied
-leader-blocks W g d f h e = or-right (g d && not (eqb (W .status d) 3)) _ (any-weaken _ (λ t. isArrow t.kind && eqb t.leader d && g t.follower) one W.ties e)
-  where
-    one : (t : TieRecord) → isArrow t.kind && eqb t.leader d && eqb t.follower f ≡ true → isArrow t.kind && eqb t.leader d && g t.follower ≡ true
-    one t q = let k = isArrow t.kind && eqb t.leader d in and-both k _ (and-left k _ q) (rw (eqb-true t.follower f (and-right k _ q)) h)
 
 -- "a change commits exactly when its whole group is completed and none of them has a live leader to wait for or fall with"
 module _ (L : Limits) (W : Window) (z : Sound L W) (c : ℕ) (lc : live W c ≡ true) where

@@ -60,9 +60,9 @@ first-lowest (k ∷ l) n r a = go (k .fails) refl (or-cases (eqb k.code n && k.f
     go false e (inr p) ih = (or-right (eqb k.code (firstFailed l) && k.fails) _ (ih p .0), ih p .1)
 
 -- a refusal that applies has a number
-numbered : (l : List Check) (n : ℕ) → all (λ k. ltb 0 k.code) l ≡ true → applies l n ≡ true → 0 < n
+code-above : (l : List Check) (n : ℕ) → all (λ k. ltb 0 k.code) l ≡ true → applies l n ≡ true → 0 < n
 unfolding applies
-numbered l n c a = let m = find _ _ l a c in omega (arith, eqb-true (m .0 .code) n (and-left (eqb (m .0 .code) n) _ (m .1)), ltb-true 0 (m .0 .code) (m .2))
+code-above l n c a = let m = find _ _ l a c in omega (arith, eqb-true (m .0 .code) n (and-left (eqb (m .0 .code) n) _ (m .1)), ltb-true 0 (m .0 .code) (m .2))
 
 -- demand 1: a call to which a refusal applies is answered with one that applies, and with none that is higher
 pub refused-lowest : (L : Limits) (W : Window) (c : Call) (n : ℕ) → applies (checks L W c) n ≡ true
@@ -71,7 +71,7 @@ unfolding step
 refused-lowest L W c n a =
     let l = checks L W c in
     let m = first-lowest l n (never-fall L W c) a in
-    let e = settle-answer (firstFailed l) W (effect W c) (numbered l (firstFailed l) (codes L W c) (m .0)) in
+    let e = settle-answer (firstFailed l) W (effect W c) (code-above l (firstFailed l) (codes L W c) (m .0)) in
     rw e m
 
 -- none applies: none fails

@@ -17,7 +17,7 @@ use Rattle.rules.specs.Calls.{Call, Open, Initiate, Begin, Complete, Loc
 use Rattle.rules.specs.Effects.{every, entriesNamed, handOver, effect, lockEntry, commitChange, commitGroup, abortChange, abortAll}
 use Rattle.rules.specs.Refusals.{firstFailed, _if_, checks, settle, step}
 use Rattle.rules.proofs.BaseLaws.{and-both, and-left, and-right, no-true, allBelow-fails}
-use Rattle.rules.proofs.SaidLaws.{Unrefused, Turned, merge, merged, merged-first, proper, Said, said-next, said-none, AnswerOf, turned}
+use Rattle.rules.proofs.SaidLaws.{NoRefusal, Turned, merge, merged, merged-first, proper, Said, said-next, said-none, AnswerOf, turned}
 use Rattle.rules.proofs.PathLaws.{Arrows, cyclic-paths}
 use Rattle.rules.proofs.SortLaws.{all-insert}
 use Rattle.rules.proofs.SoundDelegate.{hand-held}
@@ -26,14 +26,14 @@ use Rattle.rules.proofs.SoundParts.{Sound, fits-all, ends-below}
 use Rattle.rules.proofs.TellLaws.{Tells, tells-equal, tells-less, tells-most, tells-above, tells-not, tells-or, tells-and, tells-nor, Outside, tells-outside}
 
 -- "A change number is 0 or above the highest given"
-pub NoChange : Window → ℕ → Type 0
+unfoldable pub NoChange : Window → ℕ → Type 0
 NoChange W c = (c ≡ 0) ⊎ (W .given < c)
 
 -- a change that was given, with a status from 1 to 3
-pub Live : Window → ℕ → Type 0
+unfoldable pub Live : Window → ℕ → Type 0
 Live W c = (c ≤ W .given) × (1 ≤ W .status c) × (W .status c ≤ 3)
 
--- the refusals of each call, in checking order
+-- the refusals of each call, in checking order; 11 by the length of the table with the record in its place
 unfoldable pub refusals : Limits → Window → Call → List (ℕ × Type 0)
 refusals L W (Open n) = (2, Outside 1 (L .entries) n) ∷ []
 refusals L W (Initiate p) = (3, W .given < p) ∷ (7, (p ≢ 0) × (W .status p ≢ 2)) ∷ (11, L .changes < suc (W .given)) ∷ []
@@ -85,25 +85,25 @@ tells-live W c = (to, from)
     from (a, b, d) = and-both (ltb c (suc W.given)) _ (lt-ltb c (suc W.given) (omega arith)) (within .1 (λ h. omega arith, λ h. omega arith))
 
 -- a call that is not refused is answered 0, 20 or 21
-pass-cond : (b : Bool) (x y : Outcome) → Unrefused (x .answer) → Unrefused (y .answer) → Unrefused (cond b x y .answer)
+pass-cond : (b : Bool) (x y : Outcome) → NoRefusal (x .answer) → NoRefusal (y .answer) → NoRefusal (cond b x y .answer)
 pass-cond true x y p q = p
 pass-cond false x y p q = q
 
-pass-done : (k : ℕ) (X : Window) → Unrefused (done k X .answer)
+pass-done : (k : ℕ) (X : Window) → NoRefusal (done k X .answer)
 unfolding done
 pass-done k X = inl refl
 
-pass-blocked : (k : ℕ) (W : Window) → Unrefused (unchanged 20 k W .answer)
+pass-blocked : (k : ℕ) (W : Window) → NoRefusal (unchanged 20 k W .answer)
 unfolding unchanged
 pass-blocked k W = inr (inl refl)
 
-pass-ended : (W : Window) → Unrefused (unchanged 21 0 W .answer)
+pass-ended : (W : Window) → NoRefusal (unchanged 21 0 W .answer)
 unfolding unchanged
 pass-ended W = inr (inr refl)
 
 ruleset passes = (pass-cond, pass-done, pass-blocked, pass-ended)
 
-effect-answer : (W : Window) (c : Call) → Unrefused (effect W c .answer)
+effect-answer : (W : Window) (c : Call) → NoRefusal (effect W c .answer)
 unfolding effect lockEntry commitChange commitGroup abortChange abortAll
 effect-answer W (Open n) = search passes
 effect-answer W (Initiate p) = search passes
@@ -121,10 +121,10 @@ effect-answer W (Status c) = search passes
 effect-answer W (Parent c) = search passes
 effect-answer W (Value e) = search passes
 
-settle-answer : (f : ℕ) (W : Window) (o : Outcome) → Unrefused (o .answer) → AnswerOf f (settle f W o .answer)
+answer-settled : (f : ℕ) (W : Window) (o : Outcome) → NoRefusal (o .answer) → AnswerOf f (settle f W o .answer)
 unfolding settle unchanged AnswerOf
-settle-answer zero W o h = h
-settle-answer (suc f) W o h = refl
+answer-settled zero W o h = h
+answer-settled (suc f) W o h = refl
 
 -- CALL BY CALL
 call-proper : (L : Limits) (W : Window) (c : Call) → proper (merged (checks L W c)) ≡ true
@@ -189,4 +189,4 @@ module _ (L : Limits) (W : Window) (z : Sound L W) where
   pub call-refused : (c : Call) → Turned (step L W c .answer) (refusals L W c)
   unfolding step
   call-refused c = turned _ (merged (checks L W c)) (refusals L W c) (call-proper L W c) (said c)
-      (rw (merged-first (checks L W c)) (settle-answer (firstFailed (checks L W c)) W (effect W c) (effect-answer W c)))
+      (rw (merged-first (checks L W c)) (answer-settled (firstFailed (checks L W c)) W (effect W c) (effect-answer W c)))

@@ -13,13 +13,13 @@ use Rattle.rules.proofs.BaseLaws.{and-left, and-right, and-four}
 use Rattle.rules.proofs.TellLaws.{Tells}
 
 -- an answer that is no refusal's number
-abbrev pub Unrefused : ℕ → Type 0
-Unrefused a = (a ≡ 0) ⊎ ((a ≡ 20) ⊎ (a ≡ 21))
+abbrev pub NoRefusal : ℕ → Type 0
+NoRefusal a = (a ≡ 0) ⊎ ((a ≡ 20) ⊎ (a ≡ 21))
 
 -- an answer and refusals in checking order, each a number and what it says: the answer is that number exactly when what it says holds;
 -- where that does not hold, those after it decide
 unfoldable pub Turned : ℕ → List (ℕ × Type 0) → Type 0
-Turned a [] = Unrefused a
+Turned a [] = NoRefusal a
 Turned a (r ∷ l) = (a ≡ r .0 ↔ r .1) × ((r .1 → ⊥) → Turned a l)
 
 -- neighbours of one number as one check
@@ -64,7 +64,7 @@ Said (k ∷ l) (r ∷ w) = (k .code ≡ r .0) × (Tells (k .fails) (r .1)) × (k
 
 -- the answer of a call whose first refusal is f, 0 if there is none
 unfoldable pub AnswerOf : ℕ → ℕ → Type 0
-AnswerOf zero a = Unrefused a
+AnswerOf zero a = NoRefusal a
 AnswerOf (suc f) a = a ≡ suc f
 
 -- a number that no check has is not the first
