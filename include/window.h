@@ -8,8 +8,8 @@
  * Entries are numbered from 0, changes from 1.
  *
  * Answers. Every call can answer WINDOW_DONE and WINDOW_NOT_SOUND; 'Answers' lists the others. Where several apply, the
- * lowest is given. A call answered otherwise than WINDOW_DONE has changed no byte. The compiler warns where an answer
- * is ignored.
+ * lowest is given. A call answered otherwise than WINDOW_DONE has changed no byte. A compiler that can warns where an
+ * answer is ignored (WINDOW_MUST_USE).
  *
  * WINDOW_NOT_SOUND means that the memory is shorter than a window, was never opened, was written over by somebody else,
  * or that a call on it was cut short. Go back to a copy, or open the window anew.
@@ -18,8 +18,8 @@
  * little-endian on every machine: between two calls it may be copied, saved, mapped or moved to another machine.
  *
  * Copies. A process that is killed inside a call may leave memory that is not sound, or a sound window that holds only
- * a part of the call's work. Who has to go on after that keeps a copy, the WINDOW_SIZE bytes as they were between two
- * calls, and goes back to it whatever the next call would answer.
+ * a part of the call's work. A program that has to go on after that keeps a copy, the WINDOW_SIZE bytes as they were
+ * between two calls, and goes back to it whatever the next call would answer.
  *
  * Threads. Calls on different windows may run at once. Calls on one window must not overlap, but for read, status,
  * parent and value: they only read, and may run at once with each other.
@@ -53,7 +53,7 @@ extern "C" {
 #define WINDOW_MOST_PERMITS 1024
 #define WINDOW_MOST_TIES 512
 
-/* On every call: the compiler warns where its answer is ignored. */
+/* On every call: gcc, clang and C++17 compilers warn where its answer is ignored. */
 #if defined(__cplusplus) && __cplusplus >= 201703L
 #define WINDOW_MUST_USE [[nodiscard]]
 #elif defined(__GNUC__)
@@ -133,7 +133,7 @@ WINDOW_MUST_USE window_reply window_initiate(uint8_t *window, size_t length, uin
 WINDOW_MUST_USE window_reply window_begin(uint8_t *window, size_t length, uint32_t change);
 
 /*
- * The change has done its work and may be committed.
+ * The change has done its work and may be committed; it locks, reads and writes no more.
  *   change  a running change
  * Answers: WINDOW_NO_CHANGE, WINDOW_BAD_STATUS.
  */
@@ -183,13 +183,13 @@ WINDOW_MUST_USE window_reply window_permit(uint8_t *window, size_t length, uint3
                                            uint32_t entry, uint32_t operations);
 
 /*
- * Hands over log records, locks and given permits. A lock meets one that `to` holds as the greater; permits that `from`
- * was given stay; one that `to` would give to itself is dropped.
+ * Hands over log records, locks and given permits. Where `to` holds a lock on the entry already, it then has the
+ * greater of the two. Permits that `from` was given stay; one that `to` would give to itself is dropped.
  *   from   the live change that hands over
  *   to     the live change that receives
  *   entry  the entry handed over, or WINDOW_EVERY_ENTRY
  * Answers: WINDOW_NO_CHANGE, WINDOW_NO_ENTRY, WINDOW_SAME_CHANGE, WINDOW_BAD_STATUS (one of the two has ended),
- * WINDOW_CLASH (two locks would then clash without a permit of one holder to the other or to anybody).
+ * WINDOW_CLASH (two locks would then clash, and neither holder has permitted the other's mode to it or to anybody).
  */
 WINDOW_MUST_USE window_reply window_delegate(uint8_t *window, size_t length, uint32_t from, uint32_t to,
                                              uint32_t entry);
@@ -216,8 +216,9 @@ WINDOW_MUST_USE window_reply window_depend(uint8_t *window, size_t length, uint3
 WINDOW_MUST_USE window_reply window_commit(uint8_t *window, size_t length, uint32_t change);
 
 /*
- * Aborts the change with its group and all that fall ties lead to, step by step, and undoes their writes; number: how
- * many changes this call ended, 0 where the change was aborted before.
+ * Aborts the change with its group and all that fall ties lead to, step by step, and undoes the writes whose log
+ * records they have: their own that they have not handed over, and those handed over to them; number: how many changes
+ * this call ended, 0 where the change was aborted before.
  *   change  the change to abort
  * Answers: WINDOW_NO_CHANGE, WINDOW_ENDED (the change was committed).
  */

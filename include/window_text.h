@@ -9,7 +9,7 @@ extern "C" {
 #endif
 
 /*
- * The words of enum window_answer (window.h) for an answer; "no answer of a window" for any other number.
+ * The words of enum window_answer (window.h), up to a parenthesis; "no answer of a window" for any other number.
  * The text is constant: never NULL, and not to be freed.
  */
 const char *window_answer_text(uint32_t answer);
