@@ -189,7 +189,8 @@ WINDOW_MUST_USE window_reply window_permit(uint8_t *window, size_t length, uint3
  *   to     the live change that receives
  *   entry  the entry handed over, or WINDOW_EVERY_ENTRY
  * Answers: WINDOW_NO_CHANGE, WINDOW_NO_ENTRY, WINDOW_SAME_CHANGE, WINDOW_BAD_STATUS (one of the two has ended),
- * WINDOW_CLASH (two locks would then clash, and neither holder has permitted the other's mode to it or to anybody).
+ * WINDOW_CLASH (after the hand-over two locks would clash, and no permit of either holder to the other or to anybody,
+ * those handed over among them, would contain the other's mode).
  */
 WINDOW_MUST_USE window_reply window_delegate(uint8_t *window, size_t length, uint32_t from, uint32_t to,
                                              uint32_t entry);
@@ -216,9 +217,10 @@ WINDOW_MUST_USE window_reply window_depend(uint8_t *window, size_t length, uint3
 WINDOW_MUST_USE window_reply window_commit(uint8_t *window, size_t length, uint32_t change);
 
 /*
- * Aborts the change with its group and all that fall ties lead to, step by step, and undoes the writes whose log
- * records they have: their own that they have not handed over, and those handed over to them; number: how many changes
- * this call ended, 0 where the change was aborted before.
+ * Aborts the change and all that must fall with it: of each its whole group and the followers of the fall ties that it
+ * leads, in any number of steps. Each entry gets the value before the oldest of their log records on it, even where
+ * another change has written there since. Their log records are those of their own writes that they have not handed
+ * over, and those handed over to them; number: how many changes this call ended, 0 where the change was aborted before.
  *   change  the change to abort
  * Answers: WINDOW_NO_CHANGE, WINDOW_ENDED (the change was committed).
  */

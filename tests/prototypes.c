@@ -1,6 +1,6 @@
 /*
  * Every call through a pointer to its prototype, written out again here, on a window whose answers are worked out by
- * hand. The file is C and C++.
+ * hand; and the numbers of the header's names. The file is C and C++.
  */
 #include "check.h"
 
@@ -59,8 +59,53 @@ static void hand_over(void)
     GIVES(commit(LENT, 2), WINDOW_ENDED, 0);
 }
 
+/* The answers, by docs/RULES.md, 'Turned back, in checking order'. */
+static void check_answers(void)
+{
+    CHECK(WINDOW_DONE == 0);
+    CHECK(WINDOW_NOT_SOUND == 1);
+    CHECK(WINDOW_BAD_ENTRIES == 2);
+    CHECK(WINDOW_NO_CHANGE == 3);
+    CHECK(WINDOW_NO_ENTRY == 4);
+    CHECK(WINDOW_BAD_OPTION == 5);
+    CHECK(WINDOW_SAME_CHANGE == 6);
+    CHECK(WINDOW_BAD_STATUS == 7);
+    CHECK(WINDOW_NO_LOCK == 8);
+    CHECK(WINDOW_CYCLE == 9);
+    CHECK(WINDOW_CLASH == 10);
+    CHECK(WINDOW_FULL == 11);
+    CHECK(WINDOW_BLOCKED == 20);
+    CHECK(WINDOW_ENDED == 21);
+}
+
+/* The other numbers, by docs/RULES.md, 'What a window holds' and 'The calls'. */
+static void check_numbers(void)
+{
+    CHECK(WINDOW_STATUS_INITIATED == 1);
+    CHECK(WINDOW_STATUS_RUNNING == 2);
+    CHECK(WINDOW_STATUS_COMPLETED == 3);
+    CHECK(WINDOW_STATUS_COMMITTED == 4);
+    CHECK(WINDOW_STATUS_ABORTED == 5);
+    CHECK(WINDOW_MODE_READ == 1);
+    CHECK(WINDOW_MODE_WRITE == 2);
+    CHECK(WINDOW_MODE_BOTH == 3);
+    CHECK(WINDOW_TIE_WAIT == 1);
+    CHECK(WINDOW_TIE_FALL == 2);
+    CHECK(WINDOW_TIE_GROUP == 3);
+    CHECK(WINDOW_ANYBODY == 0);
+    CHECK(WINDOW_EVERY_ENTRY == 65535);
+    CHECK(WINDOW_MOST_ENTRIES == 256);
+    CHECK(WINDOW_MOST_CHANGES == 255);
+    CHECK(WINDOW_MOST_LOG_RECORDS == 2048);
+    CHECK(WINDOW_MOST_PERMITS == 1024);
+    CHECK(WINDOW_MOST_TIES == 512);
+    CHECK(WINDOW_SIZE == 37952);
+}
+
 int main(void)
 {
+    check_answers();
+    check_numbers();
     work();
     hand_over();
     return EXIT_SUCCESS;
