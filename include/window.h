@@ -219,8 +219,8 @@ WINDOW_MUST_USE window_reply window_commit(uint8_t *window, size_t length, uint3
 /*
  * Aborts the change and all that must fall with it: of each its whole group and the followers of the fall ties that it
  * leads, in any number of steps. Each entry gets the value before the oldest of their log records on it, even where
- * another change has written there since. Their log records are those of their own writes that they have not handed
- * over, and those handed over to them; number: how many changes this call ended, 0 where the change was aborted before.
+ * another change has written there since. A log record is its writer's or, once handed over, that of the change that
+ * it was last handed over to; number: how many changes this call ended, 0 where the change was aborted before.
  *   change  the change to abort
  * Answers: WINDOW_NO_CHANGE, WINDOW_ENDED (the change was committed).
  */
