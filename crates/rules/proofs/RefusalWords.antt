@@ -17,8 +17,8 @@ use Rattle.rules.specs.Calls.{Call, Open, Initiate, Begin, Complete, Loc
 use Rattle.rules.specs.Effects.{every, entriesNamed, handOver, effect, lockEntry, commitChange, commitGroup, abortChange, abortAll}
 use Rattle.rules.specs.Refusals.{firstFailed, _if_, checks, settle, step}
 use Rattle.rules.proofs.BaseLaws.{and-both, and-left, and-right, no-true, allBelow-fails}
-use Rattle.rules.proofs.SaidLaws.{NoRefusal, Turned, merge, merged, merged-first, proper, Said, said-next, said-none, AnswerOf, turned}
 use Rattle.rules.proofs.PathLaws.{Arrows, cyclic-paths}
+use Rattle.rules.proofs.SaidLaws.{NoRefusal, Turned, merge, merged, merged-first, proper, Said, said-next, said-none, AnswerOf, turned}
 use Rattle.rules.proofs.SortLaws.{all-insert}
 use Rattle.rules.proofs.SoundDelegate.{hand-held}
 use Rattle.rules.proofs.SoundDepend.{make-sound}

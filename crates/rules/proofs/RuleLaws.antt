@@ -1,4 +1,4 @@
--- A call that is turned back or blocked leaves the window as it was; open answers the same whatever it was. Assumes nothing.
+-- A call that is turned back or blocked leaves the window as it was, and one answered 0 was not refused; open answers the same whatever it was. Assumes nothing.
 use mathlib.Core.Path.{_≡_, refl, sym, _∙_}
 use mathlib.Core.Logic.{_≢_}
 use mathlib.Core.Bool.{Bool, true, false, cond, _||_, false≢true}
