@@ -11,6 +11,8 @@ pub enum Kind {
     Check,
     /// A call that is answered 0.
     Done(Call),
+    /// A lock that is answered 20.
+    Blocked(Call),
     /// A call that is refused.
     Refused(Call),
 }
@@ -25,12 +27,13 @@ impl Case {
         match self.kind {
             Kind::Check => "the check alone",
             Kind::Done(call) => NAMES[call.fields().0],
+            Kind::Blocked(_) => "lock, blocked",
             Kind::Refused(_) => "read, refused",
         }
     }
 }
 
-/// A window with its cases: the check, the calls in the order of NAMES, a refused read.
+/// A window with its cases: the check, the calls in the order of NAMES, a blocked lock, a refused read.
 pub struct Set {
     pub name: &'static str,
     pub holds: &'static str,
@@ -40,10 +43,11 @@ pub struct Set {
 /// A call and the window that it is made on, where that differs from the set's.
 type Made = (Call, Option<Window>);
 
-fn set(name: &'static str, holds: &'static str, base: &Window, calls: [Made; 15], refused: Made) -> Set {
+fn set(name: &'static str, holds: &'static str, base: &Window, calls: [Made; 15], blocked: Made, refused: Made) -> Set {
     let case = |kind: Kind, window: Option<Window>| Case { kind, window: window.unwrap_or(base.clone()) };
     let mut cases = vec![case(Kind::Check, None)];
     cases.extend(calls.map(|(call, window)| case(Kind::Done(call), window)));
+    cases.push(case(Kind::Blocked(blocked.0), blocked.1));
     cases.push(case(Kind::Refused(refused.0), refused.1));
     Set { name, holds, cases }
 }
@@ -67,6 +71,7 @@ fn one_fewer(w: &Window) -> Option<Window> {
         w.locks.retain(|l| l.1 != c);
         w.permits.retain(|p| p.giver != c && p.taker != c);
         w.ties.retain(|t| t.leader != c && t.follower != c);
+        w.line.retain(|p| p.change != c);
     })
 }
 
@@ -91,7 +96,7 @@ fn typical() -> Set {
         (Value(0), None),
     ];
     let holds = "6 entries, 10 live changes, 9 locks, 4 permits, 6 ties, 6 log records";
-    set("typical", holds, &w, calls, (Read(1, 4), None))
+    set("typical", holds, &w, calls, (Lock(5, 0, 2), None), (Read(1, 4), None))
 }
 
 fn busy_set() -> Set {
@@ -114,7 +119,7 @@ fn busy_set() -> Set {
         (Value(14), None),
     ];
     let holds = "256 entries, 100 live changes, 500 locks, 300 permits, 100 ties, 1,000 log records";
-    set("busy", holds, &w, calls, (Read(4, 14), None))
+    set("busy", holds, &w, calls, (Lock(4, 14, 2), None), (Read(4, 14), None))
 }
 
 /// The last entry's readers are permitted as anybody, and by three permits less.
@@ -142,7 +147,8 @@ fn full() -> Set {
         (Parent(255), None),
         (Value(255), None),
     ];
-    set("full", "every table full but for five ties: one writer and four readers of each entry", &w, calls, (Read(255, 0), None))
+    let holds = "every table full but for five ties: one writer and four readers of each entry";
+    set("full", holds, &w, calls, (Lock(255, 255, 2), None), (Read(255, 0), None))
 }
 
 /// The last entry has a single writer.
@@ -171,7 +177,7 @@ fn all_locks() -> Set {
         (Parent(255), None),
         (Value(255), None),
     ];
-    set("all locks", "255 changes read 256 entries", &w, calls, (Read(255, 255), free))
+    set("all locks", "255 changes read 256 entries", &w, calls, (Lock(255, 255, 2), None), (Read(255, 255), free))
 }
 
 fn all_permits() -> Set {
@@ -194,7 +200,9 @@ fn all_permits() -> Set {
         (Value(0), None),
     ];
     let free = but(&w, |w| w.locks.retain(|l| l.1 != 255));
-    set("all permits", "one entry with 254 writers, a reader and 1,024 permits", &w, calls, (Read(255, 0), free))
+    let guarded = but(&w, |w| w.permits.retain(|p| (p.giver, p.taker) != (255, 0)));
+    let holds = "one entry with 254 writers, a reader and 1,024 permits";
+    set("all permits", holds, &w, calls, (Lock(1, 0, 2), guarded), (Read(255, 0), free))
 }
 
 fn all_ties() -> Set {
@@ -209,7 +217,7 @@ fn all_ties() -> Set {
         (Read(1, 0), written.clone()),
         (Write(1, 0, 9), written.clone()),
         (Permit(1, 2, 0, 3), None),
-        (Delegate(1, 2, EVERY_ENTRY), written),
+        (Delegate(1, 2, EVERY_ENTRY), written.clone()),
         (Depend(1, 255, 1), None),
         (Commit(255), status(&w, 255, 3)),
         (Abort(255), None),
@@ -217,10 +225,46 @@ fn all_ties() -> Set {
         (Parent(255), None),
         (Value(0), None),
     ];
-    set("all ties", "255 changes in one chain of 508 ties", &w, calls, (Read(1, 0), None))
+    set("all ties", "255 changes in one chain of 508 ties", &w, calls, (Lock(2, 0, 1), written), (Read(1, 0), None))
+}
+
+/// As if only change 1 held a lock, in this mode.
+fn held_alone(w: &Window, mode: u8) -> Option<Window> {
+    but(w, |w| w.locks = vec![(0, 1, mode)])
+}
+
+/// With another status of a change, which does not stand in line then.
+fn out_of_line(w: &Window, c: u8, status: u8) -> Option<Window> {
+    but(w, |w| {
+        w.changes[c as usize - 1].0 = status;
+        w.line.retain(|p| p.change != c);
+    })
+}
+
+fn all_lines() -> Set {
+    let w = windows::all_lines();
+    let calls = [
+        (Open(1), None),
+        (Initiate(1), one_fewer(&w)),
+        (Begin(255), out_of_line(&w, 255, 1)),
+        (Complete(1), None),
+        (Lock(1, 0, 2), held_alone(&w, 1)),
+        (Read(1, 0), None),
+        (Write(1, 0, 9), held_alone(&w, 2)),
+        (Permit(1, 2, 0, 3), None),
+        (Delegate(1, 2, EVERY_ENTRY), None),
+        (Depend(1, 1, 255), None),
+        (Commit(1), out_of_line(&w, 1, 3)),
+        (Abort(1), None),
+        (Status(255), None),
+        (Parent(255), None),
+        (Value(0), None),
+    ];
+    let holds = "one entry with 255 readers, all of them in line to write";
+    set("all lines", holds, &w, calls, (Lock(255, 0, 1), held_alone(&w, 1)), (Read(255, 0), held_alone(&w, 1)))
 }
 
 /// Typical, busy, and the worst windows of the soundness check.
 pub fn sets() -> Vec<Set> {
-    vec![typical(), busy_set(), full(), all_locks(), all_permits(), all_ties()]
+    vec![typical(), busy_set(), full(), all_locks(), all_permits(), all_ties(), all_lines()]
 }

@@ -159,7 +159,7 @@ pub fn chart(all: &[Measured]) -> String {
     let panels = [
         Panel::new("Typical window", "goals: 1.5 to read, 2 to write, 5 to delegate", &names, &all[..1]),
         Panel::new("Busy window", "256 entries, 100 live changes; goal: 10", &names, &all[1..2]),
-        Panel::new("Worst windows", "the highest figure of four; goal: 300", &names, &all[2..]),
+        Panel::new("Worst windows", "the highest figure of five; goal: 300", &names, &all[2..]),
     ];
     for (i, panel) in panels.iter().enumerate() {
         draw(&mut svg, panel, LEFT + (PANEL + GAP) * i as f64);

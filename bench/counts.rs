@@ -7,6 +7,7 @@ use std::process::{Command, Stdio};
 fn function(case: &Case) -> String {
     match case.kind {
         Kind::Check => "probe_sound".to_string(),
+        Kind::Blocked(_) => "window_lock".to_string(),
         Kind::Refused(_) => "window_read".to_string(),
         Kind::Done(_) => format!("window_{}", case.name()),
     }

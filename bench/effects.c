@@ -6,8 +6,8 @@
 #include <stdint.h>
 #include <string.h>
 
-enum { VALUES = 64, CHANGES = 1088, LOCKS = 3136, PERMITS = 19520, TIES = 23616, LOG = 25664 };
-enum { RECORDS_AT = 4, PERMITS_AT = 6, TIES_AT = 8 };
+enum { VALUES = 64, CHANGES = 1088, LINE = 2112, LOCKS = 3136, PERMITS = 19520, TIES = 23616, LOG = 25664 };
+enum { RECORDS_AT = 4, PERMITS_AT = 6, TIES_AT = 8, WAITERS_AT = 10 };
 enum { COMMITTED = 4, GROUP = 3 };
 
 typedef struct set {
@@ -33,7 +33,22 @@ static void add(set *s, unsigned c) {
     s->words[c / 64] |= (uint64_t)1 << (c % 64);
 }
 
+/* The change leaves the line, if it stands there. */
+static void leave_line(uint8_t *window, unsigned change) {
+    unsigned count = get16(window + WAITERS_AT);
+    for (unsigned i = 0; i < count; i++) {
+        uint8_t *place = window + LINE + 4 * i;
+        if (place[0] == change) {
+            memmove(place, place + 4, 4 * (count - i - 1));
+            memset(window + LINE + 4 * (count - 1), 0, 4);
+            put16(window + WAITERS_AT, count - 1);
+            return;
+        }
+    }
+}
+
 void effect_lock(uint8_t *window, uint32_t change, uint32_t entry, uint32_t mode) {
+    leave_line(window, change);
     uint8_t *readers = window + LOCKS + 64 * entry + change / 8;
     uint8_t bit = (uint8_t)(1 << (change % 8));
     if (mode == 1) {

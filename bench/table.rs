@@ -30,7 +30,7 @@ pub fn goal(set: &Set, case: &Case) -> f64 {
         ("typical", Kind::Done(Delegate(..))) => 5.0,
         ("typical", Kind::Check | Kind::Refused(_)) => 1.5,
         ("typical", Kind::Done(Read(..) | Status(_) | Parent(_) | Value(_))) => 1.5,
-        ("typical", Kind::Done(_)) => 2.0,
+        ("typical", Kind::Done(_) | Kind::Blocked(_)) => 2.0,
         ("busy", _) => 10.0,
         _ => 300.0,
     }

@@ -66,7 +66,7 @@ fn make(memory: &mut [u8], kind: Kind) -> Reply {
     match kind {
         // The function reads the lent bytes alone.
         Kind::Check => (!unsafe { probe_sound(memory.as_ptr(), memory.len()) } as u32, 0),
-        Kind::Done(call) | Kind::Refused(call) => library::make(memory, call),
+        Kind::Done(call) | Kind::Blocked(call) | Kind::Refused(call) => library::make(memory, call),
     }
 }
 
@@ -74,7 +74,7 @@ fn make(memory: &mut [u8], kind: Kind) -> Reply {
 fn model(memory: &mut [u8], kind: Kind) -> Reply {
     match kind {
         Kind::Check => (!model::sound(memory) as u32, 0),
-        Kind::Done(call) | Kind::Refused(call) => perform::perform(memory, call),
+        Kind::Done(call) | Kind::Blocked(call) | Kind::Refused(call) => perform::perform(memory, call),
     }
 }
 
@@ -93,10 +93,14 @@ fn effect(memory: &mut [u8], kind: Kind) -> Option<Reply> {
     Some((0, 0))
 }
 
-/// Whether a call that is answered 0 has to change a byte.
+/// Whether the call has to change a byte.
 fn writes(kind: Kind) -> bool {
     use perform::Call::{Parent, Read, Status, Value};
-    matches!(kind, Kind::Done(call) if !matches!(call, Read(..) | Status(_) | Parent(_) | Value(_)))
+    match kind {
+        Kind::Done(call) => !matches!(call, Read(..) | Status(_) | Parent(_) | Value(_)),
+        Kind::Blocked(_) => true,
+        Kind::Check | Kind::Refused(_) => false,
+    }
 }
 
 impl Place {
@@ -108,7 +112,11 @@ impl Place {
         assert!(model::sound(&before.0), "{name}: the window is not sound");
         let mut after = before.clone();
         let reply = make(&mut after.0, case.kind);
-        let due = if matches!(case.kind, Kind::Refused(_)) { 8 } else { 0 };
+        let due = match case.kind {
+            Kind::Check | Kind::Done(_) => 0,
+            Kind::Blocked(_) => 20,
+            Kind::Refused(_) => 8,
+        };
         assert_eq!(reply.0, due, "{name}: the answer");
         assert_eq!(after.0 != before.0, writes(case.kind), "{name}: whether a byte changes");
         let mut other = before.clone();

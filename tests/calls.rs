@@ -3,6 +3,7 @@
 mod demand;
 mod full_tables;
 mod library;
+mod lines;
 mod model;
 mod perform;
 mod random;
@@ -15,10 +16,10 @@ mod windows;
 use model::SIZE;
 use perform::Call::{self, *};
 use perform::{Reply, NAMES};
-use random::{Kind, Random, DENSE, MIXED, PERMITS, TIES, WRITES};
+use random::{Kind, Random, DENSE, LINES, MIXED, PERMITS, TIES, WRITES};
 use trial::{Start, Trial};
 
-const ANSWERS: [u32; 14] = [0, 1, 2, 3, 4, 5, 6, 7, 8, 9, 10, 11, 20, 21];
+const ANSWERS: [u32; 15] = [0, 1, 2, 3, 4, 5, 6, 7, 8, 9, 10, 11, 12, 20, 21];
 
 /// The answers that each call can give, in the order of NAMES.
 const REACHABLE: [&[u32]; 15] = [
@@ -26,7 +27,7 @@ const REACHABLE: [&[u32]; 15] = [
     &[0, 1, 3, 7, 11],
     &[0, 1, 3, 7],
     &[0, 1, 3, 7],
-    &[0, 1, 3, 4, 5, 7, 20],
+    &[0, 1, 3, 4, 5, 7, 12, 20],
     &[0, 1, 3, 4, 7, 8],
     &[0, 1, 3, 4, 7, 8, 11],
     &[0, 1, 3, 4, 5, 6, 7, 11],
@@ -39,11 +40,15 @@ const REACHABLE: [&[u32]; 15] = [
     &[0, 1, 4],
 ];
 
-/// How often each call was answered how, in the order of NAMES; how many lists ended in walks.
+/// How often each call was answered how, in the order of NAMES; how many lists ended in walks; the most that stood in
+/// line; how often one was granted while others waited, and how often the first in line had to get 0.
 #[derive(Default)]
 struct Tally {
     answers: [[usize; 22]; 15],
     walked: usize,
+    longest: usize,
+    granted: usize,
+    served: usize,
 }
 
 impl Tally {
@@ -51,6 +56,7 @@ impl Tally {
     fn make(&mut self, trial: &mut Trial, call: Call) -> Reply {
         let reply = trial.make(call).unwrap_or_else(|error| trial.fail(error));
         self.answers[call.fields().0][reply.0 as usize] += 1;
+        self.longest = self.longest.max(trial.now().line.len());
         reply
     }
 
@@ -110,11 +116,14 @@ fn picture() {
         let reply = trial.make(call).unwrap_or_else(|error| trial.fail(error));
         assert_eq!(reply.0, 0, "{call}");
     }
+    let waits = trial.make(Lock(2, 5, 2)).unwrap_or_else(|error| trial.fail(error));
+    assert_eq!(waits.0, 20, "2 may only read");
     let mut due = vec![0; SIZE];
     let mut put = |at: usize, bytes: &[u8]| due[at..at + bytes.len()].copy_from_slice(bytes);
-    put(0, &[6, 0, 3, 0, 2, 0, 2, 0, 2]);
+    put(0, &[6, 0, 3, 0, 2, 0, 2, 0, 2, 0, 1]);
     put(84, &[0xdd, 0xcc, 0xbb, 0xaa]);
     put(1_092, &[2, 0, 0, 0, 2, 0, 0, 0, 1, 1]);
+    put(2_112, &[2, 5, 2]);
     put(3_456, &[0b100]);
     put(3_488, &[0b010]);
     put(19_520, &[3, 2, 0, 3, 5, 1, 2, 1]);
@@ -225,6 +234,8 @@ fn list(r: &mut Random, kind: &Kind, first: &[Call], length: usize, tally: &mut 
         let call = random::call(r, kind, trial.now());
         tally.make(&mut trial, call);
     }
+    let (granted, served) = trial.story().unwrap().turns();
+    (tally.granted, tally.served) = (tally.granted + granted, tally.served + served);
     for _ in 0..4 {
         damaged(r, kind, &trial, tally);
     }
@@ -268,6 +279,10 @@ fn random_lists(r: &mut Random, calls: usize, tally: &mut Tally) {
         made += list(r, &Kind { entries: 6, live: 40, often: DENSE }, &[], 1_000, tally);
         made += list(r, &Kind { entries: 256, live: 255, often: DENSE }, &changes(100), 1_000, tally);
         made += list(r, &Kind { entries: 1, live: 255, often: TIES }, &changes(60), 600, tally);
+        for entries in [1, 2, 3] {
+            made += list(r, &Kind { entries, live: 6, often: LINES }, &[], 400, tally);
+            made += list(r, &Kind { entries, live: 40, often: LINES }, &changes(20), 400, tally);
+        }
         if round % 4 == 0 {
             made += nearly_full(r, tally);
         }
@@ -276,16 +291,47 @@ fn random_lists(r: &mut Random, calls: usize, tally: &mut Tally) {
         }
     }
     println!("{made} random calls, {} lists ended in walks", tally.walked);
+    println!("at most {} in line, {} granted while others waited, {} first in line and free", tally.longest, tally.granted, tally.served);
+    assert!(tally.longest > 20 && tally.granted > 100 && tally.served > 100, "too few stood in line");
+}
+
+/// Who stands in line after calls on a window with three in line: who completes or ends leaves, and the others close up in order.
+fn lines_left(tally: &mut Tally) {
+    let lists: [(&[Call], &[u8]); 6] = [
+        (&[Complete(2)], &[4, 3]),
+        (&[Complete(4), Commit(4)], &[2, 3]),
+        (&[Complete(1), Commit(6), Abort(3)], &[2, 4]),
+        (&[Depend(2, 1, 2), Depend(3, 2, 3), Abort(1)], &[4]),
+        (&[Abort(2), Abort(3), Complete(4)], &[]),
+        (&[Initiate(1), Begin(7), Lock(7, 1, 2), Write(7, 1, 9), Permit(7, 2, 1, 3), Delegate(7, 3, 1)], &[2, 4, 3]),
+    ];
+    for (calls, left) in lists {
+        let mut trial = Trial::new(Start::new(model::bytes(&windows::waiting())));
+        for call in calls {
+            assert_eq!(tally.make(&mut trial, *call).0, 0, "{call}");
+        }
+        let line: Vec<u8> = trial.now().line.iter().map(|p| p.change).collect();
+        assert_eq!(line, left);
+    }
 }
 
 fn main() {
     let (seed, calls) = (random::seed(), random::setting("WINDOW_TEST_CALLS", 300_000) as usize);
     let tries =
-        [tries::calls_to_try(), tries::errors(), readings::readings(), tied::tied(), full_tables::full_tables()].concat();
+        [
+            tries::calls_to_try(),
+            tries::errors(),
+            readings::readings(),
+            tied::tied(),
+            full_tables::full_tables(),
+            lines::lines(),
+        ]
+        .concat();
     tries.iter().for_each(follow);
     println!("{} lists by hand", tries.len());
     picture();
     let mut tally = Tally::default();
+    lines_left(&mut tally);
     lent_lengths(&mut tally);
     long_walks(&mut tally);
     random_lists(&mut Random(seed), calls, &mut tally);

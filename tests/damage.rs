@@ -53,9 +53,10 @@ fn main() {
     damaged("contested", &windows::contested(), &bits);
     damaged("crowded", &windows::crowded(), &bits);
     damaged("tied", &windows::tied(), &bits);
+    damaged("waiting", &windows::waiting(), &bits);
     permits_needed("contested", &windows::contested(), 4);
     permits_needed("crowded", &windows::crowded(), 19);
-    for w in [windows::full(), windows::all_locks(), windows::all_permits(), windows::all_ties()] {
+    for w in [windows::full(), windows::all_locks(), windows::all_permits(), windows::all_ties(), windows::all_lines()] {
         let m = model::bytes(&w);
         assert!(model::sound(&m) && verdict(&m));
     }

@@ -1,4 +1,5 @@
-//! Demand 3's words, read off the calls made (docs/RULES.md, "Lists of calls"), and a few more that can be read off them.
+//! Demand 3's words, read off the calls made (docs/RULES.md, "Lists of calls"), those of the lines ("What the lines are held
+//! to"), and a few more that can be read off them.
 use crate::model::Window;
 use crate::perform::{Call, Reply, EVERY_ENTRY};
 use std::collections::{BTreeMap, BTreeSet};
@@ -22,6 +23,10 @@ pub struct Story {
     shared: BTreeSet<u32>,
     /// Writes answered 0: entry, value, owner at the end of that owner's life or now.
     writes: Vec<(u32, u32, u32)>,
+    /// (entry, change) to the call since which the change waits there.
+    waits: BTreeMap<(u32, u32), usize>,
+    /// How often one was granted while others waited, and how often the first in line had to get 0.
+    turns: (usize, usize),
 }
 
 fn must(holds: bool, words: impl Fn() -> String) -> Result<(), String> {
@@ -36,10 +41,12 @@ impl Story {
     /// Takes in a call and its reply, then the window after it, and judges the whole.
     pub fn tell(&mut self, call: Call, (answer, number): Reply, after: &Window) -> Result<(), String> {
         self.calls += 1;
+        self.judge_turn(call, answer)?;
         if answer == 0 {
             self.enter(call);
         }
         let fresh = self.take_statuses(call, answer, after)?;
+        self.take_turns(call, answer);
         self.judge_number(call, (answer, number), &fresh)?;
         self.judge_ends(call, &fresh)?;
         self.judge_ties()?;
@@ -182,17 +189,55 @@ impl Story {
         Ok(())
     }
 
+    /// A permit in the book, to the taker or to anybody, contains the mode.
+    fn contains(&self, e: u32, giver: u32, taker: u32, mode: u32) -> bool {
+        let operations = |taker: u32| self.permits.get(&(e, giver, taker)).copied().unwrap_or(0);
+        [operations(taker), operations(0)].iter().any(|o| o & mode != 0)
+    }
+
+    /// No later comer on the entry is granted ahead of an earlier one still in line, a covered mode being no grant,
+    /// and the first in line gets 0 if every holder that then clashes permits it.
+    fn judge_turn(&mut self, call: Call, answer: u32) -> Result<(), String> {
+        let Lock(c, e, mode) = call else { return Ok(()) };
+        let since = self.waits.get(&(e, c));
+        let here = (e, 0)..=(e, u32::MAX);
+        let others: Vec<usize> =
+            self.waits.range(here.clone()).filter(|((_, d), _)| *d != c).map(|(_, since)| *since).collect();
+        let first = others.iter().all(|later| since.is_some_and(|s| s < later));
+        let covered = self.locks.get(&(e, c)).is_some_and(|held| *held >= mode);
+        must(answer != 0 || covered || first, || format!("{c} is granted entry {e} ahead of one that came before"))?;
+        let mut holders = self.locks.range(here).filter(|((_, d), held)| *d != c && (**held == 2 || mode == 2));
+        let clear = holders.all(|((_, d), _)| self.contains(e, *d, c, mode));
+        let served = since.is_some() && first && clear && (1..=2).contains(&mode);
+        self.turns.0 += usize::from(answer == 0 && !covered && !others.is_empty());
+        self.turns.1 += usize::from(served);
+        must(!served || answer == 0, || format!("{c} is first in the line of entry {e} and not granted"))
+    }
+
+    pub fn turns(&self) -> (usize, usize) {
+        self.turns
+    }
+
+    /// Who waits since which call: from a lock answered 20 on, until one answered 0, while it runs.
+    fn take_turns(&mut self, call: Call, answer: u32) {
+        if let Lock(c, e, _) = call {
+            match answer {
+                0 => drop(self.waits.remove(&(e, c))),
+                20 => drop(self.waits.entry((e, c)).or_insert(self.calls)),
+                _ => {}
+            }
+        }
+        let status = &self.status;
+        self.waits.retain(|(_, c), _| status[*c as usize - 1] == 2);
+    }
+
     /// Locks in the book that clash have their permit, and the book is what the window records.
     fn judge_book(&self, after: &Window) -> Result<(), String> {
-        let contains = |e: u32, giver: u32, taker: u32, mode: u32| {
-            let operations = |taker: u32| self.permits.get(&(e, giver, taker)).copied().unwrap_or(0);
-            [operations(taker), operations(0)].iter().any(|o| o & mode != 0)
-        };
         for ((e, a), held) in &self.locks {
             for ((_, b), other) in
                 self.locks.range((*e, *a + 1)..(*e + 1, 0)).filter(|(_, other)| *held == 2 || **other == 2)
             {
-                let fine = contains(*e, *a, *b, *other) || contains(*e, *b, *a, *held);
+                let fine = self.contains(*e, *a, *b, *other) || self.contains(*e, *b, *a, *held);
                 must(fine, || format!("{a} and {b} clash on entry {e} without a permit"))?;
             }
         }

@@ -2,8 +2,11 @@
 use std::collections::HashSet;
 
 pub const SIZE: usize = 37_952;
+/// The figure in the header that says how many stand in line.
+pub const WAITERS: usize = 10;
 pub const VALUES: usize = 64;
 pub const CHANGES: usize = 1_088;
+pub const LINE: usize = 2_112;
 pub const LOCKS: usize = 3_136;
 pub const PERMITS: usize = 19_520;
 pub const TIES: usize = 23_616;
@@ -33,6 +36,14 @@ pub struct Record {
     pub before: u32,
 }
 
+/// Who stands in an entry's line, for which mode.
+#[derive(Clone)]
+pub struct Waiter {
+    pub change: u8,
+    pub entry: u8,
+    pub mode: u8,
+}
+
 /// Entry, change, mode.
 pub type Lock = (u8, u8, u8);
 
@@ -46,6 +57,7 @@ pub struct Window {
     pub log: Vec<Record>,
     pub permits: Vec<Permit>,
     pub ties: Vec<Tie>,
+    pub line: Vec<Waiter>,
 }
 
 fn put16(m: &mut [u8], at: usize, x: usize) {
@@ -59,7 +71,7 @@ fn get16(m: &[u8], at: usize) -> usize {
 /// The bytes of a window.
 pub fn bytes(w: &Window) -> Vec<u8> {
     let mut m = vec![0; SIZE];
-    let figures = [w.entries, w.changes.len(), w.log.len(), w.permits.len(), w.ties.len()];
+    let figures = [w.entries, w.changes.len(), w.log.len(), w.permits.len(), w.ties.len(), w.line.len()];
     for (i, f) in figures.iter().enumerate() {
         put16(&mut m, 2 * i, *f);
     }
@@ -69,6 +81,9 @@ pub fn bytes(w: &Window) -> Vec<u8> {
     for (i, (status, parent)) in w.changes.iter().enumerate() {
         m[CHANGES + 4 * (i + 1)] = *status;
         m[CHANGES + 4 * (i + 1) + 1] = *parent;
+    }
+    for (i, p) in w.line.iter().enumerate() {
+        m[LINE + 4 * i..LINE + 4 * i + 3].copy_from_slice(&[p.change, p.entry, p.mode]);
     }
     for (e, c, mode) in &w.locks {
         m[LOCKS + 64 * *e as usize + 32 * (*mode as usize - 1) + *c as usize / 8] |= 1 << (c % 8);
@@ -92,17 +107,18 @@ fn zero(m: &[u8], from: usize, to: usize) -> bool {
     m[from..to] == ZEROS[from..to]
 }
 
-/// The five figures, if each is in its range and every byte past what they count is 0.
-fn figures(m: &[u8]) -> Option<[usize; 5]> {
-    let figures = [0, 2, 4, 6, 8].map(|at| get16(m, at));
-    let [entries, given, records, permits, ties] = figures;
-    if entries < 1 || entries > 256 || given > 255 || records > 2_048 || permits > 1_024 || ties > 512 {
+/// The six figures, if each is in its range and every byte past what they count is 0.
+fn figures(m: &[u8]) -> Option<[usize; 6]> {
+    let figures = [0, 2, 4, 6, 8, 10].map(|at| get16(m, at));
+    let [entries, given, records, permits, ties, waiters] = figures;
+    if entries < 1 || entries > 256 || given > 255 || records > 2_048 || permits > 1_024 || ties > 512 || waiters > 255 {
         return None;
     }
     let zero = |from: usize, to: usize| zero(m, from, to);
-    if !(zero(10, VALUES)
+    if !(zero(12, VALUES)
         && zero(VALUES + 4 * entries, CHANGES + 4)
-        && zero(CHANGES + 4 * (given + 1), LOCKS)
+        && zero(CHANGES + 4 * (given + 1), LINE)
+        && zero(LINE + 4 * waiters, LOCKS)
         && zero(LOCKS + 64 * entries, PERMITS)
         && zero(PERMITS + 4 * permits, TIES)
         && zero(TIES + 4 * ties, LOG)
@@ -132,7 +148,7 @@ pub fn window(m: &[u8]) -> Option<Window> {
         return None;
     }
     let m = &m[..SIZE];
-    let [entries, given, records, permits, ties] = figures(m)?;
+    let [entries, given, records, permits, ties, waiters] = figures(m)?;
     let mut w = Window { entries, ..Window::default() };
     for e in 0..entries {
         let at = VALUES + 4 * e;
@@ -144,6 +160,12 @@ pub fn window(m: &[u8]) -> Option<Window> {
             return None;
         }
         w.changes.push((m[at], m[at + 1]));
+    }
+    for p in m[LINE..LINE + 4 * waiters].chunks(4) {
+        if p[3] != 0 {
+            return None;
+        }
+        w.line.push(Waiter { change: p[0], entry: p[1], mode: p[2] });
     }
     w.locks = locks(m, entries);
     for p in m[PERMITS..PERMITS + 4 * permits].chunks(4) {
@@ -211,6 +233,14 @@ impl Window {
         self.ties.iter().all(fine) && self.ties.windows(2).all(|t| t[0] < t[1])
     }
 
+    /// Each change in one line at most, and running.
+    fn line_sound(&self) -> bool {
+        let runs = |c: u8| c >= 1 && (c as usize) <= self.changes.len() && self.changes[c as usize - 1].0 == 2;
+        let fine = |p: &Waiter| runs(p.change) && (p.entry as usize) < self.entries && (1..=2).contains(&p.mode);
+        let changes: HashSet<u8> = self.line.iter().map(|p| p.change).collect();
+        self.line.iter().all(fine) && changes.len() == self.line.len()
+    }
+
     /// No path of arrows returns to its group: a depth-first walk over groups.
     pub fn arrows_sound(&self) -> bool {
         let mut group: Vec<usize> = (0..256).collect();
@@ -259,6 +289,7 @@ impl Window {
             && self.log_sound()
             && self.permits_sound()
             && self.ties_sound()
+            && self.line_sound()
             && self.arrows_sound()
             && self.pairs_sound()
     }

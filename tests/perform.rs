@@ -1,5 +1,5 @@
 //! The fifteen calls on lent memory, written from docs/RULES.md.
-use crate::model::{self, Record, Tie, Window, SIZE};
+use crate::model::{self, Record, Tie, Waiter, Window, SIZE};
 use std::collections::BTreeSet;
 use std::fmt;
 use Call::*;
@@ -93,13 +93,13 @@ pub fn perform(memory: &mut [u8], call: Call) -> Reply {
     };
     let mut after = before.clone();
     let reply = step(&mut after, call);
-    if reply.0 == 0 {
+    if reply.0 == 0 || reply.0 == 20 {
         memory[..SIZE].copy_from_slice(&model::bytes(&after));
     }
     reply
 }
 
-/// Makes a call on a sound window. Where the answer is not 0, what is left of the window is of no use.
+/// Makes a call on a sound window. Where the answer is neither 0 nor 20, what is left of the window is of no use.
 fn step(w: &mut Window, call: Call) -> Reply {
     match refused(w, call) {
         0 => {}
@@ -112,10 +112,19 @@ fn step(w: &mut Window, call: Call) -> Reply {
     }
 }
 
-/// The first of refusals 2 to 8 that applies, 0 if none does.
+/// The first of refusals 2 to 7, 12 and 8 that applies, 0 if none does: 12 is checked after 7.
 fn refused(w: &Window, call: Call) -> u32 {
-    let checks = [no_number_of_entries, no_change, no_entry, no_choice, same_changes, no_suitable_status, no_lock];
-    (2..).zip(checks).find(|(_, applies)| applies(w, call)).map_or(0, |(answer, _)| answer)
+    let checks: [(u32, fn(&Window, Call) -> bool); 8] = [
+        (2, no_number_of_entries),
+        (3, no_change),
+        (4, no_entry),
+        (5, no_choice),
+        (6, same_changes),
+        (7, no_suitable_status),
+        (12, in_another_line),
+        (8, no_lock),
+    ];
+    checks.iter().find(|(_, applies)| applies(w, call)).map_or(0, |(answer, _)| *answer)
 }
 
 /// 2. The number of entries is not 1 to 256 (open).
@@ -181,6 +190,11 @@ fn no_suitable_status(w: &Window, call: Call) -> bool {
     }
 }
 
+/// 12. The change stands in another entry's line (lock only).
+fn in_another_line(w: &Window, call: Call) -> bool {
+    matches!(call, Lock(c, e, _) if w.line.iter().any(|p| p.change as u32 == c && p.entry as u32 != e))
+}
+
 /// 8. A read has no lock on the entry, or a write no write lock.
 fn no_lock(w: &Window, call: Call) -> bool {
     match call {
@@ -217,7 +231,10 @@ fn effect(w: &mut Window, call: Call) -> Reply {
             return (0, w.changes.len() as u32);
         }
         Begin(c) => w.changes[place(c)].0 = 2,
-        Complete(c) => w.changes[place(c)].0 = 3,
+        Complete(c) => {
+            w.changes[place(c)].0 = 3;
+            w.line.retain(|p| p.change as u32 != c);
+        }
         Lock(c, e, mode) => return lock(w, c as u8, e as u8, mode as u8),
         Read(_, e) | Value(e) => return (0, w.values[e as usize]),
         Write(c, e, value) => {
@@ -236,18 +253,29 @@ fn effect(w: &mut Window, call: Call) -> Reply {
 }
 
 /// 0 if a lock held already covers the mode. Otherwise granted if each other holder whose lock clashes with the mode
-/// has a permit, to this change or to anybody, that contains the mode. Otherwise 20.
+/// has a permit, to this change or to anybody, that contains the mode, and no other change is first in the entry's
+/// line. Otherwise 20, and a place in line. Who gets 0 leaves the line.
 fn lock(w: &mut Window, c: u8, e: u8, mode: u8) -> Reply {
-    if w.held(e, c) >= mode {
-        return (0, 0);
+    if w.held(e, c) < mode {
+        let others: Vec<u8> =
+            w.locks.iter().filter(|l| l.0 == e && l.1 != c && (l.2 == 2 || mode == 2)).map(|l| l.1).collect();
+        let first = w.line.iter().find(|p| p.entry == e).map_or(c, |p| p.change);
+        if first != c || !others.iter().all(|holder| w.permitted(*holder, c, e, mode)) {
+            wait(w, c, e, mode);
+            return (20, 0);
+        }
+        raise_lock(w, e, c, mode);
     }
-    let others: Vec<u8> =
-        w.locks.iter().filter(|l| l.0 == e && l.1 != c && (l.2 == 2 || mode == 2)).map(|l| l.1).collect();
-    if !others.iter().all(|holder| w.permitted(*holder, c, e, mode)) {
-        return (20, 0);
-    }
-    raise_lock(w, e, c, mode);
+    w.line.retain(|p| p.change != c);
     (0, 0)
+}
+
+/// At the end of the entry's line; a repeated call keeps its place and takes the newer mode.
+fn wait(w: &mut Window, c: u8, e: u8, mode: u8) {
+    match w.line.iter_mut().find(|p| p.change == c) {
+        Some(p) => p.mode = mode,
+        None => w.line.push(Waiter { change: c, entry: e, mode }),
+    }
 }
 
 /// A lock meets one already held as the greater.
@@ -341,7 +369,7 @@ fn abort(w: &mut Window, c: u8) -> Reply {
     (0, end(w, &set, 5))
 }
 
-/// An ended change loses its locks, log records, ties, and permits given and received. How many ended.
+/// An ended change loses its locks, log records, ties, permits given and received, and its place in line. How many ended.
 fn end(w: &mut Window, set: &BTreeSet<u8>, status: u8) -> u32 {
     for c in set {
         w.changes[*c as usize - 1].0 = status;
@@ -350,5 +378,6 @@ fn end(w: &mut Window, set: &BTreeSet<u8>, status: u8) -> u32 {
     w.log.retain(|r| !set.contains(&r.owner));
     w.permits.retain(|p| !set.contains(&p.giver) && !set.contains(&p.taker));
     w.ties.retain(|t| !set.contains(&t.leader) && !set.contains(&t.follower));
+    w.line.retain(|p| !set.contains(&p.change));
     set.len() as u32
 }

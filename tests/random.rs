@@ -60,6 +60,8 @@ pub const DENSE: [usize; 15] = [1, 60, 80, 6, 260, 30, 120, 220, 60, 60, 8, 5, 1
 pub const WRITES: [usize; 15] = [0, 2, 4, 1, 20, 4, 80, 6, 12, 4, 1, 1, 2, 2, 4];
 pub const PERMITS: [usize; 15] = [0, 2, 4, 1, 30, 4, 12, 80, 14, 4, 1, 1, 2, 2, 2];
 pub const TIES: [usize; 15] = [0, 2, 4, 6, 8, 2, 8, 4, 4, 90, 2, 1, 4, 2, 2];
+/// Most locks have to wait.
+pub const LINES: [usize; 15] = [0, 8, 12, 4, 90, 2, 6, 8, 8, 2, 3, 3, 1, 1, 1];
 
 /// The next call of a list of this kind, on a window w.
 pub fn call(r: &mut Random, kind: &Kind, w: &Window) -> Call {
@@ -208,10 +210,10 @@ fn held(r: &mut Random, w: &Window, mode: u8) -> (u32, u32) {
     (*e as u32, *c as u32)
 }
 
-/// A lock that is permitted, one on an entry that is locked already, or any.
+/// A lock that is permitted, one on an entry that is locked already, one that waits asked for again, or any.
 fn lock(r: &mut Random, w: &Window) -> Call {
     let (c, mode) = (change(r, w, 2..=2), choice(r, 2));
-    match r.below(4) {
+    match r.below(7) {
         0 | 1 if !w.permits.is_empty() => {
             let p = &w.permits[r.below(w.permits.len())];
             let c = if p.taker == 0 || r.one_in(STRANGE) { c } else { p.taker as u32 };
@@ -219,6 +221,11 @@ fn lock(r: &mut Random, w: &Window) -> Call {
             Lock(c, p.entry as u32, mode)
         }
         2 if !w.locks.is_empty() => Lock(c, r.pick(&w.locks).0 as u32, mode),
+        3 | 4 | 5 if !w.line.is_empty() => {
+            let p = &w.line[if r.one_in(2) { 0 } else { r.below(w.line.len()) }];
+            let mode = if r.one_in(4) { mode } else { p.mode as u32 };
+            Lock(p.change as u32, p.entry as u32, mode)
+        }
         _ => Lock(c, entry(r, w), mode),
     }
 }
@@ -243,12 +250,13 @@ fn delegate(r: &mut Random, w: &Window) -> Call {
 
 /// A place of the window and a byte to put there: mostly a used place, or the next.
 pub fn damage(r: &mut Random, w: &Window, m: &[u8]) -> (usize, u8) {
-    use crate::model::{CHANGES, LOCKS, LOG, PERMITS, SIZE, TIES, VALUES};
+    use crate::model::{CHANGES, LINE, LOCKS, LOG, PERMITS, SIZE, TIES, VALUES};
     let spans = [
-        (0, 12),
+        (0, 14),
         (0, VALUES),
         (VALUES, 4 * w.entries + 4),
         (CHANGES, 4 * w.changes.len() + 8),
+        (LINE, 4 * w.line.len() + 4),
         (LOCKS, 64 * w.entries + 64),
         (PERMITS, 4 * w.permits.len() + 4),
         (TIES, 4 * w.ties.len() + 4),

@@ -28,7 +28,7 @@ const SHORT: usize = 3_000;
 const LONG: usize = 60;
 
 /// The answers that a line can get.
-const ANSWERS: [usize; 15] = [0, 1, 2, 3, 4, 5, 6, 7, 8, 9, 10, 11, 20, 21, 30];
+const ANSWERS: [usize; 16] = [0, 1, 2, 3, 4, 5, 6, 7, 8, 9, 10, 11, 12, 20, 21, 30];
 
 /// Ends the test with what went wrong.
 pub fn fail(what: String) -> ! {

@@ -1,7 +1,7 @@
 //! The same calls in the library and in the model, the one held to the other.
 use crate::demand::Story;
 use crate::library;
-use crate::model::{self, Window, SIZE};
+use crate::model::{self, Window, LINE, LOCKS, SIZE, WAITERS};
 use crate::perform::{perform, Call, Reply};
 use std::fmt;
 use std::ops::Range;
@@ -60,7 +60,7 @@ pub struct Trial {
     library: Vec<u8>,
     model: Vec<u8>,
     lent: Range<usize>,
-    /// The window after the last call answered 0, damage to it left out.
+    /// The window after the last call that may change it, damage to it left out.
     now: Window,
     /// The story since the last open; none once memory was damaged.
     story: Option<Story>,
@@ -91,7 +91,7 @@ impl Trial {
     /// Makes a call in both; an error says where they differ, or what does not hold of the library's.
     pub fn make(&mut self, call: Call) -> Result<Reply, String> {
         self.steps.push(Step::Make(call));
-        let before = self.library.clone();
+        let mut before = self.library.clone();
         let due = perform(&mut self.model[self.lent.clone()], call);
         let reply = library::make(&mut self.library[self.lent.clone()], call);
         if reply != due {
@@ -105,15 +105,22 @@ impl Trial {
                 self.model[at]
             ));
         }
-        if reply.0 != 0 {
-            if let Some(at) = self.differs(&before) {
-                return Err(format!(
-                    "{call} answers {} and changes byte {}",
-                    reply.0,
-                    at as isize - self.lent.start as isize
-                ));
+        // A blocked lock may change the line, and how many stand in it.
+        let waits = reply.0 == 20 && matches!(call, Call::Lock(..));
+        if waits {
+            for part in [WAITERS..WAITERS + 2, LINE..LOCKS] {
+                let part = self.lent.start + part.start..self.lent.start + part.end;
+                before[part.clone()].copy_from_slice(&self.library[part]);
             }
-        } else {
+        }
+        if let Some(at) = self.differs(&before).filter(|_| reply.0 != 0) {
+            return Err(format!(
+                "{call} answers {} and changes byte {}",
+                reply.0,
+                at as isize - self.lent.start as isize
+            ));
+        }
+        if reply.0 == 0 || waits {
             self.now =
                 model::window(self.memory()).filter(|w| w.sound()).ok_or(format!("{call} leaves no sound window"))?;
         }

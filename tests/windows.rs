@@ -1,5 +1,5 @@
 //! Sound windows for the tests and the benchmark.
-use crate::model::{Permit, Record, Tie, Window};
+use crate::model::{Permit, Record, Tie, Waiter, Window};
 
 fn permit(entry: u8, giver: u8, taker: u8, operations: u8) -> Permit {
     Permit { entry, giver, taker, operations }
@@ -11,6 +11,10 @@ fn tie(kind: u8, leader: u8, follower: u8) -> Tie {
 
 fn record(owner: u8, entry: u8, before: u32) -> Record {
     Record { owner, entry, before }
+}
+
+fn waiter(change: u8, entry: u8, mode: u8) -> Waiter {
+    Waiter { change, entry, mode }
 }
 
 /// Freshly opened.
@@ -70,6 +74,23 @@ pub fn crowded() -> Window {
 pub fn tied() -> Window {
     let mut w = with_changes(1, 8);
     w.ties = vec![tie(1, 1, 3), tie(1, 2, 6), tie(1, 4, 5), tie(2, 3, 5), tie(2, 6, 7), tie(3, 1, 2), tie(3, 3, 4), tie(3, 5, 6), tie(3, 7, 8)];
+    w
+}
+
+/// Three changes in the lines of two entries.
+pub fn waiting() -> Window {
+    let mut w = with_changes(3, 6);
+    w.changes[5].0 = 3;
+    w.locks = vec![(0, 1, 2), (2, 6, 1)];
+    w.line = vec![waiter(2, 0, 1), waiter(4, 2, 2), waiter(3, 0, 2)];
+    w
+}
+
+/// One entry that every change reads and stands in line to write.
+pub fn all_lines() -> Window {
+    let mut w = with_changes(1, 255);
+    w.locks = (1..=255u8).map(|c| (0, c, 1)).collect();
+    w.line = (1..=255u8).map(|c| waiter(c, 0, 2)).collect();
     w
 }
 

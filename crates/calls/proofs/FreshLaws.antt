@@ -10,7 +10,7 @@ use borrow.Author.Tests.{eqb-true, ne-eqb}
 use Rattle.rules.specs.Base.{all}
 use Rattle.rules.specs.Window.{fresh}
 use Rattle.rules.proofs.ListLaws.{all-getD}
-use Rattle.layout.specs.Codec.{windowSize, byte, headByte, valueByte, changeByte, lineByte, lockByte, permitBytes, permitByte, tieBytes, tieByte, recordBytes, logByte, figures, lay, encode}
+use Rattle.layout.specs.Codec.{windowSize, byte, headByte, valueByte, changeByte, waiterBytes, lineByte, lockByte, permitBytes, permitByte, tieBytes, tieByte, recordBytes, logByte, figures, lay, encode}
 use Rattle.layout.proofs.CodecLaws.{byte-zero, pack-none}
 use Rattle.layout.proofs.SectionLaws.{Section, section, sections, layOut, total, encode-sections}
 use Rattle.layout.proofs.RecordLaws.{table-zeros}
@@ -38,7 +38,7 @@ no-figure k = none (figures (fresh 0)) refl k
 
 -- a window of no entries is all zeros
 no-entries : AllZero (sections (figures (fresh 0)) (fresh 0))
-unfolding sections section fresh headByte valueByte changeByte lineByte lockByte permitByte permitBytes tieByte tieBytes logByte recordBytes
+unfolding sections section fresh headByte valueByte changeByte lineByte waiterBytes lockByte permitByte permitBytes tieByte tieBytes logByte recordBytes
 no-entries = (
   λ i. rw (no-figure (i / 2)) (byte-zero (i % 2)),
   (
@@ -46,7 +46,7 @@ no-entries = (
     (
       λ i. unfold all in none (0 ∷ 0 ∷ []) refl (i % 4),
       (
-        λ i. refl,
+        λ i. unfold all in none (0 ∷ 0 ∷ 0 ∷ 0 ∷ []) refl (i % 4),
         (
           λ i. pack-none 8 _ (λ b l. ne-eqb 0 (suc (i % 64 / 32)) (λ e. omega arith)),
           (

@@ -35,7 +35,7 @@ module _ (mem : List ℕ) (n : ℕ) where
 
     pub open-refused : outside 1 256 n ≡ true → (r : Reply) → (r .answer ≡ 2) × (r .number ≡ 0) → Gives (perform mem (Open n)) r mem
     open-refused o r e = let a : perform mem (Open n) .answer ≡ 2 = answered ∙ ap (λ b. cond b 2 0) o in
-        record { answer = e .0 ∙ sym a; number = e .1 ∙ sym (open-numbered mem n); bytes = sym (perform-still mem (Open n) .same (λ z. omega (arith, a, z))) }
+        record { answer = e .0 ∙ sym a; number = e .1 ∙ sym (open-numbered mem n); bytes = sym (perform-still mem (Open n) .same (λ z. omega (arith, a, z)) (λ z. omega (arith, a, z))) }
 
     pub open-done : outside 1 256 n ≡ false → (w : List ℕ) → w ≡ encode (fresh n) → (r : Reply) → (r .answer ≡ 0) × (r .number ≡ 0) → Gives (perform mem (Open n)) r (take 0 mem ++ (w ++ drop windowSize (drop 0 mem)))
     open-done o w q r e = let a : perform mem (Open n) .answer ≡ 0 = answered ∙ ap (λ b. cond b 2 0) o in

@@ -1,23 +1,25 @@
--- The effect of initiate, begin, complete and lock on the bytes of a sound window, from what the tables' functions leave of their sections. Assumes nothing.
+-- The effect of initiate, begin and complete on the bytes of a sound window, from what the tables' functions leave of their sections. Assumes nothing.
 use mathlib.Core.Path.{_≡_, refl, sym, _∙_}
-use mathlib.Core.Bool.{Bool, true, false}
+use mathlib.Core.Bool.{true, false}
 use mathlib.Core.List.{List}
-use Prim.Native.Nat.{ℕ, suc, _+_, _≤_, _<_}
+use Prim.Native.Nat.{ℕ, suc, _+_}
 use native.Mathlib.Omega.{arith}
-use borrow.Author.Tests.{lt-leb, le-leb}
 use lib.ListN.{take, drop, set}
-use Rattle.rules.specs.Base.{put, put2}
-use Rattle.rules.specs.Window.{Window, withStatus, withHeld}
-use Rattle.rules.specs.Calls.{Initiate, Lock, done}
-use Rattle.rules.specs.Effects.{effect, addChange, covers, grantable, putHeld, lockEntry}
-use Rattle.layout.specs.Codec.{changesAt, changesSize, locksAt, locksSize, figures, changeSection, lockSection, lay, decode}
+use Rattle.rules.specs.Base.{put}
+use Rattle.rules.specs.Window.{limits, Window, withStatus, withLine, noChange}
+use Rattle.rules.specs.Calls.{Initiate, Complete, done}
+use Rattle.rules.specs.Effects.{effect, leave, completeChange, addChange}
+use Rattle.rules.proofs.SoundLine.{leave-sound}
+use Rattle.rules.proofs.SoundParts.{Sound}
+use Rattle.layout.specs.Codec.{changesAt, changesSize, figures, changeSection, lay, decode, encode}
 use Rattle.layout.specs.Memory.{soundBytes}
 use Rattle.layout.proofs.PutLaws.{laidAt, withChanges}
-use Rattle.layout.proofs.LentLaws.{headLaid, FigureStored, changes-lent, statuses-back, locks-back, figure-stored}
-use Rattle.layout.proofs.MemoryLaws.{bytes-again, laid-known}
+use Rattle.layout.proofs.LentLaws.{headLaid, FigureStored, changes-lent, statuses-back, figure-stored}
+use Rattle.layout.proofs.MemoryLaws.{bytes-again, bytes-sound, encode-sound, laid-known}
+use Rattle.layout.proofs.SoundCodec.{sound-again}
 use Rattle.replies.specs.declared.Reply.{Reply}
 use Rattle.replies.specs.Gives.{Gives, written}
-use Rattle.replies.proofs.GiveLaws.{left, looked, given-done}
+use Rattle.replies.proofs.GiveLaws.{given-done}
 
 -- A CHANGE MORE, whose parts were put in place one by one
 module _ (W : Window) where
@@ -28,6 +30,26 @@ module _ (W : Window) where
   one-given : (n p : ℕ) → n ≡ suc (W .given) → set (figures W) 1 n ≡ figures (addChange W p)
   unfolding figures addChange
   one-given n p e = rw e refl
+
+-- A CHANGE OUT OF ITS LINE: the bytes are sound again, so that the next function may work on them
+module _ (bs : List ℕ) (s : soundBytes bs ≡ true) (c : ℕ) (out : List ℕ) (e : out ≡ encode (leave (decode bs) c)) where
+  left-sound : Sound limits (leave (decode bs) c)
+  left-sound = leave-sound limits (decode bs) (bytes-sound bs s) c
+
+  pub left-bytes : soundBytes out ≡ true
+  left-bytes = rw e (encode-sound _ left-sound)
+
+  left-window : decode out ≡ leave (decode bs) c
+  left-window = rw e (sound-again _ left-sound)
+
+  pub left-given : noChange (decode bs) c ≡ false → noChange (decode out) c ≡ false
+  unfolding noChange leave withLine
+  left-given h = rw left-window h
+
+  -- the status after it is the rules' step
+  pub complete-given : (r : Reply) (final : List ℕ) → Gives (written (done 0 (withStatus (decode out) (put (decode out .status) c 3)))) r final → Gives (written (effect (decode bs) (Complete c))) r final
+  unfolding effect completeChange leave withLine
+  complete-given r final g = rw left-window at g
 
 module _ (bs : List ℕ) (s : soundBytes bs ≡ true) (r : Reply) where
   pub status-given : (c x : ℕ) (out : List ℕ) → ((st pa : ℕ → ℕ) → take changesSize (drop changesAt bs) ≡ changeSection st pa → out ≡ changeSection (put st c x) pa)
@@ -46,21 +68,3 @@ module _ (bs : List ℕ) (s : soundBytes bs ≡ true) (r : Reply) where
       let b1 = changes-lent (figures W) W (laid-known bs s) _ _ (f W.status W.parent) in
       let b2 = changes-lent (figures W) (withChanges W (put W.status (g + 1) 1) W.parent) b1 _ _ (h (put W.status (g + 1) 1) W.parent) in
       given-done (suc W.given) (addChange W p) r _ (a .0, a .1 ∙ e) (figure-stored W (addChange W p) (b2 ∙ with-change W (g + 1) p e) 1 (g + 1) (omega arith) i (one-given W (g + 1) p e))
-
-  -- LOCK: a lock held covers the mode, others keep it from being granted, or it is granted
-  pub lock-covered : (c e m h : ℕ) → h ≡ decode bs .held e c → m ≤ h → (r .answer ≡ 0) × (r .number ≡ 0) → Gives (written (effect (decode bs) (Lock c e m))) r bs
-  unfolding effect lockEntry covers
-  lock-covered c e m h q l a = rw (le-leb m (decode bs .held e c) (omega arith)) (looked bs s 0 r a)
-
-  pub lock-blocked : (c e m h : ℕ) (b : Bool) → h ≡ decode bs .held e c → h < m → b ≡ grantable (decode bs) c e m → b ≡ false → (r .answer ≡ 20) × (r .number ≡ 0)
-      → Gives (written (effect (decode bs) (Lock c e m))) r bs
-  unfolding effect lockEntry covers
-  lock-blocked c e m h b q l g n a = rw (lt-leb m (decode bs .held e c) (omega arith), sym g ∙ n) (left bs s 20 0 r (a .0) (a .1))
-
-  pub lock-taken : (c e m h : ℕ) (b : Bool) (out : List ℕ) → h ≡ decode bs .held e c → h < m → b ≡ grantable (decode bs) c e m → b ≡ true
-      → ((held : ℕ → ℕ → ℕ) → take locksSize (drop locksAt bs) ≡ lockSection held → out ≡ lockSection (put2 held e c m))
-      → (r .answer ≡ 0) × (r .number ≡ 0) → Gives (written (effect (decode bs) (Lock c e m))) r (laidAt bs locksAt locksSize out)
-  unfolding effect lockEntry covers putHeld
-  lock-taken c e m h b out q l g t f a =
-      let W = decode bs in
-      rw (lt-leb m (W .held e c) (omega arith), sym g ∙ t) (given-done 0 (withHeld W (put2 W.held e c m)) r _ a (locks-back W (sym (bytes-again bs s)) _ (f W.held)))

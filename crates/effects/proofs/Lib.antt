@@ -3,5 +3,3 @@
 pub mod ArgumentLaws
 -- each call's effect
 pub mod EffectLaws
--- who keeps a lock from being granted
-pub mod LockLaws

@@ -1,26 +1,23 @@
-// What a call that changes a change or a lock does when it is not refused, on the bytes of a sound window. The number of a change, an entry or a mode that is not refused fits a byte.
+// What a call that changes a change does when it is not refused, and a place in line that is left, on the bytes of a sound window. The number of a change that is not refused fits a byte.
 use layout::Changes;
 use layout::Entries;
 use layout::Header;
 use layout::Line;
 use layout::Locks;
-use layout::Permits;
-use layout::Ties;
 use places::store_figure;
 use places::store_parent;
 use places::store_status;
 use replies::Reply;
 use replies::done;
-use replies::unchanged;
 ghost use mathlib.Core.Path.{_≡_};
 ghost use mathlib.Core.Bool.{true, false};
 ghost use lib.ListN.{length};
 ghost use Rattle.rules.specs.Base.{put};
 ghost use Rattle.rules.specs.Window.{limits, withStatus, noChange};
-ghost use Rattle.rules.specs.Calls.{Initiate, Begin, Complete, Lock, done as isDone};
-ghost use Rattle.rules.specs.Effects.{effect, grantable as isGrantable};
+ghost use Rattle.rules.specs.Calls.{Initiate, Begin, Complete, done as isDone};
+ghost use Rattle.rules.specs.Effects.{effect, leave};
 ghost use Rattle.rules.specs.Refusals.{checks, firstFailed};
-ghost use Rattle.layout.specs.Codec.{windowSize, decode};
+ghost use Rattle.layout.specs.Codec.{windowSize, decode, encode};
 ghost use Rattle.layout.specs.Memory.{soundBytes};
 ghost use Rattle.replies.specs.Gives.{Gives, written};
 
@@ -59,50 +56,25 @@ pub fn begin(w: &mut [u8], change: u32) -> Reply
     set_status(w, change, 2)
 }
 
-// The change is completed.
+// A change leaves its line.
+pub fn leave_line(w: &mut [u8], change: u32)
+    requires { ⌜ length (now w) ≡ windowSize ⌝ }
+    requires { ⌜ soundBytes (now w) ≡ true ⌝ }
+    requires { ⌜ noChange (decode (now w)) change ≡ false ⌝ }
+    ensures { λ _. ⌜ now (w .exit) ≡ encode (leave (decode (now (w .entry))) change) ⌝ }
+{
+    let count = reads::waiters(w);
+    let left = line::leave(&mut w[Line::AT..Locks::AT], count, change as u8);
+    store_figure(&mut w[Header::AT..Entries::AT], 5, left as u16);
+}
+
+// The change is completed, and leaves its line.
 pub fn complete(w: &mut [u8], change: u32) -> Reply
     requires { ⌜ length (now w) ≡ windowSize ⌝ }
     requires { ⌜ soundBytes (now w) ≡ true ⌝ }
     requires { ⌜ firstFailed (checks limits (decode (now w)) (Complete change)) ≡ 0 ⌝ }
     ensures { λ r. ⌜ Gives (written (effect (decode (now (w .entry))) (Complete change))) r (now (w .exit)) ⌝ }
 {
+    leave_line(w, change);
     set_status(w, change, 3)
-}
-
-// Whether each other holder whose lock clashes with the mode has a permit for the change that contains the mode.
-fn grantable(w: &[u8], change: u32, entry: u32, mode: u32) -> bool
-    requires { ⌜ length (now w) ≡ windowSize ⌝ }
-    requires { ⌜ soundBytes (now w) ≡ true ⌝ }
-    requires { ⌜ firstFailed (checks limits (decode (now w)) (Lock change entry mode)) ≡ 0 ⌝ }
-    ensures { λ r. ⌜ r ≡ isGrantable (decode (now (w .entry))) change entry mode ⌝ }
-{
-    let count = reads::permits(w);
-    let c = change as u8;
-    let e = entry as u8;
-    let m = mode as u8;
-    let clashing = locks::clashing(&w[Locks::AT..Permits::AT], e, m);
-    let givers = permits::givers(&w[Permits::AT..Ties::AT], count, c, e, m);
-    clashing.without(c).minus(givers).is_empty()
-}
-
-// The lock is granted, unless one held covers it or another's keeps it from being granted.
-pub fn lock(w: &mut [u8], change: u32, entry: u32, mode: u32) -> Reply
-    requires { ⌜ length (now w) ≡ windowSize ⌝ }
-    requires { ⌜ soundBytes (now w) ≡ true ⌝ }
-    requires { ⌜ firstFailed (checks limits (decode (now w)) (Lock change entry mode)) ≡ 0 ⌝ }
-    ensures { λ r. ⌜ Gives (written (effect (decode (now (w .entry))) (Lock change entry mode))) r (now (w .exit)) ⌝ }
-{
-    if mode <= reads::held(w, entry, change) as u32 {
-        return done(0);
-    }
-    if !grantable(w, change, entry, mode) {
-        return unchanged(20);
-    }
-    locks::grant(
-        &mut w[Locks::AT..Permits::AT],
-        entry as u8,
-        change as u8,
-        mode as u8,
-    );
-    done(0)
 }

@@ -6,7 +6,8 @@ use Prim.Native.Nat.{ℕ, _≤_, _<_, _^_}
 use native.Mathlib.Omega.{arith}
 use lib.ListN.{length, getD, take, drop, replicate}
 use Rattle.rules.specs.Sets.{Set, putAll}
-use Rattle.rules.specs.Window.{limits, LogRecord, Window, withValue, withStatus, withHeld, withLog, withPermits, withTies}
+use Rattle.rules.specs.Window.{limits, LogRecord, Window, withValue, withStatus, withHeld, withLog, withPermits, withTies, withLine}
+use Rattle.rules.specs.Line.{lineLeft}
 use Rattle.rules.specs.Effects.{released, isUnowned, unowned, permitsLeft, tiesLeft, endAll, undo}
 use Rattle.rules.proofs.ListLaws.{length-keep}
 use Rattle.rules.proofs.SoundPlain.{undo-sound}
@@ -36,8 +37,8 @@ statuses-and-locks W e m how entries n f g =
     locks-back (withStatus W (putAll m how (W .status))) (statuses-back W e (putAll m how (W .status)) (f (W .status) (W .parent))) (released m (W .held)) (g (W .held) n)
 
 -- all steps are the rules'
-all-ended : (how : ℕ) (m : Set) (W : Window) → withEnded how m (withTies (withPermits (withLog W (unowned m (W .log))) (permitsLeft m (W .permits))) (tiesLeft m (W .ties))) ≡ endAll how m W
-unfolding endAll withHeld withStatus withTies withPermits withLog
+all-ended : (how : ℕ) (m : Set) (W : Window) → withEnded how m (withLine (withTies (withPermits (withLog W (unowned m (W .log))) (permitsLeft m (W .permits))) (tiesLeft m (W .ties))) (lineLeft m (W .line))) ≡ endAll how m W
+unfolding endAll withHeld withStatus withLine withTies withPermits withLog
 all-ended how m W = refl
 
 module _ (bs : List ℕ) (s : soundBytes bs ≡ true) where
@@ -46,14 +47,16 @@ module _ (bs : List ℕ) (s : soundBytes bs ≡ true) where
   unfolding unowned
   log-fits m count r c h d = omega (arith, d (decode bs .log) (sym c) (log-known bs s) .count, length-keep (isUnowned m) (decode bs .log))
 
-  pub ended : (m : Set) (how entries permits ties : ℕ) {b1 b2 b3 b4 : List ℕ} → entries ≡ decode bs .entries → permits ≡ length (decode bs .permits) → ties ≡ length (decode bs .ties)
+  pub ended : (m : Set) (how entries permits ties waiters : ℕ) {b1 b2 b3 b4 b5 : List ℕ} → entries ≡ decode bs .entries → permits ≡ length (decode bs .permits) → ties ≡ length (decode bs .ties)
+      → waiters ≡ length (decode bs .line)
       → b1 ≡ encode (withLog (decode bs) (unowned m (decode bs .log)))
       → ((W : Window) → permits ≡ length (W .permits) → b1 ≡ encode W → b2 ≡ encode (withPermits W (permitsLeft m (W .permits))))
       → ((W : Window) → ties ≡ length (W .ties) → b2 ≡ encode W → b3 ≡ encode (withTies W (tiesLeft m (W .ties))))
-      → ((W : Window) → NoneFrom entries (W .held) → b3 ≡ encode W → b4 ≡ encode (withEnded how m W))
-      → b4 ≡ encode (endAll how m (decode bs))
-  unfolding withLog withPermits withTies
-  ended m how entries permits ties x y z e f g h = h _ (none-from bs s entries x) (g _ z (f _ y e)) ∙ ap encode (all-ended how m (decode bs))
+      → ((W : Window) → waiters ≡ length (W .line) → b3 ≡ encode W → b4 ≡ encode (withLine W (lineLeft m (W .line))))
+      → ((W : Window) → NoneFrom entries (W .held) → b4 ≡ encode W → b5 ≡ encode (withEnded how m W))
+      → b5 ≡ encode (endAll how m (decode bs))
+  unfolding withLog withPermits withTies withLine
+  ended m how entries permits ties waiters x y z w e f g l h = h _ (none-from bs s entries x) (l _ w (g _ z (f _ y e))) ∙ ap encode (all-ended how m (decode bs))
 
 -- UNDONE
 module _ (bs : List ℕ) (room : length bs ≡ windowSize) (copy : List ℕ) (c : copy ≡ patch (replicate valuesSize 0) 0 (take valuesSize (drop valuesAt bs))) where

@@ -15,7 +15,8 @@ ghost use mathlib.Core.Bool.{true};
 ghost use Prim.Native.Nat.{_≤_};
 ghost use lib.ListN.{length};
 ghost use Rattle.rules.specs.Sets.{putAll};
-ghost use Rattle.rules.specs.Window.{Window, withValue, withStatus, withHeld, withLog, withPermits, withTies};
+ghost use Rattle.rules.specs.Window.{Window, withValue, withStatus, withHeld, withLog, withPermits, withTies, withLine};
+ghost use Rattle.rules.specs.Line.{lineLeft};
 ghost use Rattle.rules.specs.Effects.{released, unowned, permitsLeft, tiesLeft, endAll, undo as undone};
 ghost use Rattle.layout.specs.Codec.{windowSize, decode, encode};
 ghost use Rattle.layout.specs.Memory.{soundBytes};
@@ -53,6 +54,16 @@ fn drop_ties(w: &mut [u8], count: usize, ended: ChangeSet)
     store_figure(&mut w[Header::AT..Entries::AT], 4, left as u16);
 }
 
+// Ended changes leave the line.
+fn drop_line(w: &mut [u8], count: usize, ended: ChangeSet)
+    requires { ⌜ length (now w) ≡ windowSize ⌝ }
+    requires { ⌜ count ≤ 255 ⌝ }
+    ensures { λ _. ⌜ ((W : Window) → count ≡ length (W .line) → now (w .entry) ≡ encode W → now (w .exit) ≡ encode (withLine W (lineLeft (members ended) (W .line)))) ⌝ }
+{
+    let left = line::drop_all(&mut w[Line::AT..Locks::AT], count, ended);
+    store_figure(&mut w[Header::AT..Entries::AT], 5, left as u16);
+}
+
 // Ended changes get their last status, and their locks go.
 fn set_ended(w: &mut [u8], entries: usize, ended: ChangeSet, how: u8)
     requires { ⌜ length (now w) ≡ windowSize ⌝ }
@@ -73,9 +84,11 @@ pub fn end_all(w: &mut [u8], ended: ChangeSet, how: u8)
     let entries = reads::entries(w);
     let permits = reads::permits(w);
     let ties = reads::ties(w);
+    let waiters = reads::waiters(w);
     drop_log(w, ended);
     drop_permits(w, permits, ended);
     drop_ties(w, ties, ended);
+    drop_line(w, waiters, ended);
     set_ended(w, entries, ended, how);
 }
 

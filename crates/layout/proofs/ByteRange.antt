@@ -1,6 +1,6 @@
 -- The bytes of a sound window are bytes, and a call leaves bytes where bytes were. Assumes nothing.
 use mathlib.Core.Path.{_≡_, refl}
-use mathlib.Core.Bool.{Bool, true, false}
+use mathlib.Core.Bool.{Bool, true, false, false≢true}
 use mathlib.Core.Logic.{⊎-elim}
 use mathlib.Core.List.{List, [], _∷_}
 use Prim.Native.Nat.{ℕ, zero, suc, _+_, _*_, _^_, _/_, _%_}
@@ -10,16 +10,17 @@ use lib.Dec.{ltb, eqb}
 use lib.ListN.{getD, drop}
 use borrow.Author.Tests.{ltb-true, lt-ltb, eqb-true, not-true}
 use Rattle.rules.specs.Base.{all, table}
-use Rattle.rules.specs.Window.{limits, fresh, LogRecord, PermitRecord, TieRecord, Window, live, noChange}
+use Rattle.rules.specs.Window.{limits, fresh, LogRecord, PermitRecord, TieRecord, LineRecord, Window, live, running, noChange}
 use Rattle.rules.specs.Calls.{Call, fits, Reply, Outcome}
 use Rattle.rules.specs.Refusals.{step}
-use Rattle.rules.specs.Sound.{statusSound, parentSound, recordSound, permitSound, tieSound}
-use Rattle.rules.proofs.BaseLaws.{and-right, or-cases}
+use Rattle.rules.specs.Sound.{statusSound, parentSound, recordSound, permitSound, tieSound, waiterSound}
+use Rattle.rules.proofs.BaseLaws.{Below, under, over, below, and-right, or-cases}
 use Rattle.rules.proofs.ListLaws.{all-weaken, all-join, all-getD, all-table}
 use Rattle.rules.proofs.RuleLaws.{is-open}
 use Rattle.rules.proofs.SoundStep.{step-sound, opened-sound}
-use Rattle.rules.proofs.SoundParts.{Sound, live-below, record-parts, permit-parts, tie-parts, inside-of, status-range, numbered}
-use Rattle.layout.specs.Codec.{lineByte, headSize, valuesSize, changesSize, lineSize, locksSize, permitsSize, tiesSize, logSize, byte, noRecord, noPermit, noTie, headByte, valueByte, changeByte, lockByte, recordBytes, logByte, permitBytes, permitByte, tieBytes, tieByte, figures, encode, windowSize}
+use Rattle.rules.proofs.LineLaws.{waiter-parts}
+use Rattle.rules.proofs.SoundParts.{Sound, status-none, live-below, record-parts, permit-parts, tie-parts, inside-of, status-range, numbered}
+use Rattle.layout.specs.Codec.{waiterBytes, lineByte, headSize, valuesSize, changesSize, lineSize, locksSize, permitsSize, tiesSize, logSize, byte, noRecord, noPermit, noTie, noWaiter, headByte, valueByte, changeByte, lockByte, recordBytes, logByte, permitBytes, permitByte, tieBytes, tieByte, figures, encode, windowSize}
 use Rattle.layout.specs.Memory.{windowOf, handBack, layInto, perform}
 use Rattle.layout.proofs.CodecLaws.{pack-most}
 use Rattle.layout.proofs.SoundCodec.{entries-most, given-most}
@@ -53,6 +54,15 @@ module _ (W : Window) (k : Sound limits W) where
 
   entry-small : (e : ℕ) → ltb e W.entries ≡ true → small e ≡ true
   entry-small e h = lt-ltb e 256 (omega (arith, ltb-true e W.entries h, entries-most W k))
+
+  -- who runs has a number
+  run-small : (c : ℕ) → running W c ≡ true → small c ≡ true
+  unfolding running
+  run-small c h = go (below c (suc W.given))
+    where
+      go : {b : Bool} → Below c (suc W.given) b → small c ≡ true
+      go (under l) = lt-ltb c 256 (omega (arith, given-most W k))
+      go (over l) = absurd (false≢true (rw (status-none limits W k c l) at h))
 
   head-small : (i : ℕ) → small (headByte (figures W) i) ≡ true
   unfolding headByte
@@ -110,12 +120,21 @@ module _ (W : Window) (k : Sound limits W) where
   unfolding tieByte
   tie-small i = place-small tieBytes W.ties noTie (tieSound (live W)) sound-tie (k .ties) (unfold tieBytes all in refl) (i / 4) (i % 4)
 
+  sound-waiter : (r : LineRecord) → waiterSound W.entries (running W) r ≡ true → all small (waiterBytes r) ≡ true
+  unfolding waiterBytes all
+  sound-waiter r h = let x = waiter-parts W.entries (running W) r h in
+      rw (run-small r.change (x .0), entry-small r.entry (x .1), lt-ltb r.mode 256 (omega (arith, inside-of 1 2 r.mode (not-true _ (x .2)) .1)))
+
+  line-small : (i : ℕ) → small (lineByte (W .line) i) ≡ true
+  unfolding lineByte
+  line-small i = place-small waiterBytes W.line noWaiter (waiterSound W.entries (running W)) sound-waiter (k .line) (unfold waiterBytes all in refl) (i / 4) (i % 4)
+
   encode-small : all small (encode W) ≡ true
-  unfolding sections valueByte lineByte
+  unfolding sections valueByte
   encode-small = rw (encode-sections W) (all-section small headSize (headByte (figures W)) _ head-small
       (all-section small valuesSize (valueByte (W .value)) _ (λ i. byte-small (i % 4) (W .value (i / 4)))
       (all-section small changesSize (changeByte (W .status) (W .parent)) _ change-small
-      (all-section small lineSize lineByte _ (λ i. refl)
+      (all-section small lineSize (lineByte (W .line)) _ line-small
       (all-section small locksSize (lockByte (W .held)) _ lock-small
       (all-section small permitsSize (permitByte (W .permits)) _ permit-small
       (all-section small tiesSize (tieByte (W .ties)) _ tie-small

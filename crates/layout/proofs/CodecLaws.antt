@@ -11,11 +11,11 @@ use Rattle.rules.specs.Base.{table}
 use Rattle.rules.specs.Window.{limits, Window}
 use Rattle.rules.proofs.BaseLaws.{Below, under, over, below}
 use Rattle.rules.proofs.SoundParts.{Blank}
-use Rattle.layout.specs.Codec.{byte, bit, pack, noRecord, noPermit, noTie, figures, headByte, valueByte, changeByte, lockByte, permitByte, tieByte, recordBytes, logByte, permitBytes, tieBytes, headSize, valuesSize, changesSize, locksSize, permitsSize, tiesSize, logSize, headAt, valuesAt, changesAt, locksAt, permitsAt, tiesAt, logAt, windowSize, encode, inside, join2, join4, unpack, readFigure, readValue, readStatus, readParent, readHeld, readRecord, readPermit, readTie, decode}
+use Rattle.layout.specs.Codec.{byte, bit, pack, noRecord, noPermit, noTie, noWaiter, figures, headByte, valueByte, changeByte, lockByte, permitByte, tieByte, lineByte, recordBytes, logByte, permitBytes, tieBytes, waiterBytes, headSize, valuesSize, changesSize, lineSize, locksSize, permitsSize, tiesSize, logSize, headAt, valuesAt, changesAt, lineAt, locksAt, permitsAt, tiesAt, logAt, windowSize, encode, inside, join2, join4, unpack, readFigure, readValue, readStatus, readParent, readHeld, readRecord, readPermit, readTie, readWaiter, decode}
 use Rattle.layout.proofs.SectionLaws.{section, sections, encode-sections, length-layOut, layOut-at, table-list}
-use Rattle.layout.proofs.RecordLaws.{first-byte, permit-again, tie-again}
+use Rattle.layout.proofs.RecordLaws.{first-byte, permit-again, tie-again, waiter-again}
 
--- the size of a window; the bytes of its sections but the line, read
+-- the size of a window; the bytes of its sections, read
 module _ (W : Window) where
   pub length-encode : length (encode W) ≡ windowSize
   unfolding sections section
@@ -32,6 +32,10 @@ module _ (W : Window) where
   changes-at : (i : ℕ) → i < changesSize → inside changesAt (encode W) i ≡ changeByte (W .status) (W .parent) i
   unfolding inside sections section
   changes-at i h = rw (encode-sections W) (layOut-at (sections (figures W) W) 2 i h)
+
+  line-at : (i : ℕ) → i < lineSize → inside lineAt (encode W) i ≡ lineByte (W .line) i
+  unfolding inside sections section
+  line-at i h = rw (encode-sections W) (layOut-at (sections (figures W) W) 3 i h)
 
   locks-at : (i : ℕ) → i < locksSize → inside locksAt (encode W) i ≡ lockByte (W .held) i
   unfolding inside sections section
@@ -128,9 +132,10 @@ pub record Canonical (W : Window) : Type 0 where
   pub before-most : (j : ℕ) → getD W.log j noRecord .before < 4294967296
   pub permits-most : length W.permits ≤ 1024
   pub ties-most : length W.ties ≤ 512
+  pub line-most : length W.line ≤ 255
 
 module _ (W : Window) where
-  figure-again : (k n : ℕ) → k < 5 → getD (figures W) k 0 ≡ n → n < 65536 → readFigure (encode W) k ≡ n
+  figure-again : (k n : ℕ) → k < 6 → getD (figures W) k 0 ≡ n → n < 65536 → readFigure (encode W) k ≡ n
   unfolding readFigure headByte
   figure-again k n h e m =
       let one : 1 < 2 = omega arith in
@@ -224,6 +229,14 @@ module _ (W : Window) where
   unfolding readTie
   tie-there j h = tie-again (inside tiesAt (encode W)) (getD W.ties j noTie) j (λ k l. tie-at j k h l)
 
+  waiter-at : (j i : ℕ) → j < 256 → i < 4 → inside lineAt (encode W) (j * 4 + i) ≡ getD (waiterBytes (getD W.line j noWaiter)) i 0
+  unfolding lineByte
+  waiter-at j i h l = line-at W (j * 4 + i) (omega arith) ∙ rw (digits-div j l, digits-mod j l)
+
+  waiter-there : (j : ℕ) → j < 256 → readWaiter (encode W) j ≡ getD W.line j noWaiter
+  unfolding readWaiter
+  waiter-there j h = waiter-again (inside lineAt (encode W)) (getD W.line j noWaiter) j (λ k l. waiter-at j k h l)
+
 module _ (W : Window) (k : Canonical W) where
   log-again : table (readFigure (encode W) 2) 0 (readRecord (encode W)) ≡ W .log
   unfolding figures
@@ -240,6 +253,11 @@ module _ (W : Window) (k : Canonical W) where
   ties-again = rw (figure-again W 4 (length W.ties) (omega arith) refl (omega (arith, k .ties-most)))
       (table-list noTie W.ties (readTie (encode W)) refl (λ j l. tie-there W j (omega (arith, k .ties-most))))
 
+  line-again : table (readFigure (encode W) 5) 0 (readWaiter (encode W)) ≡ W .line
+  unfolding figures
+  line-again = rw (figure-again W 5 (length W.line) (omega arith) refl (omega (arith, k .line-most)))
+      (table-list noWaiter W.line (readWaiter (encode W)) refl (λ j l. waiter-there W j (omega (arith, k .line-most))))
+
   pub decode-encode : decode (encode W) ≡ W
   unfolding limits decode figures
   decode-encode = λ i. record {
@@ -252,4 +270,5 @@ module _ (W : Window) (k : Canonical W) where
     log = log-again i;
     permits = permits-again i;
     ties = ties-again i;
+    line = line-again i;
   }

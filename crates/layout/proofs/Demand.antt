@@ -1,4 +1,4 @@
--- Demand 3 of the calls on lent memory. Assumes nothing.
+-- Demand 3 of the calls on lent memory, and who waits there. Assumes nothing.
 use mathlib.Core.Path.{_≡_, sym, _∙_}
 use mathlib.Core.Bool.{true}
 use mathlib.Core.Logic.{_↔_}
@@ -10,10 +10,12 @@ use Rattle.rules.specs.Window.{limits, Window}
 use Rattle.rules.specs.Calls.{Call, Open, fits}
 use Rattle.rules.specs.Refusals.{step}
 use Rattle.rules.specs.Lists.{history, highest, isGrouped, Grouped, Demand3}
+use Rattle.rules.specs.Waiting.{Queued}
 use Rattle.rules.proofs.Demand.{rules-kept, rules-highest}
-use Rattle.rules.proofs.DemandAlike.{Alike, demand-alike, history-alike}
+use Rattle.rules.proofs.DemandAlike.{Alike, demand-alike, queued-alike, history-alike}
 use Rattle.rules.proofs.DemandGroups.{rules-grouped}
 use Rattle.rules.proofs.RuleLaws.{open-number}
+use Rattle.rules.proofs.WaitingKept.{rules-queued}
 use Rattle.rules.proofs.SoundStep.{opened-fresh}
 use Rattle.layout.specs.Memory.{windowOf, perform}
 use Rattle.layout.proofs.MemoryLaws.{Holds, perform-answer, perform-number, perform-holds, open-answered, open-numbered, opened-bytes, opened-holds}
@@ -41,6 +43,10 @@ start mem n e =
 -- DEMAND 3, of every list of calls on lent memory
 pub bytes-kept : Demand3 perform
 bytes-kept = demand-alike perform (step limits) Holds alike start most (rules-kept limits)
+
+-- WHO COMES FIRST IS SERVED FIRST, of every list of calls on lent memory
+pub bytes-queued : Queued perform
+bytes-queued = queued-alike perform (step limits) Holds alike start (rules-queued limits)
 
 -- the test by which live groups are counted says what `Grouped` says
 pub bytes-grouped : (mem : List ℕ) (n : ℕ) → perform mem (Open n) .answer ≡ 0 → (l : List Call) → all fits l ≡ true → (a b : ℕ)

@@ -1,11 +1,16 @@
--- How long the sections of locks, permits, ties and the log are. Assumes nothing.
+-- How long the sections of the line, locks, permits, ties and the log are. Assumes nothing.
 use mathlib.Core.Path.{_≡_}
 use mathlib.Core.List.{List}
 use Prim.Native.Nat.{ℕ}
 use lib.ListN.{length}
-use Rattle.rules.specs.Window.{LogRecord, PermitRecord, TieRecord}
-use Rattle.layout.specs.Codec.{locksSize, permitsSize, tiesSize, logSize, lockByte, permitByte, tieByte, logByte, lockSection, permitSection, tieSection, logSection}
+use Rattle.rules.specs.Window.{LogRecord, PermitRecord, TieRecord, LineRecord}
+use Rattle.layout.specs.Codec.{lineSize, lineByte, lineSection, locksSize, permitsSize, tiesSize, logSize, lockByte, permitByte, tieByte, logByte, lockSection, permitSection, tieSection, logSection}
 use Rattle.layout.proofs.SectionLaws.{length-table}
+
+-- the line
+pub length-line : (l : List LineRecord) → length (lineSection l) ≡ lineSize
+unfolding lineSection
+length-line l = length-table lineSize 0 (lineByte l)
 
 -- the locks
 pub length-locks : (held : ℕ → ℕ → ℕ) → length (lockSection held) ≡ locksSize

@@ -4,11 +4,11 @@ use mathlib.Core.List.{List}
 use Prim.Native.Nat.{ℕ, _<_}
 use native.Mathlib.Omega.{arith}
 use lib.ListN.{length, take, drop, set}
-use Rattle.rules.specs.Window.{LogRecord, PermitRecord, TieRecord, Window, withValue, withStatus, withHeld, withLog, withPermits, withTies}
-use Rattle.layout.specs.Codec.{headAt, headSize, valuesAt, valuesSize, changesAt, changesSize, locksAt, locksSize, permitsAt, permitsSize, tiesAt, tiesSize, logAt, logSize, figures, headSection, valueSection, changeSection, lockSection, permitSection, tieSection, logSection, lay, encode}
+use Rattle.rules.specs.Window.{LogRecord, PermitRecord, TieRecord, LineRecord, Window, withValue, withStatus, withHeld, withLog, withPermits, withTies, withLine}
+use Rattle.layout.specs.Codec.{headAt, headSize, valuesAt, valuesSize, changesAt, changesSize, lineAt, lineSize, locksAt, locksSize, permitsAt, permitsSize, tiesAt, tiesSize, logAt, logSize, figures, headSection, valueSection, changeSection, lineSection, lockSection, permitSection, tieSection, logSection, lay, encode}
 use Rattle.layout.specs.Records.{Tabled}
-use Rattle.layout.proofs.PartLaws.{head-part, values-part, changes-part, locks-part, permits-part, ties-part, log-part}
-use Rattle.layout.proofs.PutLaws.{laidAt, withChanges, head-put, values-put, changes-put, locks-put, permits-put, ties-put, log-put}
+use Rattle.layout.proofs.PartLaws.{head-part, values-part, changes-part, line-part, locks-part, permits-part, ties-part, log-part}
+use Rattle.layout.proofs.PutLaws.{laidAt, withChanges, head-put, values-put, changes-put, line-put, locks-put, permits-put, ties-put, log-put}
 
 -- the bytes with another header
 abbrev pub headLaid : List ℕ → List ℕ → List ℕ
@@ -32,6 +32,9 @@ module _ {bs : List ℕ} (fs : List ℕ) (W : Window) (e : bs ≡ lay fs W) {out
   pub changes-lent : (s p : ℕ → ℕ) → (take changesSize (drop changesAt bs) ≡ changeSection (W .status) (W .parent) → out ≡ changeSection s p)
       → laidAt bs changesAt changesSize out ≡ lay fs (withChanges W s p)
   changes-lent s p = lent changesAt changesSize (changes-part fs W) (changes-put fs W s p) e
+
+  line-lent : (x : List LineRecord) → (take lineSize (drop lineAt bs) ≡ lineSection (W .line) → out ≡ lineSection x) → laidAt bs lineAt lineSize out ≡ lay fs (withLine W x)
+  line-lent x = lent lineAt lineSize (line-part fs W) (line-put fs W x) e
 
   locks-lent : (x : ℕ → ℕ → ℕ) → (take locksSize (drop locksAt bs) ≡ lockSection (W .held) → out ≡ lockSection x) → laidAt bs locksAt locksSize out ≡ lay fs (withHeld W x)
   locks-lent x = lent locksAt locksSize (locks-part fs W) (locks-put fs W x) e
@@ -62,7 +65,7 @@ module _ (W : Window) {bs : List ℕ} (e : bs ≡ encode W) {out : List ℕ} whe
   locks-back x = locks-lent (figures W) W e x
 
 -- the figures brought up to date after the sections: the bytes of the new window
-pub figure-stored : {bs : List ℕ} (W W′ : Window) → bs ≡ lay (figures W) W′ → {out : List ℕ} (k v : ℕ) → k < 5 → FigureStored bs k v out → set (figures W) k v ≡ figures W′
+pub figure-stored : {bs : List ℕ} (W W′ : Window) → bs ≡ lay (figures W) W′ → {out : List ℕ} (k v : ℕ) → k < 6 → FigureStored bs k v out → set (figures W) k v ≡ figures W′
     → headLaid bs out ≡ encode W′
 unfolding encode figures
 figure-stored W W′ e k v h f q = head-lent (figures W) W′ e k v h f ∙ ap (λ fs. lay fs W′) q
@@ -86,3 +89,9 @@ module _ (W : Window) {bs : List ℕ} (e : bs ≡ encode W) {r : ℕ} {out head 
   unfolding encode figures withTies
   ties-back {x} f g = let t = f (ap (λ l. take tiesSize (drop tiesAt l)) e ∙ ties-part (figures W) W) in
       figure-stored W (withTies W x) (ties-lent (figures W) W e x (λ _. t .bytes)) 4 r (omega arith) g (rw (t .count))
+
+  pub line-back : {x : List LineRecord} → (take lineSize (drop lineAt bs) ≡ lineSection (W .line) → Tabled lineSection x r out) → FigureStored (laidAt bs lineAt lineSize out) 5 r head
+      → headLaid (laidAt bs lineAt lineSize out) head ≡ encode (withLine W x)
+  unfolding encode figures withLine
+  line-back {x} f g = let t = f (ap (λ l. take lineSize (drop lineAt l)) e ∙ line-part (figures W) W) in
+      figure-stored W (withLine W x) (line-lent (figures W) W e x (λ _. t .bytes)) 5 r (omega arith) g (rw (t .count))

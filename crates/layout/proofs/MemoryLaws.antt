@@ -15,7 +15,7 @@ use Rattle.rules.specs.Calls.{Call, Open, fits, Reply, Outcome}
 use Rattle.rules.specs.Refusals.{step}
 use Rattle.rules.specs.Events.{actionOf, isOpening, isOpen}
 use Rattle.rules.proofs.BaseLaws.{and-left, and-right, and-both, eqb-same, Same, same, other, same?}
-use Rattle.rules.proofs.RuleLaws.{quiet, open-answer, open-number}
+use Rattle.rules.proofs.RuleLaws.{placed, quiet, open-answer, open-number}
 use Rattle.rules.proofs.SoundParts.{Sound, sound-parts, parts-sound}
 use Rattle.rules.proofs.SoundStep.{step-sound, opened-sound, opened-fresh}
 use Rattle.layout.specs.Codec.{headAt, headSize, valuesAt, valuesSize, changesAt, changesSize, lineAt, lineSize, locksAt, locksSize, permitsAt, permitsSize, tiesAt, tiesSize, logAt, logSize, windowSize, figures, headSection, valueSection, changeSection, lineSection, lockSection, permitSection, tieSection, logSection, lay, decode, encode}
@@ -70,8 +70,8 @@ module _ (bs : List ℕ) (s : soundBytes bs ≡ true) where
   pub changes-known : take changesSize (drop changesAt bs) ≡ changeSection (decode bs .status) (decode bs .parent)
   changes-known = part-known changesAt changesSize (changes-part _ _)
 
-  pub line-known : take lineSize (drop lineAt bs) ≡ lineSection
-  line-known = part-known lineAt lineSize (line-part (figures (decode bs)) (decode bs))
+  pub line-known : take lineSize (drop lineAt bs) ≡ lineSection (decode bs .line)
+  line-known = part-known lineAt lineSize (line-part _ _)
 
   pub locks-known : take locksSize (drop locksAt bs) ≡ lockSection (decode bs .held)
   locks-known = part-known locksAt locksSize (locks-part _ _)
@@ -224,25 +224,29 @@ module _ (mem : List ℕ) where
       let a : step limits (fresh 0) (Open n) .answer ≡ 0 = sym (open-answered (fresh 0) n (o .room)) ∙ h in
       rw (o .bytes) (laid (fresh n) (rw (opened-fresh limits (fresh 0) n a) at (opened-sound limits (fresh 0) n a)) (drop windowSize mem))
 
-  -- REFUSED OR BLOCKED: no byte changes; and, unless blocked, the second number is 0
+  -- REFUSED: no byte changes, and the second number is 0
   pub record Still (r : Reply (List ℕ)) : Type 0 where
-    pub same : r .answer ≢ 0 → r .after ≡ mem
+    pub same : r .answer ≢ 0 → r .answer ≢ 20 → r .after ≡ mem
     pub number : r .answer ≢ 0 → r .answer ≢ 20 → r .number ≡ 0
 
   pub perform-still : (c : Call) → Still (perform mem c)
   perform-still c = go (performed c)
     where
       back : (a : ℕ) → Still (handBack mem a)
-      back a = unfold handBack in record { same = λ h. refl; number = λ h k. refl }
+      back a = unfold handBack in record { same = λ h k. refl; number = λ h k. refl }
 
       go : {r : Reply (List ℕ)} → Performed c r → Still r
       go refused = back 1
       go (ruled q) = unfold layInto in record {
-        same = λ h. ap (λ X. encode X ++ drop windowSize mem) (quiet limits (windowOf mem) c .same h) ∙ memory-again mem q;
+        same = λ h k. ap (λ X. encode X ++ drop windowSize mem) (quiet limits (windowOf mem) c .same h k) ∙ memory-again mem q;
         number = quiet limits (windowOf mem) c .number;
       }
-      go (begun l o e) = unfold layInto in record { same = λ h. absurd (h e); number = quiet limits (fresh 0) c .number }
+      go (begun l o e) = unfold layInto in record { same = λ h k. absurd (h e); number = quiet limits (fresh 0) c .number }
       go (kept n) = back _
+
+  -- BLOCKED: a lock's place in line is stored, and a commit changes no byte
+  pub perform-blocked : (c : Call) → soundMemory mem ≡ true → perform mem c .answer ≡ 20 → perform mem c .after ≡ encode (placed (windowOf mem) (actionOf c)) ++ drop windowSize mem
+  perform-blocked c h b = perform-after c h ∙ ap (λ X. encode X ++ drop windowSize mem) (quiet limits (windowOf mem) c .blocks (sym (perform-answer c h) ∙ b))
 
   -- PAST THE WINDOW: what lies there is as it was, and the memory is as long
   pub record Tail (bytes : List ℕ) : Type 0 where

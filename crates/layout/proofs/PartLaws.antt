@@ -22,7 +22,7 @@ module _ (fs : List ℕ) (W : Window) where
   unfolding changeSection sections section
   changes-part = rw (lay-sections fs W) (layOut-part (sections fs W) 2)
 
-  pub line-part : take lineSize (drop lineAt (lay fs W)) ≡ lineSection
+  pub line-part : take lineSize (drop lineAt (lay fs W)) ≡ lineSection W.line
   unfolding lineSection sections section
   line-part = rw (lay-sections fs W) (layOut-part (sections fs W) 3)
 

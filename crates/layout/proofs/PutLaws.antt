@@ -6,8 +6,8 @@ use native.Mathlib.Omega.{arith}
 use lib.ListN.{length, take, drop}
 use lib.Seq.{drop-drop}
 use Rattle.rules.specs.Base.{table}
-use Rattle.rules.specs.Window.{LogRecord, PermitRecord, TieRecord, Window, withValue, withHeld, withLog, withPermits, withTies}
-use Rattle.layout.specs.Codec.{headAt, headSize, valuesAt, valuesSize, changesAt, changesSize, locksAt, locksSize, permitsAt, permitsSize, tiesAt, tiesSize, logAt, logSize, headByte, valueByte, changeByte, lockByte, permitByte, tieByte, logByte, headSection, valueSection, changeSection, lockSection, permitSection, tieSection, logSection, lay}
+use Rattle.rules.specs.Window.{LogRecord, PermitRecord, TieRecord, LineRecord, Window, withValue, withHeld, withLog, withPermits, withTies, withLine}
+use Rattle.layout.specs.Codec.{headAt, headSize, valuesAt, valuesSize, changesAt, changesSize, lineAt, lineSize, locksAt, locksSize, permitsAt, permitsSize, tiesAt, tiesSize, logAt, logSize, headByte, valueByte, changeByte, lineByte, lockByte, permitByte, tieByte, logByte, headSection, valueSection, changeSection, lineSection, lockSection, permitSection, tieSection, logSection, lay}
 use Rattle.layout.proofs.SectionLaws.{Section, section, layOut, sections, lay-sections, offset, nth, replaced, layOut-put}
 
 -- the bytes with others in the place of a part: the form in which the borrow checker hands a lent part back
@@ -19,7 +19,7 @@ put-back l k g h = ap (λ r. take (offset l k) (layOut l) ++ (table (nth l k .si
 
 -- a window with other statuses and parents
 unfoldable pub withChanges : Window → (ℕ → ℕ) → (ℕ → ℕ) → Window
-withChanges W s p = record { entries = W.entries; value = W.value; given = W.given; status = s; parent = p; held = W.held; log = W.log; permits = W.permits; ties = W.ties }
+withChanges W s p = record { entries = W.entries; value = W.value; given = W.given; status = s; parent = p; held = W.held; log = W.log; permits = W.permits; ties = W.ties; line = W.line }
 
 module _ (fs : List ℕ) (W : Window) where
   pub head-put : (gs : List ℕ) → laidAt (lay fs W) headAt headSize (headSection gs) ≡ lay gs W
@@ -33,6 +33,10 @@ module _ (fs : List ℕ) (W : Window) where
   pub changes-put : (s p : ℕ → ℕ) → laidAt (lay fs W) changesAt changesSize (changeSection s p) ≡ lay fs (withChanges W s p)
   unfolding changeSection sections section withChanges
   changes-put s p = rw (lay-sections fs W, lay-sections fs (withChanges W s p)) (put-back (sections fs W) 2 (changeByte s p) (omega arith))
+
+  pub line-put : (x : List LineRecord) → laidAt (lay fs W) lineAt lineSize (lineSection x) ≡ lay fs (withLine W x)
+  unfolding lineSection sections section withLine
+  line-put x = rw (lay-sections fs W, lay-sections fs (withLine W x)) (put-back (sections fs W) 3 (lineByte x) (omega arith))
 
   pub locks-put : (x : ℕ → ℕ → ℕ) → laidAt (lay fs W) locksAt locksSize (lockSection x) ≡ lay fs (withHeld W x)
   unfolding lockSection sections section withHeld

@@ -1,4 +1,4 @@
--- Permits and ties read from a section by their places; a tie that stands, by its place. Assumes nothing.
+-- Permits, places in line and ties read from a section by their places; a tie that stands, by its place. Assumes nothing.
 use mathlib.Core.Path.{_≡_, _∙_, ap}
 use mathlib.Core.Bool.{Bool, true, _&&_}
 use mathlib.Core.List.{List}
@@ -6,14 +6,14 @@ use Prim.Native.Nat.{ℕ, _+_, _*_, _≤_, _<_}
 use native.Mathlib.Omega.{arith}
 use lib.Dec.{eqb}
 use lib.ListN.{length, getD}
-use Rattle.rules.specs.Window.{PermitRecord, TieRecord}
+use Rattle.rules.specs.Window.{PermitRecord, TieRecord, LineRecord}
 use Rattle.rules.specs.Ties.{tied}
 use Rattle.rules.proofs.BaseLaws.{and-eqs, eqb-same}
 use Rattle.rules.proofs.ListLaws.{any-at, any-place}
-use Rattle.layout.specs.Codec.{noPermit, permitBytes, permitByte, permitSection, noTie, tieBytes, tieByte, tieSection}
-use Rattle.layout.specs.Records.{permitAt, tieAt}
+use Rattle.layout.specs.Codec.{noPermit, permitBytes, permitByte, permitSection, noTie, tieBytes, tieByte, tieSection, noWaiter, waiterBytes, lineByte, lineSection}
+use Rattle.layout.specs.Records.{permitAt, tieAt, waiterAt}
 use Rattle.layout.proofs.LengthLaws.{length-ties}
-use Rattle.layout.proofs.RecordLaws.{placed, place-at, permit-again, tie-again}
+use Rattle.layout.proofs.RecordLaws.{placed, place-at, permit-again, tie-again, waiter-again}
 use Rattle.layout.proofs.SectionLaws.{Bytes}
 
 -- PERMITS
@@ -21,6 +21,12 @@ use Rattle.layout.proofs.SectionLaws.{Bytes}
 pub permit-read : (ps : List PermitRecord) (j : ℕ) → j < 1024 → permitAt (permitSection ps) j ≡ getD ps j noPermit
 unfolding permitAt permitSection permitByte placed
 permit-read ps j h = permit-again (λ i. getD (permitSection ps) i 0) (getD ps j noPermit) j (λ k l. place-at 4 permitBytes noPermit 1024 ps j k h l)
+
+-- THE LINE
+-- each place of a section holds who waits there
+pub waiter-read : (l : List LineRecord) (j : ℕ) → j < 256 → waiterAt (lineSection l) j ≡ getD l j noWaiter
+unfolding waiterAt lineSection lineByte placed
+waiter-read l j h = waiter-again (λ i. getD (lineSection l) i 0) (getD l j noWaiter) j (λ k t. place-at 4 waiterBytes noWaiter 256 l j k h t)
 
 -- TIES
 -- the ties read from a section are those that it holds

@@ -9,9 +9,9 @@ use native.Mathlib.Omega.{arith}
 use lib.Arith.{digits-lt, digits-div, digits-mod}
 use lib.ListN.{getD, length, replicate, length-replicate, getD-replicate, List·getD-eq-default}
 use Rattle.rules.specs.Base.{table}
-use Rattle.rules.specs.Window.{LogRecord, PermitRecord, TieRecord}
+use Rattle.rules.specs.Window.{LogRecord, PermitRecord, TieRecord, LineRecord}
 use Rattle.rules.proofs.BaseLaws.{Below, under, over, below}
-use Rattle.layout.specs.Codec.{noRecord, noPermit, noTie, byte, permitBytes, permitByte, tieBytes, tieByte, recordBytes, logByte, permitSection, tieSection, logSection, permitIn, tieIn}
+use Rattle.layout.specs.Codec.{noRecord, noPermit, noTie, noWaiter, byte, permitBytes, permitByte, tieBytes, tieByte, waiterBytes, lineByte, recordBytes, logByte, permitSection, tieSection, lineSection, logSection, permitIn, tieIn, waiterIn}
 use Rattle.layout.proofs.SectionLaws.{length-table, getD-table0, table-list, table-same}
 
 -- tables
@@ -57,7 +57,7 @@ module _ {ℓ} {A : Type ℓ} (w : ℕ) (pos : 0 < w) (bytes : A → List ℕ) (
       ∙ sym (append-assoc (bytes x) (flatMap bytes l) (replicate ((most - length l) * w) 0))
       ∙ ap (λ k. (bytes x ++ flatMap bytes l) ++ replicate (k * w) 0) (sym (suc-sub-suc most (length l)))
 
--- the three sections of records
+-- the four sections of records
 pub permits-flat : (l : List PermitRecord) → length l ≤ 1024 → permitSection l ≡ flatMap permitBytes l ++ replicate ((1024 - length l) * 4) 0
 unfolding permitSection permitByte permitBytes placed
 permits-flat l h = records-flat 4 (omega arith) permitBytes noPermit (λ p. refl) refl 1024 l h
@@ -65,6 +65,10 @@ permits-flat l h = records-flat 4 (omega arith) permitBytes noPermit (λ p. refl
 pub ties-flat : (l : List TieRecord) → length l ≤ 512 → tieSection l ≡ flatMap tieBytes l ++ replicate ((512 - length l) * 4) 0
 unfolding tieSection tieByte tieBytes placed
 ties-flat l h = records-flat 4 (omega arith) tieBytes noTie (λ p. refl) refl 512 l h
+
+pub line-flat : (l : List LineRecord) → length l ≤ 256 → lineSection l ≡ flatMap waiterBytes l ++ replicate ((256 - length l) * 4) 0
+unfolding lineSection lineByte waiterBytes placed
+line-flat l h = records-flat 4 (omega arith) waiterBytes noWaiter (λ p. refl) refl 256 l h
 
 pub log-flat : (l : List LogRecord) → length l ≤ 2048 → logSection l ≡ flatMap recordBytes l ++ replicate ((2048 - length l) * 6) 0
 unfolding logSection logByte recordBytes placed byte
@@ -82,6 +86,10 @@ permit-again f x j h = λ i. record { entry = (first-byte f (j * 4) ∙ h 0 (ome
 pub tie-again : (f : ℕ → ℕ) (x : TieRecord) (j : ℕ) → ((k : ℕ) → k < 4 → f (j * 4 + k) ≡ getD (tieBytes x) k 0) → tieIn f j ≡ x
 unfolding tieBytes
 tie-again f x j h = λ i. record { kind = (first-byte f (j * 4) ∙ h 0 (omega arith)) i; leader = h 1 (omega arith) i; follower = h 2 (omega arith) i }
+
+pub waiter-again : (f : ℕ → ℕ) (x : LineRecord) (j : ℕ) → ((k : ℕ) → k < 4 → f (j * 4 + k) ≡ getD (waiterBytes x) k 0) → waiterIn f j ≡ x
+unfolding waiterBytes
+waiter-again f x j h = λ i. record { change = (first-byte f (j * 4) ∙ h 0 (omega arith)) i; entry = h 1 (omega arith) i; mode = h 2 (omega arith) i }
 
 -- A SECTION THAT HAS w BYTES FOR EACH PLACE
 module _ (w n : ℕ) where

@@ -53,7 +53,7 @@ layOut (s ∷ l) = table s.size 0 s.content ++ layOut l
 
 -- those of a window, with any figures in the header
 unfoldable pub sections : List ℕ → Window → List Section
-sections fs W = section headSize (headByte fs) ∷ section valuesSize (valueByte W.value) ∷ section changesSize (changeByte W.status W.parent) ∷ section lineSize lineByte
+sections fs W = section headSize (headByte fs) ∷ section valuesSize (valueByte W.value) ∷ section changesSize (changeByte W.status W.parent) ∷ section lineSize (lineByte W.line)
     ∷ section locksSize (lockByte W.held) ∷ section permitsSize (permitByte W.permits) ∷ section tiesSize (tieByte W.ties) ∷ section logSize (logByte W.log) ∷ []
 
 pub lay-sections : (fs : List ℕ) (W : Window) → lay fs W ≡ layOut (sections fs W)

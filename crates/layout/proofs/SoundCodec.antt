@@ -37,6 +37,7 @@ sound-canonical W k = record {
   before-most = λ j. ltb-true (getD W.log j noRecord .before) 4294967296 (all-getD (λ r. ltb r.before 4294967296) W.log j noRecord (all-weaken (recordSound W.entries (live W) W.held) _ (λ r h. record-parts W.entries (live W) W.held r h .2) W.log (k .records)) refl);
   permits-most = within-of (length W.permits) 1024 (k .room-permits);
   ties-most = within-of (length W.ties) 512 (k .room-ties);
+  line-most = within-of (length W.line) 255 (k .room-line);
 }
 
 -- it is what its bytes say

@@ -5,7 +5,7 @@ use Prim.Native.Nat.{ℕ, zero, suc, _+_, _*_, _/_, _%_, _^_}
 use lib.Dec.{ltb, eqb}
 use lib.ListN.{getD, length}
 use Rattle.rules.specs.Base.{table}
-use Rattle.rules.specs.Window.{LogRecord, PermitRecord, TieRecord, Window}
+use Rattle.rules.specs.Window.{LogRecord, PermitRecord, TieRecord, LineRecord, Window}
 
 -- THE TABLE OF SECTIONS: where each begins, and its bytes
 -- header: 32 places of 2 bytes
@@ -29,7 +29,7 @@ changesAt = 1088
 abbrev pub changesSize : ℕ
 changesSize = 1024
 
--- the line: 256 places of 4 bytes, reserved
+-- the line: 256 places of 4 bytes
 abbrev pub lineAt : ℕ
 lineAt = 2112
 
@@ -91,6 +91,9 @@ noPermit = record { giver = 0; taker = 0; entry = 0; ops = 0 }
 abbrev pub noTie : TieRecord
 noTie = record { kind = 0; leader = 0; follower = 0 }
 
+abbrev pub noWaiter : LineRecord
+noWaiter = record { change = 0; entry = 0; mode = 0 }
+
 -- BYTE i OF EACH SECTION, from the part of the window that it holds
 -- header: the figures, two bytes each, and the rest reserved
 unfoldable pub headByte : List ℕ → ℕ → ℕ
@@ -104,9 +107,12 @@ valueByte value i = byte (i % 4) (value (i / 4))
 unfoldable pub changeByte : (ℕ → ℕ) → (ℕ → ℕ) → ℕ → ℕ
 changeByte status parent i = getD (status (i / 4) ∷ parent (i / 4) ∷ []) (i % 4) 0
 
--- the line: reserved
-unfoldable pub lineByte : ℕ → ℕ
-lineByte i = 0
+-- the line: change, entry, mode, and a byte that is 0
+unfoldable pub waiterBytes : LineRecord → List ℕ
+waiterBytes r = r.change ∷ r.entry ∷ r.mode ∷ 0 ∷ []
+
+unfoldable pub lineByte : List LineRecord → ℕ → ℕ
+lineByte l i = getD (waiterBytes (getD l (i / 4) noWaiter)) (i % 4) 0
 
 -- locks: for each entry 32 bytes of readers' bits and 32 of writers' bits, bit c for change c
 unfoldable pub lockByte : (ℕ → ℕ → ℕ) → ℕ → ℕ
@@ -136,7 +142,7 @@ logByte log i = getD (recordBytes (getD log (i / 6) noRecord)) (i % 6) 0
 -- A WINDOW AS BYTES
 -- the figures that the header holds
 unfoldable pub figures : Window → List ℕ
-figures W = W.entries ∷ W.given ∷ length W.log ∷ length W.permits ∷ length W.ties ∷ []
+figures W = W.entries ∷ W.given ∷ length W.log ∷ length W.permits ∷ length W.ties ∷ length W.line ∷ []
 
 -- the sections, each whole
 unfoldable pub headSection : List ℕ → List ℕ
@@ -148,8 +154,8 @@ valueSection value = table valuesSize 0 (valueByte value)
 unfoldable pub changeSection : (ℕ → ℕ) → (ℕ → ℕ) → List ℕ
 changeSection status parent = table changesSize 0 (changeByte status parent)
 
-unfoldable pub lineSection : List ℕ
-lineSection = table lineSize 0 lineByte
+unfoldable pub lineSection : List LineRecord → List ℕ
+lineSection line = table lineSize 0 (lineByte line)
 
 unfoldable pub lockSection : (ℕ → ℕ → ℕ) → List ℕ
 lockSection held = table locksSize 0 (lockByte held)
@@ -165,7 +171,7 @@ logSection log = table logSize 0 (logByte log)
 
 -- one after the other, with any figures in the header: what stands in the bytes while a call is at work
 unfoldable pub lay : List ℕ → Window → List ℕ
-lay figures W = headSection figures ++ (valueSection W.value ++ (changeSection W.status W.parent ++ (lineSection
+lay figures W = headSection figures ++ (valueSection W.value ++ (changeSection W.status W.parent ++ (lineSection W.line
     ++ (lockSection W.held ++ (permitSection W.permits ++ (tieSection W.ties ++ logSection W.log))))))
 
 -- with its own
@@ -211,6 +217,9 @@ permitIn f j = record { entry = f (j * 4); giver = f (j * 4 + 1); taker = f (j *
 abbrev pub tieIn : (ℕ → ℕ) → ℕ → TieRecord
 tieIn f j = record { kind = f (j * 4); leader = f (j * 4 + 1); follower = f (j * 4 + 2) }
 
+abbrev pub waiterIn : (ℕ → ℕ) → ℕ → LineRecord
+waiterIn f j = record { change = f (j * 4); entry = f (j * 4 + 1); mode = f (j * 4 + 2) }
+
 abbrev pub recordIn : (ℕ → ℕ) → ℕ → LogRecord
 recordIn f j = record { owner = f (j * 6); entry = f (j * 6 + 1); before = join4 (λ k. f (j * 6 + (k + 2))) }
 
@@ -219,6 +228,9 @@ readPermit bs j = permitIn (inside permitsAt bs) j
 
 unfoldable pub readTie : List ℕ → ℕ → TieRecord
 readTie bs j = tieIn (inside tiesAt bs) j
+
+unfoldable pub readWaiter : List ℕ → ℕ → LineRecord
+readWaiter bs j = waiterIn (inside lineAt bs) j
 
 unfoldable pub readRecord : List ℕ → ℕ → LogRecord
 readRecord bs j = recordIn (inside logAt bs) j
@@ -234,4 +246,5 @@ decode bs = record {
   log = table (readFigure bs 2) 0 (readRecord bs);
   permits = table (readFigure bs 3) 0 (readPermit bs);
   ties = table (readFigure bs 4) 0 (readTie bs);
+  line = table (readFigure bs 5) 0 (readWaiter bs);
 }

@@ -6,15 +6,18 @@ use Prim.Native.Nat.{ℕ}
 use lib.Dec.{ltb}
 use lib.ListN.{getD, length}
 use Rattle.rules.specs.Base.{all}
-use Rattle.rules.specs.Window.{PermitRecord, TieRecord}
-use Rattle.layout.specs.Codec.{permitIn, tieIn}
+use Rattle.rules.specs.Window.{PermitRecord, TieRecord, LineRecord}
+use Rattle.layout.specs.Codec.{permitIn, tieIn, waiterIn}
 
--- a permit and a tie at a place of their section
+-- a permit, a tie and a place in line at a place of their section
 unfoldable pub permitAt : List ℕ → ℕ → PermitRecord
 permitAt bs j = permitIn (λ i. getD bs i 0) j
 
 unfoldable pub tieAt : List ℕ → ℕ → TieRecord
 tieAt bs j = tieIn (λ i. getD bs i 0) j
+
+unfoldable pub waiterAt : List ℕ → ℕ → LineRecord
+waiterAt bs j = waiterIn (λ i. getD bs i 0) j
 
 -- a tie by its parts
 abbrev pub tieOf : ℕ → ℕ → ℕ → TieRecord

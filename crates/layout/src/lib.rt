@@ -38,13 +38,15 @@ impl Changes {
     pub const MOST: usize = 255;
 }
 
-// Reserved.
 pub struct Line;
 
 impl Line {
     pub const AT: usize = 2112;
 
     pub const SIZE: usize = 1024;
+
+    // The bytes of a place in line: one for each change, and one that is unused.
+    pub const RECORD: usize = Line::SIZE / (Changes::MOST + 1);
 }
 
 pub struct Locks;

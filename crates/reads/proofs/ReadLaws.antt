@@ -70,6 +70,10 @@ module _ (bs : List ℕ) (s : soundBytes bs ≡ true) where
   unfolding figures
   ties-read = figure-read 4 512 (known .ties-most) (omega arith)
 
+  pub waiters-read : (r : ℕ) → FigureRead bs 5 r → (r ≡ length (decode bs .line)) × (r ≤ 255)
+  unfolding figures
+  waiters-read = figure-read 5 255 (known .line-most) (omega arith)
+
 -- a number x that is read, against another
 module _ {x y : ℕ} (e : x ≡ y) (n : ℕ) where
   pub reads-same : x ≡ n → eqb y n ≡ true

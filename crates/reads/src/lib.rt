@@ -8,11 +8,12 @@ use layout::Locks;
 use layout::Permits;
 use places::figure;
 ghost use mathlib.Core.Path.{_≡_};
-ghost use mathlib.Core.Bool.{true};
+ghost use mathlib.Core.Bool.{true, false};
 ghost use Prim.Native.Nat.{_≤_};
 ghost use lib.ListN.{length};
 ghost use Rattle.rules.specs.Base.{outside as isOutside};
 ghost use Rattle.rules.specs.Window.{noChange, noEntry, live, running};
+ghost use Rattle.rules.specs.Line.{waitsElsewhere, firstInLine};
 ghost use Rattle.layout.specs.Codec.{windowSize, decode};
 ghost use Rattle.layout.specs.Memory.{soundBytes};
 
@@ -66,6 +67,16 @@ pub fn ties(w: &[u8]) -> usize
     figure(&w[Header::AT..Entries::AT], 4)
 }
 
+// How many stand in line.
+pub fn waiters(w: &[u8]) -> usize
+    requires { ⌜ length (now w) ≡ windowSize ⌝ }
+    requires { ⌜ soundBytes (now w) ≡ true ⌝ }
+    ensures { λ r. ⌜ r ≡ length (decode (now (w .entry)) .line) ⌝ }
+    ensures { λ r. ⌜ r ≤ 255 ⌝ }
+{
+    figure(&w[Header::AT..Entries::AT], 5)
+}
+
 // The status of a change.
 pub fn status(w: &[u8], c: u32) -> u8
     requires { ⌜ length (now w) ≡ windowSize ⌝ }
@@ -115,6 +126,29 @@ pub fn held(w: &[u8], e: u32, c: u32) -> u8
         return 0;
     }
     locks::mode(&w[Locks::AT..Permits::AT], e as u8, c as u8)
+}
+
+// The first change in the line of an entry; 0 where the line is empty.
+pub fn first_in_line(w: &[u8], e: u32) -> u8
+    requires { ⌜ length (now w) ≡ windowSize ⌝ }
+    requires { ⌜ soundBytes (now w) ≡ true ⌝ }
+    requires { ⌜ noEntry (decode (now w)) e ≡ false ⌝ }
+    ensures { λ r. ⌜ r ≡ firstInLine (decode (now (w .entry)) .line) e ⌝ }
+{
+    let count = waiters(w);
+    line::first(&w[Line::AT..Locks::AT], count, e as u8)
+}
+
+// Whether a change stands in the line of another entry.
+pub fn waits_elsewhere(w: &[u8], c: u32, e: u32) -> bool
+    requires { ⌜ length (now w) ≡ windowSize ⌝ }
+    requires { ⌜ soundBytes (now w) ≡ true ⌝ }
+    requires { ⌜ noChange (decode (now w)) c ≡ false ⌝ }
+    requires { ⌜ noEntry (decode (now w)) e ≡ false ⌝ }
+    ensures { λ r. ⌜ r ≡ waitsElsewhere (decode (now (w .entry)) .line) c e ⌝ }
+{
+    let count = waiters(w);
+    line::elsewhere(&w[Line::AT..Locks::AT], count, c as u8, e as u8)
 }
 
 // Whether no change has the number.

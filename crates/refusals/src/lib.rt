@@ -7,6 +7,7 @@ use reads::is_running;
 use reads::no_change;
 use reads::no_entry;
 use reads::outside;
+use reads::waits_elsewhere;
 ghost use mathlib.Core.Path.{_≡_};
 ghost use mathlib.Core.Bool.{true, not};
 ghost use mathlib.Core.List.{[], _∷_};
@@ -113,6 +114,9 @@ pub fn lock(w: &[u8], change: u32, entry: u32, mode: u32) -> u32
     }
     if !is_running(w, change) {
         return 7;
+    }
+    if waits_elsewhere(w, change, entry) {
+        return 12;
     }
     0
 }

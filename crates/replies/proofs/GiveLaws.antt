@@ -6,7 +6,7 @@ use mathlib.Core.List.{List, _++_}
 use Prim.Native.Nat.{ℕ, zero, suc}
 use lib.ListN.{take, drop}
 use Rattle.rules.specs.Window.{limits, Window}
-use Rattle.rules.specs.Calls.{Call, done, unchanged}
+use Rattle.rules.specs.Calls.{Call, done, unchanged, blocked}
 use Rattle.rules.specs.Effects.{effect}
 use Rattle.rules.specs.Refusals.{checks, firstFailed, settle, step}
 use Rattle.rules.specs.Events.{isOpen}
@@ -22,6 +22,11 @@ use Rattle.replies.specs.Gives.{Gives, written}
 pub given-done : (k : ℕ) (W : Window) (r : Reply) (after : List ℕ) → (r .answer ≡ 0) × (r .number ≡ k) → after ≡ encode W → Gives (written (done k W)) r after
 unfolding written done
 given-done k W r after q e = record { answer = q .0; number = q .1; bytes = e }
+
+-- blocked, with the bytes of another window left behind
+pub given-blocked : (k : ℕ) (W : Window) (r : Reply) (after : List ℕ) → (r .answer ≡ 20) × (r .number ≡ k) → after ≡ encode W → Gives (written (blocked k W)) r after
+unfolding written blocked
+given-blocked k W r after q e = record { answer = q .0; number = q .1; bytes = e }
 
 module _ (bs : List ℕ) (s : soundBytes bs ≡ true) where
   -- an outcome that leaves the window

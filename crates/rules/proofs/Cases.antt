@@ -108,6 +108,37 @@ pub permit-twice : Answered (two (Permit 1 2 0 1 ∷ Permit 1 2 0 2 ∷ Lock 1 0
 unfolding rules
 permit-twice e c r p t = refl
 
+-- THE LINES
+-- 2 came before 3: 3 is granted only after 2, though nobody holds the entry any longer
+pub in-order : Answered (two (Initiate 0 ∷ Begin 3 ∷ Lock 1 0 2 ∷ Lock 2 0 2 ∷ Lock 3 0 1 ∷ Abort 1 ∷ Lock 3 0 1 ∷ Lock 2 0 2 ∷ Lock 3 0 1 ∷ Abort 2 ∷ Lock 3 0 1 ∷ []))
+    (begun ((0, 3) ∷ (0, 0) ∷ (0, 0) ∷ (20, 0) ∷ (20, 0) ∷ (0, 1) ∷ (20, 0) ∷ (0, 0) ∷ (20, 0) ∷ (0, 1) ∷ (0, 0) ∷ []))
+unfolding rules
+in-order e c r p t = refl
+
+-- who stands in a line gets 12 on other entries, also for what it holds; other calls are as before
+pub another-line : Answered (two (Lock 2 1 2 ∷ Lock 1 0 2 ∷ Lock 2 0 1 ∷ Lock 2 1 1 ∷ Write 2 1 5 ∷ Abort 1 ∷ Lock 2 1 1 ∷ Lock 2 0 1 ∷ Lock 2 1 1 ∷ []))
+    (begun ((0, 0) ∷ (0, 0) ∷ (20, 0) ∷ (12, 0) ∷ (0, 0) ∷ (0, 1) ∷ (12, 0) ∷ (0, 0) ∷ (0, 0) ∷ []))
+unfolding rules
+another-line e c r p t = refl
+
+-- a reader in line to write leaves by asking to read, which is covered; its place is lost
+pub covered-leaves : Answered (two (Lock 1 0 1 ∷ Lock 2 0 1 ∷ Lock 1 0 2 ∷ Lock 2 0 2 ∷ Lock 1 0 1 ∷ Permit 1 2 0 2 ∷ Lock 2 0 2 ∷ []))
+    (begun ((0, 0) ∷ (0, 0) ∷ (20, 0) ∷ (20, 0) ∷ (0, 0) ∷ (0, 0) ∷ (0, 0) ∷ []))
+unfolding rules
+covered-leaves e c r p t = refl
+
+-- "A change that stops running leaves its line": completed, or ended with another
+pub stopped : Answered (two (Initiate 0 ∷ Begin 3 ∷ Lock 3 0 2 ∷ Lock 1 0 2 ∷ Lock 2 0 1 ∷ Abort 3 ∷ Lock 2 0 1 ∷ Complete 1 ∷ Lock 2 0 1 ∷ []))
+    (begun ((0, 3) ∷ (0, 0) ∷ (0, 0) ∷ (20, 0) ∷ (20, 0) ∷ (0, 1) ∷ (20, 0) ∷ (0, 0) ∷ (0, 0) ∷ []))
+unfolding rules
+stopped e c r p t = refl
+
+-- a repeated call keeps its place, whatever the newer mode
+pub place-kept : Answered (two (Initiate 0 ∷ Begin 3 ∷ Lock 1 0 2 ∷ Lock 2 0 2 ∷ Lock 3 0 1 ∷ Lock 2 0 1 ∷ Abort 1 ∷ Lock 3 0 1 ∷ Lock 2 0 1 ∷ Lock 3 0 1 ∷ []))
+    (begun ((0, 3) ∷ (0, 0) ∷ (0, 0) ∷ (20, 0) ∷ (20, 0) ∷ (20, 0) ∷ (0, 1) ∷ (20, 0) ∷ (0, 0) ∷ (0, 0) ∷ []))
+unfolding rules
+place-kept e c r p t = refl
+
 -- THE CHECKING ORDER
 -- tables so small that each can be full
 abbrev small : Limits
@@ -128,12 +159,12 @@ tried =
     ∷ (Permit 3 3 2 4, 3, 0) ∷ (Permit 1 3 2 4, 3, 0) ∷ (Permit 1 1 2 4, 4, 0) ∷ (Permit 1 1 1 4, 5, 0) ∷ (Permit 1 1 1 0, 5, 0) ∷ (Permit 1 1 1 1, 6, 0)
     ∷ (Permit 1 2 1 1, 0, 0) ∷ (Permit 1 0 1 1, 11, 0) ∷ (Permit 1 2 1 2, 0, 0)
     ∷ (Begin 2, 0, 0) ∷ (Initiate 0, 0, 3) ∷ (Initiate 4, 3, 0) ∷ (Initiate 3, 7, 0) ∷ (Initiate 0, 11, 0)
-    ∷ (Begin 3, 0, 0) ∷ (Lock 3 1 1, 20, 0) ∷ (Lock 2 1 1, 0, 0)
+    ∷ (Begin 3, 0, 0) ∷ (Lock 2 1 1, 0, 0) ∷ (Lock 3 1 1, 20, 0) ∷ (Lock 3 2 3, 4, 0) ∷ (Lock 3 0 3, 5, 0) ∷ (Lock 3 0 1, 12, 0) ∷ (Lock 2 1 2, 20, 0) ∷ (Lock 2 1 1, 0, 0)
     ∷ (Delegate 4 4 2, 3, 0) ∷ (Delegate 2 4 2, 3, 0) ∷ (Delegate 2 2 2, 4, 0) ∷ (Delegate 2 2 1, 6, 0) ∷ (Delegate 2 3 1, 10, 0) ∷ (Delegate 2 3 65535, 10, 0)
     ∷ (Depend 4 4 4, 3, 0) ∷ (Depend 4 1 4, 3, 0) ∷ (Depend 4 1 1, 5, 0) ∷ (Depend 0 1 1, 5, 0) ∷ (Depend 2 1 1, 6, 0)
     ∷ (Depend 2 1 2, 0, 0) ∷ (Depend 2 2 1, 9, 0) ∷ (Depend 2 1 3, 11, 0) ∷ (Depend 2 1 2, 0, 0)
     ∷ (Commit 4, 3, 0) ∷ (Commit 2, 20, 1) ∷ (Complete 1, 0, 0) ∷ (Commit 1, 0, 1) ∷ (Commit 1, 0, 0) ∷ (Abort 1, 21, 0) ∷ (Abort 4, 3, 0) ∷ (Complete 1, 7, 0)
-    ∷ (Delegate 2 3 1, 0, 0) ∷ (Lock 3 1 2, 0, 0) ∷ (Permit 3 2 1 1, 0, 0) ∷ (Lock 2 1 1, 0, 0) ∷ (Depend 1 2 3, 0, 0)
+    ∷ (Delegate 2 3 1, 0, 0) ∷ (Lock 3 0 1, 12, 0) ∷ (Lock 3 1 2, 0, 0) ∷ (Lock 3 0 1, 0, 0) ∷ (Permit 3 2 1 1, 0, 0) ∷ (Lock 2 1 1, 0, 0) ∷ (Depend 1 2 3, 0, 0)
     ∷ (Permit 1 1 1 1, 6, 0) ∷ (Delegate 1 1 1, 6, 0) ∷ (Depend 1 1 1, 6, 0)
     ∷ (Permit 1 2 1 1, 7, 0) ∷ (Permit 2 1 1 1, 7, 0) ∷ (Delegate 1 2 1, 7, 0) ∷ (Delegate 2 1 1, 7, 0) ∷ (Depend 1 1 2, 7, 0) ∷ (Depend 1 2 1, 7, 0)
     ∷ (Initiate 1, 7, 0) ∷ (Read 1 1, 7, 0) ∷ (Abort 2, 0, 1) ∷ (Commit 2, 21, 0) ∷ (Abort 2, 0, 0)

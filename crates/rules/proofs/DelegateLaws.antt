@@ -279,7 +279,7 @@ pub record HandedOver (W X : Window) (from to : ℕ) (on : Set) : Type 0 where
   pub locks : LocksMoved W X from to on
   pub permits : PermitsMoved W X from to on
   -- and nothing else
-  pub rest : (X .entries ≡ W .entries) × (X .value ≡ W .value) × (X .given ≡ W .given) × (X .status ≡ W .status) × (X .parent ≡ W .parent) × (X .ties ≡ W .ties)
+  pub rest : (X .entries ≡ W .entries) × (X .value ≡ W .value) × (X .given ≡ W .given) × (X .status ≡ W .status) × (X .parent ≡ W .parent) × (X .ties ≡ W .ties) × (X .line ≡ W .line)
 
 pub delegate-moves : (L : Limits) (W : Window) → Sound L W → (f t e : ℕ) → step L W (Delegate f t e) .answer ≡ 0 → HandedOver W (step L W (Delegate f t e) .after) f t (entriesNamed e)
 unfolding effect done handOver moveLog checks _if_ operations
@@ -287,7 +287,7 @@ delegate-moves L W z f t e a = record {
   log = (movedRecord f t on, ap (λ o. o .after .log) (u .1), moves-owner f t on);
   locks = moves-locks W X f t on (ap (λ o. o .after .held) (u .1)) apart;
   permits = moves-permits W X f t on (ap (λ o. o .after .permits) (u .1)) known apart;
-  rest = rw (u .1) (refl, refl, refl, refl, refl, refl);
+  rest = rw (u .1) (refl, refl, refl, refl, refl, refl, refl);
 }
   where
     on : Set

@@ -6,7 +6,7 @@ use mathlib.Core.List.{List, [], _∷_, _++_}
 use Prim.Native.Nat.{ℕ, suc, _≤_, _<_}
 use native.Mathlib.Omega.{arith}
 use Rattle.rules.specs.Base.{anyBelow, all, outside}
-use Rattle.rules.specs.Window.{Limits, Window, fresh, withHeld, withPermits, withTies, withValue, isLive, noChange, live}
+use Rattle.rules.specs.Window.{Limits, Window, fresh, withHeld, withLine, withPermits, withTies, withValue, isLive, noChange, live}
 use Rattle.rules.specs.Ties.{grouped, groupOf}
 use Rattle.rules.specs.Calls.{Call, Open, fits}
 use Rattle.rules.specs.Effects.{endAll, addChange, handOver}
@@ -28,7 +28,7 @@ use Rattle.rules.proofs.SoundStep.{step-sound, opened-sound, opened-fre
 pub record Inv (L : Limits) (W : Window) (p : List Event) : Type 0 where
   pub sound : Sound L W
   pub story : TieHistory W p
-  booked : book p ≡ bookOf W
+  pub booked : book p ≡ bookOf W
   pub top : highest p ≡ W .given
 
 is-opening : (d : Action) → isOpening d ≡ true → d ≡ opening
@@ -46,7 +46,7 @@ unfolding isOpening
 opening-fresh W (opened n k) e = (n, refl)
 opening-fresh W (started p) e = absurd (false≢true e)
 opening-fresh W (calm k X q) e = absurd (false≢true e)
-opening-fresh W (locked c x m k h q) e = absurd (false≢true e)
+opening-fresh W (locked c x m k h w q) e = absurd (false≢true e)
 opening-fresh W (granted g t x o k) e = absurd (false≢true e)
 opening-fresh W (handed g t x k) e = absurd (false≢true e)
 opening-fresh W (depended j m g k a b) e = absurd (false≢true e)
@@ -54,11 +54,11 @@ opening-fresh W (committed c k a b) e = absurd (false≢true e)
 opening-fresh W (aborted c k v a) e = absurd (false≢true e)
 
 given-next : (W : Window) {d : Action} {k : ℕ} {X : Window} → Move W d k X → isOpening d ≡ false → highestAfter d k (W .given) ≡ X .given
-unfolding isOpening highestAfter addChange withHeld withPermits withTies withValue handOver endAll
+unfolding isOpening highestAfter addChange withHeld withLine withPermits withTies withValue handOver endAll
 given-next W (opened n k) e = absurd (true≢false e)
 given-next W (started p) e = omega arith
 given-next W (calm k X q) e = sym (q .given)
-given-next W (locked c x m k h q) e = refl
+given-next W (locked c x m k h w q) e = refl
 given-next W (granted g t x o k) e = refl
 given-next W (handed g t x k) e = refl
 given-next W (depended j m g k a b) e = refl
@@ -146,11 +146,11 @@ module _ (L : Limits) where
     unfolding groupCount liveGroups
     fewer = rw (v .top) (count-within (suc (W .given)) (firstInGroup W) (firstOfGroup p) heads-lead)
 
-  call-inv : (c : Call) (W : Window) (p : List Event) → Inv L W p → Sound L (step L W c .after) → Inv L (step L W c .after) (remember (event (step L) W c) p)
+  pub call-inv : (c : Call) (W : Window) (p : List Event) → Inv L W p → Sound L (step L W c .after) → Inv L (step L W c .after) (remember (event (step L) W c) p)
   unfolding event action
   call-inv c W p v z = inv-next W (step L W c .after) p (event (step L) W c) v (move L W (v .sound) c) z (status-shown L (step L W c .after))
 
-  first-inv : (W : Window) (n : ℕ) → step L W (Open n) .answer ≡ 0 → step L W (Open n) .after ≡ fresh n → Sound L (step L W (Open n) .after)
+  pub first-inv : (W : Window) (n : ℕ) → step L W (Open n) .answer ≡ 0 → step L W (Open n) .after ≡ fresh n → Sound L (step L W (Open n) .after)
       → Inv L (step L W (Open n) .after) (remember (event (step L) W (Open n)) [])
   unfolding event action isOpening actionOf
   first-inv W n a q z = inv-open (step L W (Open n) .after) n q (event (step L) W (Open n)) [] (rw a) z (status-shown L (step L W (Open n) .after))

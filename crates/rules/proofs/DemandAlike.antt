@@ -1,4 +1,4 @@
--- Two systems that answer alike have the same histories: what carries demand 3 from the rules to memory. Assumes nothing.
+-- Two systems that answer alike have the same histories: what carries demand 3 and the order in line from the rules to memory. Assumes nothing.
 use mathlib.Core.Path.{_≡_, refl, sym, _∙_, ap}
 use mathlib.Core.Bool.{true}
 use mathlib.Core.List.{List, [], _∷_, _++_}
@@ -9,6 +9,7 @@ use Rattle.rules.specs.Base.{all, table}
 use Rattle.rules.specs.Calls.{arguments, Call, Open, Commit, Status, fits, Reply}
 use Rattle.rules.specs.Events.{Event}
 use Rattle.rules.specs.Lists.{remember, event, history, highest, liveGroups, walks, Demand3After, Demand3}
+use Rattle.rules.specs.Waiting.{Queued}
 use Rattle.rules.proofs.BaseLaws.{and-left, and-right}
 use Rattle.rules.proofs.ListLaws.{all-join, all-table}
 
@@ -57,3 +58,6 @@ module _ {S T : Type 0} (make : S → Call → Reply S) (model : T → Call → 
   demand-alike most d s n e l f = let t = opens s n e .0 in let o = opens s n e .1 in let top = highest (history model t [] (Open n ∷ l)) in
       demand-same (λ k. history make s [] (Open n ∷ k)) (λ k. history model t [] (Open n ∷ k)) l (history-alike s n e l f)
       (λ k. history-alike s n e (l ++ walks k top) (all-join fits l (walks k top) f (fits-walks k top (most t n o l f)))) (d t n o l f)
+
+  pub queued-alike : Queued model → Queued make
+  queued-alike d s n e l f = rw (history-alike s n e l f) (d (opens s n e .0) n (opens s n e .1) l f)

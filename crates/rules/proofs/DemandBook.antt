@@ -8,7 +8,7 @@ use lib.Dec.{ltb, eqb}
 use borrow.Author.Tests.{eqb-true, ne-eqb}
 use Rattle.rules.specs.Base.{all, keep}
 use Rattle.rules.specs.Sets.{Set, putAll}
-use Rattle.rules.specs.Window.{Limits, PermitRecord, Window, withValue, withHeld, withPermits, withTies, isEnded, live, noChange}
+use Rattle.rules.specs.Window.{Limits, PermitRecord, Window, withValue, withHeld, withLine, withPermits, withTies, isEnded, live, noChange}
 use Rattle.rules.specs.Locks.{clash, permitted, pairPermitted}
 use Rattle.rules.specs.Ties.{groupOf, endSet}
 use Rattle.rules.specs.Sound.{permitSound}
@@ -18,6 +18,7 @@ use Rattle.rules.specs.Lists.{Book, enter, strike}
 use Rattle.rules.proofs.BaseLaws.{or-cases, and-left, and-right}
 use Rattle.rules.proofs.DemandEnds.{how-ended, Ending, none, same-ending, commit-ending, abort-ending}
 use Rattle.rules.proofs.DemandMoves.{shownStatus, Calm, Move, opened, started, calm, locked, granted, handed, depended, committed, aborted, live-unended, live-not}
+use Rattle.rules.proofs.ListLaws.{keep-same, keep-whole}
 use Rattle.rules.proofs.SoundParts.{Sound, permit-parts, held-zero}
 
 unfoldable pub bookOf : Window → Book
@@ -26,16 +27,6 @@ bookOf W = record { held = W .held; permits = W .permits }
 -- an ended change holds nothing
 ended-holds : (L : Limits) (W : Window) → Sound L W → (e c : ℕ) → isEnded (shownStatus W c) ≡ true → W .held e c ≡ 0
 ended-holds L W z e c h = held-zero W (z .helds) e c (λ q. live-not W c (and-right (ltb e (W .entries)) _ q) h)
-
-keep-same {ℓ} : {A : Type ℓ} (p q r : A → Bool) → ((x : A) → r x ≡ true → p x ≡ q x) → (l : List A) → all r l ≡ true → keep p l ≡ keep q l
-unfolding keep all
-keep-same p q r f [] e = refl
-keep-same p q r f (x ∷ l) e = rw (f x (and-left (r x) (all r l) e), keep-same p q r f l (and-right (r x) (all r l) e))
-
-keep-whole {ℓ} : {A : Type ℓ} (l : List A) → keep (λ x. true) l ≡ l
-unfolding keep
-keep-whole [] = refl
-keep-whole (x ∷ l) = ap (λ k. x ∷ k) (keep-whole l)
 
 nobody-shown : (W : Window) → isEnded (shownStatus W 0) ≡ false
 unfolding shownStatus noChange isEnded
@@ -87,11 +78,11 @@ module _ (L : Limits) (W : Window) (z : Sound L W) where
   calm-book X q = λ i. record { held = sym (q .held) i; permits = sym (q .permits) i }
 
   pub book-next : {d : Action} {n : ℕ} {X : Window} → Move W d n X → Sound L X → (st : ℕ → ℕ) → ((c : ℕ) → st c ≡ shownStatus X c) → isOpening d ≡ false → strike st (enter d (bookOf W)) ≡ bookOf X
-  unfolding bookOf enter addChange withHeld withPermits withTies handOver isOpening endAll withValue
+  unfolding bookOf enter addChange withHeld withLine withPermits withTies handOver isOpening endAll withValue
   book-next (opened n j) y st sh o = absurd (true≢false o)
   book-next (started p) y st sh o = strike-same L (addChange W p) y st sh
   book-next (calm j X q) y st sh o = ap (strike st) (calm-book X q) ∙ strike-same L X y st sh
-  book-next (locked c e m j h q) y st sh o = ap (strike st) (λ i. record { held = fun-ext (λ x. fun-ext (λ d. sym (q x d))) i; permits = W .permits }) ∙ strike-same L (withHeld W h) y st sh
+  book-next (locked c e m j h w q) y st sh o = ap (strike st) (λ i. record { held = fun-ext (λ x. fun-ext (λ d. sym (q x d))) i; permits = W .permits }) ∙ strike-same L _ y st sh
   book-next (granted g t e o j) y st sh w = strike-same L _ y st sh
   book-next (handed f t e j) y st sh o = strike-same L _ y st sh
   book-next (depended i l f j a b) y st sh o = strike-same L _ y st sh

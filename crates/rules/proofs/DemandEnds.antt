@@ -9,7 +9,7 @@ use lib.Dec.{eqb}
 use borrow.Author.Tests.{eqb-true}
 use Rattle.rules.specs.Base.{put, anyBelow, outside}
 use Rattle.rules.specs.Sets.{Set, putAll, reach}
-use Rattle.rules.specs.Window.{Limits, TieRecord, Window, tieKey, withValue, withHeld, withPermits, withTies, isEnded, live, noChange}
+use Rattle.rules.specs.Window.{Limits, TieRecord, Window, tieKey, withValue, withHeld, withLine, withPermits, withTies, isEnded, live, noChange}
 use Rattle.rules.specs.Ties.{isGroup, isFall, isArrow, tied, grouped, falling, makeTie, addTie, groupOf, endSet}
 use Rattle.rules.specs.Effects.{commitBlockers, tieStays, tiesLeft, endAll, addChange, handOver}
 use Rattle.rules.specs.Events.{Action, isTying, isOpening}
@@ -177,11 +177,11 @@ module _ (L : Limits) (W : Window) (z : Sound L W) where
   same-ending X g s = quietly W X (λ c e. rw (g, s)) (λ c e. rw (g, s) at e) (λ c e. rw (g, s) e)
 
   pub endingOf : {d : Action} {k : ℕ} {X : Window} → Move W d k X → isOpening d ≡ false → (s : Set) × (how : ℕ) × Ending W X s how
-  unfolding isOpening withHeld withPermits withTies handOver
+  unfolding isOpening withHeld withLine withPermits withTies handOver
   endingOf (opened n k) o = absurd (true≢false o)
   endingOf (started p) o = (none, 4, start-ending p)
   endingOf (calm k X q) o = (none, 4, calm-ending X q)
-  endingOf (locked c e m k h q) o = (none, 4, same-ending _ refl refl (λ i a b t. t))
+  endingOf (locked c e m k h w q) o = (none, 4, same-ending _ refl refl (λ i a b t. t))
   endingOf (granted g t e o k) p = (none, 4, same-ending _ refl refl (λ i a b t. t))
   endingOf (handed f t e k) o = (none, 4, same-ending _ refl refl (λ i a b t. t))
   endingOf (depended i l f k a b) o = (none, 4, same-ending _ refl refl (tie-old (makeTie i l f) (W .ties)))
@@ -218,7 +218,7 @@ unfolding isTying
 fresh-tie W (opened n k) i l f e = absurd (false≢true e)
 fresh-tie W (started p) i l f e = absurd (false≢true e)
 fresh-tie W (calm k X q) i l f e = absurd (false≢true e)
-fresh-tie W (locked c x m k h q) i l f e = absurd (false≢true e)
+fresh-tie W (locked c x m k h w q) i l f e = absurd (false≢true e)
 fresh-tie W (granted g t x o k) i l f e = absurd (false≢true e)
 fresh-tie W (handed g t x k) i l f e = absurd (false≢true e)
 fresh-tie W (depended j m g k a b) i l f e = let u = and-left (eqb i j && eqb l m) (eqb f g) e in

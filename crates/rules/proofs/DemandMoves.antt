@@ -7,11 +7,13 @@ use native.Mathlib.Omega.{arith}
 use lib.Dec.{leb, ltb, eqb, eqb·suc-zero}
 use borrow.Author.Tests.{not-false, leb-true, leb-false}
 use Rattle.rules.specs.Base.{put, put2, anyBelow, outside}
-use Rattle.rules.specs.Window.{Limits, LogRecord, Window, fresh, withValue, withStatus, withHeld, withLog, withPermits, withTies, isEnded, isLive, noChange, live, running}
+use Rattle.rules.specs.Window.{Limits, LogRecord, LineRecord, Window, fresh, withValue, withStatus, withHeld, withLog, withPermits, withTies, withLine, isEnded, isLive, noChange, live, running}
+use Rattle.rules.specs.Sets.{only}
 use Rattle.rules.specs.Locks.{makePermit, addPermit}
 use Rattle.rules.specs.Ties.{makeTie, addTie, groupOf, endSet}
-use Rattle.rules.specs.Calls.{Call, Open, Initiate, Begin, Complete, Lock, Read, Write, Permit, Delegate, Depend, Commit, Abort, Status, Parent, Value, Outcome, done, unchanged}
-use Rattle.rules.specs.Effects.{effect, covers, lockEntry, writeEntry, entriesNamed, handOver, commitChange, abortChange, addChange, putHeld, commitBlockers, commitGroup, abortAll, endAll, grantable}
+use Rattle.rules.specs.Line.{lineLeft}
+use Rattle.rules.specs.Calls.{Call, Open, Initiate, Begin, Complete, Lock, Read, Write, Permit, Delegate, Depend, Commit, Abort, Status, Parent, Value, Outcome, done, unchanged, blocked}
+use Rattle.rules.specs.Effects.{effect, leave, completeChange, covers, lockGranted, wait, lockEntry, writeEntry, entriesNamed, handOver, commitChange, abortChange, addChange, putHeld, commitBlockers, commitGroup, abortAll, endAll}
 use Rattle.rules.specs.Refusals.{step, settle, checks, firstFailed, _if_}
 use Rattle.rules.specs.Events.{Action, opening, initiating, nothing, locking, permitting, delegating, tying, actionOf}
 use Rattle.rules.proofs.BaseLaws.{and-both, and-left, and-right, Same, same, other, same?}
@@ -45,15 +47,19 @@ pub data Move (W : Window) : Action → ℕ → Window → Type 0 where
   opened : (n k : ℕ) → Move W opening k (fresh n)
   started : (p : ℕ) → Move W initiating (suc (W .given)) (addChange W p)
   calm : (k : ℕ) (X : Window) → Calm W X → Move W nothing k X
-  locked : (c e m k : ℕ) (h : ℕ → ℕ → ℕ) → ((x d : ℕ) → h x d ≡ put2 (W .held) e c (max (W .held e c) m) x d)
-      → Move W (locking c e m) k (withHeld W h)
+  locked : (c e m k : ℕ) (h : ℕ → ℕ → ℕ) (l : List LineRecord) → ((x d : ℕ) → h x d ≡ put2 (W .held) e c (max (W .held e c) m) x d)
+      → Move W (locking c e m) k (withLine (withHeld W h) l)
   granted : (g t e o k : ℕ) → Move W (permitting g t e o) k (withPermits W (addPermit (makePermit g t e o) (W .permits)))
   handed : (f t e k : ℕ) → Move W (delegating f t e) k (handOver W f t (entriesNamed e))
   depended : (i l f k : ℕ) → live W l ≡ true → live W f ≡ true → Move W (tying i l f) k (withTies W (addTie (makeTie i l f) (W .ties)))
   committed : (c k : ℕ) → live W c ≡ true → anyBelow (suc (W .given)) (commitBlockers W (groupOf W c)) ≡ false → Move W nothing k (endAll 4 (groupOf W c) W)
   aborted : (c k : ℕ) (v : ℕ → ℕ) → live W c ≡ true → Move W nothing k (endAll 5 (endSet W c) (withValue W v))
 
--- values and the log play no part
+-- values, the log and the lines play no part
+calm-line : (W : Window) (l : List LineRecord) → Calm W (withLine W l)
+unfolding withLine shownStatus noChange live
+calm-line W l = record { stay = λ c e. refl; fewer = λ c e. e; on = λ c e. e; given = refl; held = refl; permits = refl; ties = refl }
+
 calm-values : (W : Window) (v : ℕ → ℕ) (l : List LogRecord) → Calm W (withLog (withValue W v) l)
 unfolding withLog withValue shownStatus noChange live
 calm-values W v l = record { stay = λ c e. refl; fewer = λ c e. e; on = λ c e. e; given = refl; held = refl; permits = refl; ties = refl }
@@ -96,9 +102,9 @@ pub live-not : (W : Window) (c : ℕ) → live W c ≡ true → isEnded (shownSt
 live-not W c l h = true≢false (sym h ∙ live-unended W c l)
 
 -- a status that stays live
-calm-status : (W : Window) (c s : ℕ) → live W c ≡ true → isLive s ≡ true → Calm W (withStatus W (put (W .status) c s))
-unfolding withStatus shownStatus live noChange put isEnded
-calm-status W c s lc ls = record {
+calm-status : (W : Window) (c s : ℕ) (l : List LineRecord) → live W c ≡ true → isLive s ≡ true → Calm W (withStatus (withLine W l) (put (W .status) c s))
+unfolding withStatus withLine shownStatus live noChange put isEnded
+calm-status W c s l lc ls = record {
   stay = λ d. stays d (same? d c);
   fewer = λ d. few d (same? d c);
   on = λ d. ons d (same? d c);
@@ -134,8 +140,8 @@ module _ (L : Limits) (W : Window) (z : Sound L W) where
   idle k = calm k W (calm-values W (W .value) (W .log))
 
   lock-moves : (c e m : ℕ) → Moved W (locking c e m) (effect W (Lock c e m))
-  unfolding effect lockEntry covers done unchanged putHeld withHeld put2
-  lock-moves c e m = go (leb m (W .held e c)) refl (grantable W c e m)
+  unfolding effect lockEntry covers done blocked leave wait putHeld withHeld withLine put2
+  lock-moves c e m = go (leb m (W .held e c)) refl (lockGranted W c e m)
     where
       keeps : leb m (W .held e c) ≡ true → (x d : ℕ) → W .held x d ≡ put2 (W .held) e c (max (W .held e c) m) x d
       keeps q x d = same-place (same? x e) (same? d c)
@@ -148,10 +154,10 @@ module _ (L : Limits) (W : Window) (z : Sound L W) where
       puts : leb m (W .held e c) ≡ false → (x d : ℕ) → put2 (W .held) e c m x d ≡ put2 (W .held) e c (max (W .held e c) m) x d
       puts q x d = let h : W .held e c < m = leb-false m (W .held e c) q in let r : max (W .held e c) m ≡ m = omega arith in rw r
 
-      go : (b : Bool) → leb m (W .held e c) ≡ b → (g : Bool) → Moved W (locking c e m) (cond b (done 0 W) (cond g (done 0 (putHeld W e c m)) (unchanged 20 0 W)))
-      go true q g = locked c e m 0 (W .held) (keeps q)
-      go false q true = locked c e m 0 (put2 (W .held) e c m) (puts q)
-      go false q false = idle 0
+      go : (b : Bool) → leb m (W .held e c) ≡ b → (g : Bool) → Moved W (locking c e m) (cond b (done 0 (leave W c)) (cond g (done 0 (leave (putHeld W e c m) c)) (blocked 0 (wait W c e m))))
+      go true q g = locked c e m 0 (W .held) (lineLeft (only c) (W .line)) (keeps q)
+      go false q true = locked c e m 0 (put2 (W .held) e c m) (lineLeft (only c) (W .line)) (puts q)
+      go false q false = calm 0 _ (calm-line W _)
 
   commit-moves : (c : ℕ) → noChange W c ≡ false → Moved W nothing (effect W (Commit c))
   unfolding effect commitChange done unchanged commitGroup
@@ -175,11 +181,11 @@ module _ (L : Limits) (W : Window) (z : Sound L W) where
       go i v false p false q = aborted c i v (live-of L W z c h q p)
 
   does : (c : Call) → Passed (checks L W c) → Moved W (actionOf c) (effect W c)
-  unfolding effect actionOf checks _if_ done running writeEntry outside
+  unfolding effect actionOf checks _if_ done running writeEntry completeChange leave withStatus withLine outside
   does (Open n) p = opened n 0
   does (Initiate q) p = started q
-  does (Begin c) p = calm 0 _ (calm-status W c 2 (live-at W c 1 (p .0) (not-false _ (p .1 .0)) refl) refl)
-  does (Complete c) p = calm 0 _ (calm-status W c 3 (live-at W c 2 (p .0) (not-false _ (p .1 .0)) refl) refl)
+  does (Begin c) p = calm 0 _ (calm-status W c 2 (W .line) (live-at W c 1 (p .0) (not-false _ (p .1 .0)) refl) refl)
+  does (Complete c) p = calm 0 _ (calm-status W c 3 (lineLeft (only c) (W .line)) (live-at W c 2 (p .0) (not-false _ (p .1 .0)) refl) refl)
   does (Lock c e m) p = lock-moves c e m
   does (Read c e) p = idle _
   does (Write c e v) p = calm 0 _ (calm-values W _ _)

@@ -12,15 +12,17 @@ pub mod ListLaws
 pub mod SortLaws
 pub mod SetLaws
 pub mod TieLaws
+pub mod LineLaws
 -- least closed sets and acyclic ties, by paths
 pub mod PathLaws
 pub mod SourceLaws
--- a call turned back or blocked changes nothing; figures for any table size
+-- a call turned back changes nothing, a blocked one its place in line at most; figures for any table size
 pub mod RuleLaws
 pub mod SizeLaws
 -- every call keeps a window sound (SoundStep.step-sound), one file for each kind of effect
 pub mod SoundParts
 pub mod SoundPlain
+pub mod SoundLine
 pub mod SoundLock
 pub mod SoundPermit
 pub mod SoundDelegate
@@ -29,6 +31,7 @@ pub mod SoundEnd
 pub mod SoundStep
 -- groups, the set that an abort ends and arrows, by paths; demand 2: when a lock is granted, when a change commits, what a withdrawal puts back
 pub mod Promises
+pub mod LineWords
 -- demand 1: the first refusal that applies is the lowest (RefusalLaws), and which one a call gets, in words (RefusalWords.call-refused)
 pub mod TellLaws
 pub mod SaidLaws
@@ -46,3 +49,8 @@ pub mod DemandWalks
 pub mod Demand
 pub mod DemandGroups
 pub mod DemandAlike
+-- what the lines are held to, of the rules (WaitingKept.rules-queued): no later comer is granted first, and the first in line is served
+pub mod TurnOrder
+pub mod WaitingMoves
+pub mod WaitingLaws
+pub mod WaitingKept

@@ -31,6 +31,30 @@ module _ {ℓ} {A : Type ℓ} where
       go true h = or-right (p x) (any p (keep q l)) h
       go false h = h
 
+  -- tests that agree where another holds keep the same; one that follows from it keeps all
+  pub keep-same : (p q r : A → Bool) → ((x : A) → r x ≡ true → p x ≡ q x) → (l : List A) → all r l ≡ true → keep p l ≡ keep q l
+  unfolding keep all
+  keep-same p q r f [] e = refl
+  keep-same p q r f (x ∷ l) e = rw (f x (and-left (r x) (all r l) e), keep-same p q r f l (and-right (r x) (all r l) e))
+
+  pub keep-whole : (l : List A) → keep (λ x. true) l ≡ l
+  unfolding keep
+  keep-whole [] = refl
+  keep-whole (x ∷ l) = ap (λ k. x ∷ k) (keep-whole l)
+
+  pub keep-all : (r p : A → Bool) → ((x : A) → r x ≡ true → p x ≡ true) → (l : List A) → all r l ≡ true → keep p l ≡ l
+  keep-all r p f l e = keep-same p (λ x. true) r f l e ∙ keep-whole l
+
+  -- who is kept stood there and passes
+  pub keep-member : (q : A → Bool) (l : List A) {x : A} → List·Memᴰ x (keep q l) → List·Memᴰ x l × (q x ≡ true)
+  unfolding keep
+  keep-member q (y ∷ l) {x} m = go (q y) refl m (λ h. keep-member q l h)
+    where
+      go : (b : Bool) → q y ≡ b → List·Memᴰ x (cond b (y ∷ keep q l) (keep q l)) → (List·Memᴰ x (keep q l) → List·Memᴰ x l × (q x ≡ true)) → List·Memᴰ x (y ∷ l) × (q x ≡ true)
+      go true h (List·Memᴰ·head e) ih = (List·Memᴰ·head e, rw e h)
+      go true h (List·Memᴰ·tail k) ih = let r = ih k in (List·Memᴰ·tail (r .0), r .1)
+      go false h k ih = let r = ih k in (List·Memᴰ·tail (r .0), r .1)
+
   -- a test of all, and of some, by members
   pub all-members : (p : A → Bool) (l : List A) → ((x : A) → List·Memᴰ x l → p x ≡ true) → all p l ≡ true
   unfolding all

@@ -11,8 +11,8 @@ use Rattle.rules.specs.Base.{anyBelow, countBelow, lowestBelow}
 use Rattle.rules.specs.Sets.{Set, putAll}
 use Rattle.rules.specs.Window.{Limits, Window, withValue, noChange, live, isEnded}
 use Rattle.rules.specs.Ties.{isArrow, tied, groupOf, endSet}
-use Rattle.rules.specs.Calls.{Call, Open, Initiate, Begin, Complete, Lock, Read, Write, Permit, Delegate, Depend, Commit, Abort, Status, Parent, Value, Outcome, done, unchanged}
-use Rattle.rules.specs.Effects.{addChange, covers, grantable, putHeld, lockEntry, commitBlockers, commitGroup, commitChange, endAll, size, abortChange, abortAll, effect}
+use Rattle.rules.specs.Calls.{Call, Open, Initiate, Begin, Complete, Lock, Read, Write, Permit, Delegate, Depend, Commit, Abort, Status, Parent, Value, Outcome, done, unchanged, blocked}
+use Rattle.rules.specs.Effects.{addChange, leave, covers, putHeld, lockGranted, wait, lockEntry, commitBlockers, commitGroup, commitChange, endAll, size, abortChange, abortAll, effect}
 use Rattle.rules.specs.Refusals.{checks, firstFailed, _if_, settle, step}
 use Rattle.rules.proofs.BaseLaws.{or-left, put-same, put-other}
 use Rattle.rules.proofs.BoundLaws.{count-ext, count-bound, lowest-hit, lowest-below}
@@ -200,18 +200,18 @@ unfolding settle unchanged
 settled-zero zero W o e = e
 settled-zero (suc a) W o e = refl
 
-lock-zero : (W : Window) (b d : Bool) (X : Window) → cond b (done 0 W) (cond d (done 0 X) (unchanged 20 0 W)) .number ≡ 0
-unfolding done unchanged
-lock-zero W true d X = refl
-lock-zero W false true X = refl
-lock-zero W false false X = refl
+lock-zero : (b d : Bool) (X Y Z : Window) → cond b (done 0 X) (cond d (done 0 Y) (blocked 0 Z)) .number ≡ 0
+unfolding done blocked
+lock-zero true d X Y Z = refl
+lock-zero false true X Y Z = refl
+lock-zero false false X Y Z = refl
 
 effect-zero : (W : Window) (x : Call) → Unsaid x → effect W x .number ≡ 0
 unfolding effect done lockEntry
 effect-zero W _ (opens n) = refl
 effect-zero W _ (begins c) = refl
 effect-zero W _ (completes c) = refl
-effect-zero W _ (locks c e m) = lock-zero W (covers (W .held e c) m) (grantable W c e m) (putHeld W e c m)
+effect-zero W _ (locks c e m) = lock-zero (covers (W .held e c) m) (lockGranted W c e m) (leave W c) (leave (putHeld W e c m) c) (wait W c e m)
 effect-zero W _ (writes c e v) = refl
 effect-zero W _ (permits g t e o) = refl
 effect-zero W _ (delegates f t e) = refl

@@ -2,21 +2,23 @@
 use mathlib.Core.Path.{_≡_, refl, sym, _∙_, ap}
 use mathlib.Core.Logic.{_⊎_, inl, inr, _↔_, _≢_}
 use mathlib.Core.Bool.{Bool, true, false, not, cond, _&&_, _||_, true≢false}
-use mathlib.Core.List.{List, [], _∷_}
+use mathlib.Core.List.{List, [], _∷_, List·Memᴰ}
 use Prim.Native.Nat.{ℕ, zero, suc, _<_, _≤_}
 use native.Mathlib.Omega.{arith}
 use lib.Dec.{ltb, eqb}
 use lib.ListN.{length}
-use borrow.Author.Tests.{not-true, not-false, ltb-true, lt-ltb}
+use borrow.Author.Tests.{not-true, not-false, eqb-true, eqb-false, eq-eqb, ne-eqb, ltb-true, lt-ltb}
 use Rattle.rules.specs.Base.{outside, all, insert}
-use Rattle.rules.specs.Window.{Limits, Window, tieKey, withTies, noChange, noEntry, live, running}
+use Rattle.rules.specs.Window.{Limits, LineRecord, Window, tieKey, withTies, noChange, noEntry, live, running}
 use Rattle.rules.specs.Locks.{makePermit, addPermit, pairPermitted, clashesPermitted}
 use Rattle.rules.specs.Ties.{makeTie, addTie, acyclic}
+use Rattle.rules.specs.Line.{waitsElsewhere}
 use Rattle.rules.specs.Sound.{tieSound}
-use Rattle.rules.specs.Calls.{Call, Open, Initiate, Begin, Complete, Lock, Read, Write, Permit, Delegate, Depend, Commit, Abort, Status, Parent, Value, Outcome, done, unchanged}
+use Rattle.rules.specs.Calls.{Call, Open, Initiate, Begin, Complete, Lock, Read, Write, Permit, Delegate, Depend, Commit, Abort, Status, Parent, Value, Outcome, done, unchanged, blocked}
 use Rattle.rules.specs.Effects.{every, entriesNamed, handOver, effect, lockEntry, commitChange, commitGroup, abortChange, abortAll}
 use Rattle.rules.specs.Refusals.{firstFailed, _if_, checks, settle, step}
 use Rattle.rules.proofs.BaseLaws.{and-both, and-left, and-right, no-true, allBelow-fails}
+use Rattle.rules.proofs.ListLaws.{any-find, any-member}
 use Rattle.rules.proofs.PathLaws.{Arrows, cyclic-paths}
 use Rattle.rules.proofs.SaidLaws.{NoRefusal, Turned, merge, merged, merged-first, proper, Said, said-next, said-none, AnswerOf, turned}
 use Rattle.rules.proofs.SortLaws.{all-insert}
@@ -33,13 +35,17 @@ NoChange W c = (c ≡ 0) ⊎ (W .given < c)
 unfoldable pub Live : Window → ℕ → Type 0
 Live W c = (c ≤ W .given) × (1 ≤ W .status c) × (W .status c ≤ 3)
 
+-- "the change stands in another entry's line"
+unfoldable pub InAnotherLine : Window → ℕ → ℕ → Type 0
+InAnotherLine W c e = (r : LineRecord) × List·Memᴰ r W.line × (r .change ≡ c) × (r .entry ≢ e)
+
 -- the refusals of each call, in checking order; 11 by the length of the table with the record in its place
 unfoldable pub refusals : Limits → Window → Call → List (ℕ × Type 0)
 refusals L W (Open n) = (2, Outside 1 (L .entries) n) ∷ []
 refusals L W (Initiate p) = (3, W .given < p) ∷ (7, (p ≢ 0) × (W .status p ≢ 2)) ∷ (11, L .changes < suc (W .given)) ∷ []
 refusals L W (Begin c) = (3, NoChange W c) ∷ (7, W .status c ≢ 1) ∷ []
 refusals L W (Complete c) = (3, NoChange W c) ∷ (7, W .status c ≢ 2) ∷ []
-refusals L W (Lock c e m) = (3, NoChange W c) ∷ (4, W .entries ≤ e) ∷ (5, Outside 1 2 m) ∷ (7, W .status c ≢ 2) ∷ []
+refusals L W (Lock c e m) = (3, NoChange W c) ∷ (4, W .entries ≤ e) ∷ (5, Outside 1 2 m) ∷ (7, W .status c ≢ 2) ∷ (12, InAnotherLine W c e) ∷ []
 refusals L W (Read c e) = (3, NoChange W c) ∷ (4, W .entries ≤ e) ∷ (7, W .status c ≢ 2) ∷ (8, W .held e c ≡ 0) ∷ []
 refusals L W (Write c e v) = (3, NoChange W c) ∷ (4, W .entries ≤ e) ∷ (7, W .status c ≢ 2) ∷ (8, W .held e c ≢ 2) ∷ (11, L .records < suc (length W.log)) ∷ []
 refusals L W (Permit g t e o) =
@@ -84,6 +90,13 @@ tells-live W c = (to, from)
     from : (c ≤ W .given) × (1 ≤ W .status c) × (W .status c ≤ 3) → ltb c (suc W.given) && not (ltb (W .status c) 1 || ltb 3 (W .status c)) ≡ true
     from (a, b, d) = and-both (ltb c (suc W.given)) _ (lt-ltb c (suc W.given) (omega arith)) (within .1 (λ h. omega arith, λ h. omega arith))
 
+tells-line : (W : Window) (c e : ℕ) → Tells (waitsElsewhere W.line c e) (InAnotherLine W c e)
+unfolding waitsElsewhere InAnotherLine
+tells-line W c e = (
+  λ h. let m = any-find _ W.line h in (m .0, m .1, eqb-true (m .0 .change) c (and-left (eqb (m .0 .change) c) _ (m .2)), eqb-false (m .0 .entry) e (not-true _ (and-right (eqb (m .0 .change) c) _ (m .2)))),
+  λ h. any-member _ (h .1) (and-both (eqb (h .0 .change) c) _ (eq-eqb (h .0 .change) c (h .2)) (ap not (ne-eqb (h .0 .entry) e (h .3)))),
+)
+
 -- a call that is not refused is answered 0, 20 or 21
 pass-cond : (b : Bool) (x y : Outcome) → NoRefusal (x .answer) → NoRefusal (y .answer) → NoRefusal (cond b x y .answer)
 pass-cond true x y p q = p
@@ -97,11 +110,15 @@ pass-blocked : (k : ℕ) (W : Window) → NoRefusal (unchanged 20 k W .answer)
 unfolding unchanged
 pass-blocked k W = inr (inl refl)
 
+pass-waits : (k : ℕ) (X : Window) → NoRefusal (blocked k X .answer)
+unfolding blocked
+pass-waits k X = inr (inl refl)
+
 pass-ended : (W : Window) → NoRefusal (unchanged 21 0 W .answer)
 unfolding unchanged
 pass-ended W = inr (inr refl)
 
-ruleset passes = (pass-cond, pass-done, pass-blocked, pass-ended)
+ruleset passes = (pass-cond, pass-done, pass-blocked, pass-waits, pass-ended)
 
 effect-answer : (W : Window) (c : Call) → NoRefusal (effect W c .answer)
 unfolding effect lockEntry commitChange commitGroup abortChange abortAll
@@ -145,7 +162,7 @@ call-proper L W (Status c) = refl
 call-proper L W (Parent c) = refl
 call-proper L W (Value e) = refl
 
-ruleset tells = (said-next, said-none, tells-equal, tells-less, tells-most, tells-above, tells-not, tells-or, tells-and, tells-nor, tells-outside, tells-none, tells-entry, tells-running, tells-live)
+ruleset tells = (said-next, said-none, tells-equal, tells-less, tells-most, tells-above, tells-not, tells-or, tells-and, tells-nor, tells-outside, tells-none, tells-entry, tells-running, tells-live, tells-line)
 
 module _ (L : Limits) (W : Window) (z : Sound L W) where
   -- 10 in words, where both changes are live

@@ -1,47 +1,68 @@
--- A call that is turned back or blocked leaves the window as it was, and one answered 0 was not refused; open answers the same whatever it was. Assumes nothing.
+-- A call that is turned back leaves the window as it was, a blocked one too but for a lock's place in line, and one answered 0 was not refused; open answers the same whatever it was. Assumes nothing.
 use mathlib.Core.Path.{_≡_, refl, sym, _∙_}
 use mathlib.Core.Logic.{_≢_}
 use mathlib.Core.Bool.{Bool, true, false, cond, _||_, false≢true}
-use Prim.Native.Nat.{ℕ, zero, suc}
+use mathlib.Core.List.{List, [], _∷_}
+use Prim.Native.Nat.{ℕ, zero, suc, _≤_, _<_}
 use native.Mathlib.Omega.{arith}
 use lib.Dec.{ltb}
-use Rattle.rules.specs.Base.{exceeds}
+use borrow.Author.Tests.{ltb-true}
+use Rattle.rules.specs.Base.{exceeds, all}
 use Rattle.rules.specs.Window.{Limits, Window, fresh}
-use Rattle.rules.specs.Calls.{Call, Open, Initiate, Begin, Complete, Lock, Read, Write, Permit, Delegate, Depend, Commit, Abort, Status, Parent, Value, Outcome, unchanged, done}
-use Rattle.rules.specs.Effects.{effect, lockEntry, commitChange, commitGroup, abortChange, abortAll}
-use Rattle.rules.specs.Events.{actionOf, isOpening, isOpen}
-use Rattle.rules.specs.Refusals.{step, settle, checks, _if_, firstFailed}
+use Rattle.rules.specs.Calls.{Call, Open, Initiate, Begin, Complete, Lock, Read, Write, Permit, Delegate, Depend, Commit, Abort, Status, Parent, Value, Outcome, unchanged, blocked, done}
+use Rattle.rules.specs.Effects.{effect, wait, lockEntry, commitChange, commitGroup, abortChange, abortAll}
+use Rattle.rules.specs.Events.{Action, opening, initiating, nothing, locking, permitting, delegating, tying, actionOf, isOpening, isOpen}
+use Rattle.rules.specs.Refusals.{Check, step, settle, checks, _if_, firstFailed}
+use Rattle.rules.proofs.BaseLaws.{and-left, and-right}
 
--- an answer other than 0 leaves the window as it was; other than 20, its second number is 0
-pub record Quiet (W : Window) (o : Outcome) : Type 0 where
-  pub same : o .answer ≢ 0 → o .after ≡ W
+-- what a blocked call leaves: a lock "alters the window by its place in line", a commit does not alter it
+unfoldable pub placed : Window → Action → Window
+placed W opening = W
+placed W initiating = W
+placed W nothing = W
+placed W (locking c e m) = wait W c e m
+placed W (permitting g t e o) = W
+placed W (delegating f t e) = W
+placed W (tying k l f) = W
+
+-- an answer other than 0 and 20 leaves the window as it was, and its second number is 0; 20 leaves X
+pub record Quiet (W X : Window) (o : Outcome) : Type 0 where
+  pub same : o .answer ≢ 0 → o .answer ≢ 20 → o .after ≡ W
   pub number : o .answer ≢ 0 → o .answer ≢ 20 → o .number ≡ 0
+  pub blocks : o .answer ≡ 20 → o .after ≡ X
 
-quiet-done : (W X : Window) (k : ℕ) → Quiet W (done k X)
+quiet-done : (W X Y : Window) (k : ℕ) → Quiet W X (done k Y)
 unfolding done
-quiet-done W X k = record { same = λ h. absurd (h refl); number = λ h l. absurd (h refl) }
+quiet-done W X Y k = record { same = λ h l. absurd (h refl); number = λ h l. absurd (h refl); blocks = λ h. absurd (omega arith) }
 
-quiet-refused : (W : Window) (a : ℕ) → Quiet W (unchanged a 0 W)
+quiet-refused : (W X : Window) (a : ℕ) → a ≢ 20 → Quiet W X (unchanged a 0 W)
 unfolding unchanged
-quiet-refused W a = record { same = λ h. refl; number = λ h l. refl }
+quiet-refused W X a n = record { same = λ h l. refl; number = λ h l. refl; blocks = λ h. absurd (n h) }
 
-quiet-blocked : (W : Window) (k : ℕ) → Quiet W (unchanged 20 k W)
+quiet-blocked : (W : Window) (k : ℕ) → Quiet W W (unchanged 20 k W)
 unfolding unchanged
-quiet-blocked W k = record { same = λ h. refl; number = λ h l. absurd (l refl) }
+quiet-blocked W k = record { same = λ h l. refl; number = λ h l. absurd (l refl); blocks = λ h. refl }
 
-quiet-cond : (W : Window) (b : Bool) (x y : Outcome) → Quiet W x → Quiet W y → Quiet W (cond b x y)
-quiet-cond W true x y p q = p
-quiet-cond W false x y p q = q
+quiet-waits : (W X : Window) (k : ℕ) → Quiet W X (blocked k X)
+unfolding blocked
+quiet-waits W X k = record { same = λ h l. absurd (l refl); number = λ h l. absurd (l refl); blocks = λ h. refl }
 
-quiet-settle : (W : Window) (a : ℕ) (o : Outcome) → Quiet W o → Quiet W (settle a W o)
+quiet-ended : (W X : Window) → Quiet W X (unchanged 21 0 W)
+quiet-ended W X = quiet-refused W X 21 (λ e. omega arith)
+
+quiet-cond : (W X : Window) (b : Bool) (x y : Outcome) → Quiet W X x → Quiet W X y → Quiet W X (cond b x y)
+quiet-cond W X true x y p q = p
+quiet-cond W X false x y p q = q
+
+quiet-settle : (W X : Window) (a : ℕ) (o : Outcome) → a ≢ 20 → Quiet W X o → Quiet W X (settle a W o)
 unfolding settle
-quiet-settle W zero o q = q
-quiet-settle W (suc a) o q = quiet-refused W (suc a)
+quiet-settle W X zero o n q = q
+quiet-settle W X (suc a) o n q = quiet-refused W X (suc a) n
 
-ruleset quiets = (quiet-done, quiet-refused, quiet-blocked, quiet-cond)
+ruleset quiets = (quiet-done, quiet-ended, quiet-blocked, quiet-waits, quiet-cond)
 
-quiet-effect : (W : Window) (c : Call) → Quiet W (effect W c)
-unfolding effect lockEntry commitChange commitGroup abortChange abortAll
+quiet-effect : (W : Window) (c : Call) → Quiet W (placed W (actionOf c)) (effect W c)
+unfolding effect lockEntry commitChange commitGroup abortChange abortAll actionOf placed
 quiet-effect W (Open n) = search quiets
 quiet-effect W (Initiate p) = search quiets
 quiet-effect W (Begin c) = search quiets
@@ -58,18 +79,52 @@ quiet-effect W (Status c) = search quiets
 quiet-effect W (Parent c) = search quiets
 quiet-effect W (Value e) = search quiets
 
-pub quiet : (L : Limits) (W : Window) (c : Call) → Quiet W (step L W c)
-unfolding step
-quiet L W c = quiet-settle W (firstFailed (checks L W c)) (effect W c) (quiet-effect W c)
+-- no refusal is numbered 20
+low-codes : (L : Limits) (W : Window) (c : Call) → all (λ k. ltb k.code 20) (checks L W c) ≡ true
+unfolding all checks _if_
+low-codes L W (Open n) = refl
+low-codes L W (Initiate p) = refl
+low-codes L W (Begin c) = refl
+low-codes L W (Complete c) = refl
+low-codes L W (Lock c e m) = refl
+low-codes L W (Read c e) = refl
+low-codes L W (Write c e v) = refl
+low-codes L W (Permit g t e o) = refl
+low-codes L W (Delegate f t e) = refl
+low-codes L W (Depend k l f) = refl
+low-codes L W (Commit c) = refl
+low-codes L W (Abort c) = refl
+low-codes L W (Status c) = refl
+low-codes L W (Parent c) = refl
+low-codes L W (Value e) = refl
 
--- a call answered 0 was not refused
-pub done-unrefused : (L : Limits) (W : Window) (c : Call) → step L W c .answer ≡ 0 → (firstFailed (checks L W c) ≡ 0) × (step L W c ≡ effect W c)
-unfolding step settle unchanged
-done-unrefused L W c = go (firstFailed (checks L W c))
+first-low : (l : List Check) → all (λ k. ltb k.code 20) l ≡ true → firstFailed l < 20
+unfolding all firstFailed
+first-low [] e = omega arith
+first-low (k ∷ l) e = go (k .fails) (first-low l (and-right (ltb k.code 20) _ e))
   where
-    go : (a : ℕ) → settle a W (effect W c) .answer ≡ 0 → (a ≡ 0) × (settle a W (effect W c) ≡ effect W c)
-    go zero e = (refl, refl)
-    go (suc a) e = absurd (omega arith)
+    go : (b : Bool) → firstFailed l < 20 → cond b k.code (firstFailed l) < 20
+    go true h = ltb-true k.code 20 (and-left (ltb k.code 20) _ e)
+    go false h = h
+
+pub refusal-low : (L : Limits) (W : Window) (c : Call) → firstFailed (checks L W c) < 20
+refusal-low L W c = first-low (checks L W c) (low-codes L W c)
+
+pub quiet : (L : Limits) (W : Window) (c : Call) → Quiet W (placed W (actionOf c)) (step L W c)
+unfolding step
+quiet L W c = let h = refusal-low L W c in quiet-settle W _ (firstFailed (checks L W c)) (effect W c) (λ e. omega arith) (quiet-effect W c)
+
+-- a call answered with a number that no refusal has was not refused; so one answered 0
+pub unrefused-by : (L : Limits) (W : Window) (c : Call) (k : ℕ) → (0 < k → 20 ≤ k) → step L W c .answer ≡ k → (firstFailed (checks L W c) ≡ 0) × (step L W c ≡ effect W c)
+unfolding step settle unchanged
+unrefused-by L W c k n = go (firstFailed (checks L W c)) (refusal-low L W c)
+  where
+    go : (a : ℕ) → a < 20 → settle a W (effect W c) .answer ≡ k → (a ≡ 0) × (settle a W (effect W c) ≡ effect W c)
+    go zero h e = (refl, refl)
+    go (suc a) h e = absurd (omega (arith, n (omega arith)))
+
+pub done-unrefused : (L : Limits) (W : Window) (c : Call) → step L W c .answer ≡ 0 → (firstFailed (checks L W c) ≡ 0) × (step L W c ≡ effect W c)
+done-unrefused L W c = unrefused-by L W c 0 (λ h. omega arith)
 
 -- a call that is an open
 pub is-open : (c : Call) → isOpen c ≡ true → (n : ℕ) × (c ≡ Open n)

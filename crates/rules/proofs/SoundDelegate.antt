@@ -10,7 +10,7 @@ use lib.ListN.{length, length-map}
 use borrow.Author.Tests.{not-true, eqb-true, ne-eqb, eqb-false, le-leb, leb-true}
 use Rattle.rules.specs.Base.{keep, rising}
 use Rattle.rules.specs.Sets.{Set}
-use Rattle.rules.specs.Window.{Limits, LogRecord, PermitRecord, Window, permitKey, live}
+use Rattle.rules.specs.Window.{Limits, LogRecord, PermitRecord, Window, permitKey, live, running}
 use Rattle.rules.specs.Locks.{clashesPermitted, unitePermits, addPermit}
 use Rattle.rules.specs.Sound.{heldSound, recordSound, permitSound}
 use Rattle.rules.specs.Effects.{moveHeld, movedRecord, moveLog, permitGiven, permitMoves, permitKept, movedPermit, movePermits, handOver}
@@ -88,7 +88,7 @@ module _ (L : Limits) (W : Window) (from to : ℕ) (on : Set) (k : Sound L W) (l
       rw (lives, x .1, x .2, x .3, ne-eqb to p.taker n)
 
   pub hand-sound : clashesPermitted (handOver W from to on) ≡ true → Sound L (handOver W from to on)
-  unfolding handOver moveLog live movePermits addPermit
+  unfolding handOver moveLog live running movePermits addPermit
   hand-sound fit = record {
     some = k .some;
     entries = k .entries;
@@ -109,4 +109,7 @@ module _ (L : Limits) (W : Window) (from to : ℕ) (on : Set) (k : Sound L W) (l
     tie-order = k .tie-order;
     no-cycle = k .no-cycle;
     locks = fits-all (handOver W from to on) hand-held fit;
+    room-line = k .room-line;
+    line = k .line;
+    line-once = k .line-once;
   }

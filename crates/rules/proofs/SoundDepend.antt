@@ -9,7 +9,7 @@ use lib.ListN.{length}
 use borrow.Author.Tests.{lt-ltb, ne-eqb, eqb-false}
 use Rattle.rules.specs.Base.{exceeds, outside}
 use Rattle.rules.specs.Sets.{Set}
-use Rattle.rules.specs.Window.{Limits, TieRecord, Window, tieKey, withTies, live}
+use Rattle.rules.specs.Window.{Limits, TieRecord, Window, tieKey, withTies, live, running}
 use Rattle.rules.specs.Locks.{pairPermitted}
 use Rattle.rules.specs.Ties.{acyclic, addTie, makeTie, isGroup}
 use Rattle.rules.specs.Sound.{tieSound}
@@ -34,7 +34,7 @@ make-sound lives k l f r a hl hf = go (same? k 3) (below l f)
 
 pub depend-sound : (L : Limits) (W : Window) (t : TieRecord) → tieSound (live W) t ≡ true → acyclic (suc W.given) (addTie t W.ties) ≡ true
     → not (exceeds (length (addTie t W.ties)) L.ties) ≡ true → Sound L W → Sound L (withTies W (addTie t W.ties))
-unfolding withTies live pairPermitted addTie
+unfolding withTies live running pairPermitted addTie
 depend-sound L W t s a r k = record {
   some = k .some;
   entries = k .entries;
@@ -53,4 +53,7 @@ depend-sound L W t s a r k = record {
   tie-order = insert-rising tieKey (λ x y. y) (λ x y. refl) t W.ties (k .tie-order);
   no-cycle = a;
   locks = k .locks;
+  room-line = k .room-line;
+  line = k .line;
+  line-once = k .line-once;
 }

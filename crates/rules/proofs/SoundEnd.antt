@@ -7,11 +7,13 @@ use lib.Dec.{leb, ltb, eqb}
 use borrow.Author.Tests.{not-true, eqb-true}
 use Rattle.rules.specs.Base.{outside}
 use Rattle.rules.specs.Sets.{Set, putAll}
-use Rattle.rules.specs.Window.{Limits, LogRecord, PermitRecord, TieRecord, Window, permitKey, tieKey, withPermits, live, noChange}
+use Rattle.rules.specs.Window.{Limits, LogRecord, PermitRecord, TieRecord, LineRecord, Window, permitKey, tieKey, withPermits, live, running, noChange}
 use Rattle.rules.specs.Locks.{pairPermitted, permitted, contains, clash}
-use Rattle.rules.specs.Sound.{statusSound, heldSound, recordSound, permitSound, tieSound}
+use Rattle.rules.specs.Line.{staysInLine, lineLeft}
+use Rattle.rules.specs.Sound.{statusSound, heldSound, recordSound, permitSound, tieSound, waiterSound}
 use Rattle.rules.specs.Effects.{released, isUnowned, unowned, permitStays, permitsLeft, tieStays, tiesLeft, endAll}
 use Rattle.rules.proofs.BaseLaws.{or-cases, and-left, and-right, no-true, or-none}
+use Rattle.rules.proofs.LineLaws.{distinct-keep}
 use Rattle.rules.proofs.ListLaws.{all-keep, any-keep-up, fewer}
 use Rattle.rules.proofs.PathLaws.{acyclic-keep}
 use Rattle.rules.proofs.SortLaws.{rising-keep}
@@ -62,6 +64,10 @@ module _ (L : Limits) (W : Window) (how : ℕ) (s : Set) (ended : outside 1 3 ho
   unfolding tieSound left tieStays
   end-tie t h q = let n = or-none (s t.leader) (s t.follower) (not-true _ q) in rw (n .0, n .1) h
 
+  end-waiter : (r : LineRecord) → waiterSound W.entries (running W) r ≡ true → staysInLine s r ≡ true → waiterSound W.entries (running (endAll how s W)) r ≡ true
+  unfolding waiterSound running endAll putAll staysInLine
+  end-waiter r h q = rw (not-true (s r.change) q) h
+
   -- a permit from one that lives on, to one that lives on or to anybody, stays
   end-permitted : (a b e m : ℕ) → s a ≡ false → s b ≡ false → permitted W.permits a b e m ≡ true → permitted (permitsLeft s W.permits) a b e m ≡ true
   unfolding permitted permitsLeft permitStays
@@ -82,7 +88,7 @@ module _ (L : Limits) (W : Window) (how : ℕ) (s : Set) (ended : outside 1 3 ho
       go false false p q = fits-on W (permitsLeft s W.permits) e a b (end-permitted a b e (W .held e b) p q) (end-permitted b a e (W .held e a) q p) (k .locks e a b)
 
   pub end-sound : Sound L (endAll how s W)
-  unfolding endAll putAll unowned permitsLeft tiesLeft
+  unfolding endAll putAll unowned permitsLeft tiesLeft lineLeft
   end-sound = record {
     some = k .some;
     entries = k .entries;
@@ -101,4 +107,7 @@ module _ (L : Limits) (W : Window) (how : ℕ) (s : Set) (ended : outside 1 3 ho
     tie-order = rising-keep tieKey (tieStays s) W.ties (k .tie-order);
     no-cycle = acyclic-keep (suc W.given) W.ties (ends-below W (k .ties)) (k .no-cycle) (tieStays s);
     locks = end-pair;
+    room-line = fewer _ W.line L.changes (k .room-line);
+    line = all-keep (waiterSound W.entries (running W)) (staysInLine s) (waiterSound W.entries (running (endAll how s W))) end-waiter W.line (k .line);
+    line-once = distinct-keep (λ r. r .change) (staysInLine s) W.line (k .line-once);
   }

@@ -6,7 +6,7 @@ use Prim.Native.Nat.{ℕ, suc}
 use lib.Dec.{leb, ltb, eqb}
 use borrow.Author.Tests.{not-true, ne-eqb, eqb-true}
 use Rattle.rules.specs.Base.{put2}
-use Rattle.rules.specs.Window.{Limits, LogRecord, Window, withHeld, live}
+use Rattle.rules.specs.Window.{Limits, LogRecord, Window, withHeld, live, running}
 use Rattle.rules.specs.Locks.{clash, permitted, pairPermitted}
 use Rattle.rules.specs.Sound.{heldSound, recordSound}
 use Rattle.rules.specs.Effects.{lockBlockers, grantable, putHeld}
@@ -81,7 +81,7 @@ module _ (L : Limits) (W : Window) (c e m : ℕ) (k : Sound L W)
       go (same i) (same j) = absurd (false≢true (sym short ∙ rw (two i j) mode))
 
   pub lock-sound : Sound L (putHeld W e c m)
-  unfolding putHeld withHeld live
+  unfolding putHeld withHeld live running
   lock-sound = record {
     some = k .some;
     entries = k .entries;
@@ -100,4 +100,7 @@ module _ (L : Limits) (W : Window) (c e m : ℕ) (k : Sound L W)
     tie-order = k .tie-order;
     no-cycle = k .no-cycle;
     locks = lock-pair;
+    room-line = k .room-line;
+    line = k .line;
+    line-once = k .line-once;
   }

@@ -8,12 +8,12 @@ use native.Mathlib.Omega.{arith}
 use lib.Dec.{leb, ltb, eqb}
 use lib.ListN.{length}
 use borrow.Author.Tests.{eqb-true, leb-true, ltb-true, lt-ltb, le-ltb, ltb-false, eqb-false, not-true, ne-eqb}
-use Rattle.rules.specs.Base.{allBelow, all, rising, exceeds, outside}
+use Rattle.rules.specs.Base.{allBelow, all, rising, distinct, exceeds, outside}
 use Rattle.rules.specs.Sets.{Set}
-use Rattle.rules.specs.Window.{Limits, LogRecord, PermitRecord, TieRecord, Window, permitKey, tieKey, withPermits, isLive, live, noChange}
+use Rattle.rules.specs.Window.{Limits, LogRecord, PermitRecord, TieRecord, Window, permitKey, tieKey, withPermits, isLive, live, running, noChange}
 use Rattle.rules.specs.Locks.{clash, clashesPermitted, permitted, pairPermitted}
 use Rattle.rules.specs.Ties.{isGroup, acyclic}
-use Rattle.rules.specs.Sound.{sound, parts, valueSound, statusSound, parentSound, heldSound, recordSound, permitSound, tieSound}
+use Rattle.rules.specs.Sound.{sound, parts, valueSound, statusSound, parentSound, heldSound, recordSound, permitSound, tieSound, waiterSound}
 use Rattle.rules.proofs.BaseLaws.{Below, under, over as beyond, below, and-left, and-right, and-both, or-left, or-right, or-cases, or-map, allBelow-at, allBelow-intro, within-of, or-none, and-four, and-five}
 use Rattle.rules.proofs.ListLaws.{all-weaken}
 
@@ -35,6 +35,9 @@ pub record Sound (L : Limits) (W : Window) : Type 0 where
   pub tie-order : rising tieKey W.ties ≡ true
   pub no-cycle : acyclic (suc W.given) W.ties ≡ true
   pub locks : (e a b : ℕ) → pairPermitted W e a b ≡ true
+  pub room-line : not (exceeds (length W.line) L.changes) ≡ true
+  pub line : all (waiterSound W.entries (running W)) W.line ≡ true
+  pub line-once : distinct (λ r. r .change) W.line ≡ true
 
 -- what no place of a window of these largest figures can hold: a window read from bytes has 0 there
 pub record Blank (L : Limits) (W : Window) : Type 0 where
@@ -187,6 +190,9 @@ module _ (L : Limits) (W : Window) where
     tie-order = k .1 .1 .1 .1 .1 .1 .1 .1 .1 .1 .1 .1 .1 .1 .0;
     no-cycle = k .1 .1 .1 .1 .1 .1 .1 .1 .1 .1 .1 .1 .1 .1 .1 .0;
     locks = fits-all W lock (k .1 .1 .1 .1 .1 .1 .1 .1 .1 .1 .1 .1 .1 .1 .1 .1 .0);
+    room-line = k .1 .1 .1 .1 .1 .1 .1 .1 .1 .1 .1 .1 .1 .1 .1 .1 .1 .0;
+    line = k .1 .1 .1 .1 .1 .1 .1 .1 .1 .1 .1 .1 .1 .1 .1 .1 .1 .1 .0;
+    line-once = k .1 .1 .1 .1 .1 .1 .1 .1 .1 .1 .1 .1 .1 .1 .1 .1 .1 .1 .1 .0;
   }
     where
       k : Each (parts L W)
@@ -235,6 +241,9 @@ module _ (L : Limits) (W : Window) where
     k .tie-order,
     k .no-cycle,
     fit-locks W (k .locks),
+    k .room-line,
+    k .line,
+    k .line-once,
   )
 
   no-place : (n c x : ℕ) (t : Bool) → n < c → cond (eqb c 0 || ltb n c) (eqb x 0) t ≡ true → x ≡ 0

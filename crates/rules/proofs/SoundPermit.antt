@@ -7,7 +7,7 @@ use lib.Dec.{eqb}
 use lib.ListN.{length}
 use Rattle.rules.specs.Base.{exceeds, outside}
 use Rattle.rules.specs.Sets.{Set}
-use Rattle.rules.specs.Window.{Limits, PermitRecord, Window, permitKey, withPermits, live}
+use Rattle.rules.specs.Window.{Limits, PermitRecord, Window, permitKey, withPermits, live, running}
 use Rattle.rules.specs.Locks.{contains, permitted, unitePermits, addPermit}
 use Rattle.rules.specs.Sound.{permitSound}
 use Rattle.rules.proofs.BaseLaws.{and-map}
@@ -43,7 +43,7 @@ permitted-add p ps a b e m = any-insert permitKey unitePermits _ p
 
 pub permit-sound : (L : Limits) (W : Window) (p : PermitRecord) → permitSound W.entries (live W) p ≡ true → not (exceeds (length (addPermit p W.permits)) L.permits) ≡ true
     → Sound L W → Sound L (withPermits W (addPermit p W.permits))
-unfolding withPermits live addPermit
+unfolding withPermits live running addPermit
 permit-sound L W p s r k = record {
   some = k .some;
   entries = k .entries;
@@ -62,4 +62,7 @@ permit-sound L W p s r k = record {
   tie-order = k .tie-order;
   no-cycle = k .no-cycle;
   locks = λ e a b. fits-on W (addPermit p W.permits) e a b (permitted-add p W.permits a b e (W .held e b)) (permitted-add p W.permits b a e (W .held e a)) (k .locks e a b);
+  room-line = k .room-line;
+  line = k .line;
+  line-once = k .line-once;
 }

@@ -6,22 +6,23 @@ use Prim.Native.Nat.{ℕ, suc, _≤_, _^_}
 use native.Mathlib.Omega.{arith}
 use lib.Dec.{leb, ltb, eqb}
 use lib.ListN.{length}
-use borrow.Author.Tests.{ne-eqb, lt-ltb, le-ltb, ltb-true}
-use Rattle.rules.specs.Base.{put, exceeds, all, rising, outside}
+use borrow.Author.Tests.{eqb-true, ne-eqb, lt-ltb, le-ltb, ltb-true}
+use Rattle.rules.specs.Base.{put, exceeds, all, rising, distinct, outside}
 use Rattle.rules.specs.Sets.{Set}
-use Rattle.rules.specs.Window.{Limits, LogRecord, PermitRecord, TieRecord, Window, fresh, withValue, withStatus, withLog, live, noChange}
+use Rattle.rules.specs.Window.{Limits, LogRecord, PermitRecord, TieRecord, Window, fresh, withValue, withStatus, withLog, live, running, noChange}
 use Rattle.rules.specs.Locks.{clash, pairPermitted}
 use Rattle.rules.specs.Ties.{acyclic}
-use Rattle.rules.specs.Sound.{valueSound, statusSound, parentSound, heldSound, recordSound, permitSound, tieSound}
+use Rattle.rules.specs.Sound.{valueSound, statusSound, parentSound, heldSound, recordSound, permitSound, tieSound, waiterSound}
 use Rattle.rules.specs.Effects.{undo, addChange}
 use Rattle.rules.proofs.BaseLaws.{both-ways, Same, same, other, same?, or-map, and-left, and-right, and-map}
+use Rattle.rules.proofs.LineLaws.{waiter-more}
 use Rattle.rules.proofs.ListLaws.{all-weaken, all-append, length-append-one}
 use Rattle.rules.proofs.PathLaws.{acyclic-more}
-use Rattle.rules.proofs.SoundParts.{Sound, live-below, ends-below, record-parts, permit-parts, tie-parts}
+use Rattle.rules.proofs.SoundParts.{Sound, status-none, live-below, ends-below, record-parts, permit-parts, tie-parts}
 
 -- a fresh window
 pub fresh-sound : (L : Limits) (n : ℕ) → ltb 0 n ≡ true → not (exceeds n L.entries) ≡ true → Sound L (fresh n)
-unfolding fresh valueSound statusSound parentSound heldSound pairPermitted clash all exceeds rising acyclic
+unfolding fresh valueSound statusSound parentSound heldSound pairPermitted clash all exceeds rising acyclic distinct
 fresh-sound L n h l = record {
   some = h;
   entries = l;
@@ -40,6 +41,9 @@ fresh-sound L n h l = record {
   tie-order = refl;
   no-cycle = refl;
   locks = λ e a b. rw or-true;
+  room-line = refl;
+  line = refl;
+  line-once = refl;
 }
   where
     nobody : (c : ℕ) (t : Bool) → cond (eqb c 0 || ltb 0 c) true t ≡ true
@@ -70,7 +74,7 @@ undo-values m lives held s (r ∷ l) v a f = go (s r.owner) (and-left (recordSou
     go true h ih = let p = record-parts m lives held r h in value-put m (undo s l v) r.entry r.before (p .1) (p .2) ih
 
 pub value-sound : (L : Limits) (W : Window) (v : ℕ → ℕ) → ((e : ℕ) → valueSound W.entries v e ≡ true) → Sound L W → Sound L (withValue W v)
-unfolding withValue live pairPermitted
+unfolding withValue live running pairPermitted
 value-sound L W v f k = record {
   some = k .some;
   entries = k .entries;
@@ -89,6 +93,9 @@ value-sound L W v f k = record {
   tie-order = k .tie-order;
   no-cycle = k .no-cycle;
   locks = k .locks;
+  room-line = k .room-line;
+  line = k .line;
+  line-once = k .line-once;
 }
 
 -- log records undone
@@ -98,7 +105,7 @@ undo-sound L W s k = value-sound L W (undo s W.log W.value) (undo-values W.entri
 -- one more record
 pub log-sound : (L : Limits) (W : Window) (r : LogRecord) → recordSound W.entries (live W) W.held r ≡ true → not (exceeds (suc (length W.log)) L.records) ≡ true
     → Sound L W → Sound L (withLog W (W.log ++ (r ∷ [])))
-unfolding withLog live pairPermitted
+unfolding withLog live running pairPermitted
 log-sound L W r h l k = record {
   some = k .some;
   entries = k .entries;
@@ -117,6 +124,9 @@ log-sound L W r h l k = record {
   tie-order = k .tie-order;
   no-cycle = k .no-cycle;
   locks = k .locks;
+  room-line = k .room-line;
+  line = k .line;
+  line-once = k .line-once;
 }
 
 -- a status as live as the one before changes nobody's being live
@@ -138,9 +148,9 @@ status-put W c s n z f d = go (same? d c)
     go (other q) = f d
 
 pub status-sound : (L : Limits) (W : Window) (c s : ℕ) → noChange W c ≡ false → outside 1 3 (W .status c) ≡ outside 1 3 s
-    → outside 1 5 s ≡ false → Sound L W → Sound L (withStatus W (put W.status c s))
+    → outside 1 5 s ≡ false → all (waiterSound W.entries (running (withStatus W (put W.status c s)))) W.line ≡ true → Sound L W → Sound L (withStatus W (put W.status c s))
 unfolding withStatus pairPermitted
-status-sound L W c s n h z k = record {
+status-sound L W c s n h z w k = record {
   some = k .some;
   entries = k .entries;
   changes = k .changes;
@@ -158,6 +168,9 @@ status-sound L W c s n h z k = record {
   tie-order = k .tie-order;
   no-cycle = k .no-cycle;
   locks = k .locks;
+  room-line = k .room-line;
+  line = w;
+  line-once = k .line-once;
 }
 
 -- where more live, what was sound is sound
@@ -183,6 +196,15 @@ pub live-start : (W : Window) (p c : ℕ) → live W c ≡ true → live (addCha
 unfolding live addChange put
 live-start W p c h = let l = live-below W c h in
     rw (ne-eqb c (suc (W .given)) (omega arith), lt-ltb c (suc (suc (W .given))) (omega arith)) (and-right (ltb c (suc (W .given))) _ h)
+
+-- who runs, runs on
+pub run-start : (L : Limits) (W : Window) (p : ℕ) → Sound L W → (c : ℕ) → running W c ≡ true → running (addChange W p) c ≡ true
+unfolding running addChange put
+run-start L W p k c h = go (same? c (suc (W .given)))
+  where
+    go : {b : Bool} → Same c (suc (W .given)) b → eqb (cond b 1 (W .status c)) 2 ≡ true
+    go (same q) = absurd (omega (arith, eqb-true (W .status c) 2 h, status-none L W k c (omega arith)))
+    go (other n) = h
 
 module _ (L : Limits) (W : Window) (p : ℕ) (room : not (exceeds (suc W.given) L.changes) ≡ true) (lower : p ≤ W .given) (k : Sound L W) where
   -- the places of changes, with the new one
@@ -216,4 +238,7 @@ module _ (L : Limits) (W : Window) (p : ℕ) (room : not (exceeds (suc W.given) 
     tie-order = k .tie-order;
     no-cycle = acyclic-more (suc W.given) W.ties (ends-below W (k .ties)) (k .no-cycle);
     locks = k .locks;
+    room-line = k .room-line;
+    line = all-weaken _ _ (waiter-more W.entries (running W) (running (addChange W p)) (run-start L W p k)) W.line (k .line);
+    line-once = k .line-once;
   }

@@ -7,19 +7,23 @@ use native.Mathlib.Omega.{arith}
 use lib.Dec.{leb, ltb, eqb}
 use borrow.Author.Tests.{not-false, eqb-true, ltb-false, leb-false, lt-ltb, le-leb}
 use Rattle.rules.specs.Base.{put, exceeds, all, anyBelow, outside}
-use Rattle.rules.specs.Window.{Limits, Window, fresh, withValue, withStatus, live, running, noChange, noEntry}
+use Rattle.rules.specs.Window.{Limits, Window, fresh, withValue, withStatus, withLine, live, running, noChange, noEntry}
 use Rattle.rules.specs.Locks.{makePermit}
 use Rattle.rules.specs.Ties.{grouped, falling, makeTie, groupOf, endSet}
+use Rattle.rules.specs.Line.{mayPass}
 use Rattle.rules.specs.Sound.{sound, recordSound, permitSound}
-use Rattle.rules.specs.Calls.{Call, Open, Initiate, Begin, Complete, Lock, Read, Write, Permit, Delegate, Depend, Commit, Abort, Status, Parent, Value, arguments, fits, Outcome, done, unchanged}
-use Rattle.rules.specs.Effects.{effect, covers, lockEntry, writeEntry, entriesNamed, commitChange, abortChange, grantable, commitBlockers, commitGroup, abortAll, undo, addRecord}
+use Rattle.rules.specs.Calls.{Call, Open, Initiate, Begin, Complete, Lock, Read, Write, Permit, Delegate, Depend, Commit, Abort, Status, Parent, Value, arguments, fits, Outcome, done, unchanged, blocked}
+use Rattle.rules.specs.Effects.{effect, leave, completeChange, covers, putHeld, lockGranted, lockEntry, writeEntry, entriesNamed, commitChange, abortChange, grantable, commitBlockers, commitGroup, abortAll, undo, addRecord}
 use Rattle.rules.specs.Refusals.{Check, firstFailed, _if_, checks, step, settle}
 use Rattle.rules.proofs.BaseLaws.{and-left, and-right, or-none}
+use Rattle.rules.proofs.LineLaws.{waiter-more}
+use Rattle.rules.proofs.ListLaws.{all-weaken}
 use Rattle.rules.proofs.RuleLaws.{done-unrefused}
 use Rattle.rules.proofs.SetLaws.{reach-to}
 use Rattle.rules.proofs.SoundDelegate.{hand-sound}
 use Rattle.rules.proofs.SoundDepend.{make-sound, depend-sound}
 use Rattle.rules.proofs.SoundEnd.{end-sound}
+use Rattle.rules.proofs.SoundLine.{leave-sound, wait-sound, run-begin, complete-line}
 use Rattle.rules.proofs.SoundLock.{lock-sound}
 use Rattle.rules.proofs.SoundParts.{Blank, Sound, sound-parts, parts-sound, sound-blank, value-most, inside-of, live-at, live-of, ends-live}
 use Rattle.rules.proofs.SoundPermit.{permit-sound}
@@ -84,13 +88,19 @@ module _ (L : Limits) (W : Window) (k : Sound L W) where
   unfolding endSet
   fall-live c h = reach-to (suc W.given) (falling W.ties) (λ d. live W d ≡ true) (λ d e b a r. falling-ends (live W) W.ties (ends-live L W k) d e r .1) c h
 
-  moves : (c s t : ℕ) → noChange W c ≡ false → not (eqb (W .status c) s) ≡ false → outside 1 3 s ≡ outside 1 3 t → outside 1 5 t ≡ false → Sound L (withStatus W (put W.status c t))
-  moves c s t n e h r = status-sound L W c t n (ap (outside 1 3) (eqb-true (W .status c) s (not-false _ e)) ∙ h) r k
+  begins : (c : ℕ) → Passed (checks L W (Begin c)) → Sound L (effect W (Begin c) .after)
+  unfolding checks _if_ effect done running outside
+  begins c p = status-sound L W c 2 (p .0) (ap (outside 1 3) (eqb-true (W .status c) 1 (not-false _ (p .1 .0)))) refl (all-weaken _ _ (waiter-more W.entries (running W) _ (run-begin W c)) W.line (k .line)) k
+
+  completes : (c : ℕ) → Passed (checks L W (Complete c)) → Sound L (effect W (Complete c) .after)
+  unfolding checks _if_ effect done running outside completeChange leave withLine withStatus noChange
+  completes c p = status-sound L (leave W c) c 3 (p .0) (ap (outside 1 3) (eqb-true (W .status c) 2 (not-false _ (p .1 .0)))) refl (complete-line L W c k) (leave-sound L W k c)
 
   locks : (c e m : ℕ) → Passed (checks L W (Lock c e m)) → Sound L (effect W (Lock c e m) .after)
-  unfolding checks _if_ effect lockEntry covers done unchanged running outside
-  locks c e m p = either L (leb m (W .held e c)) _ _ (λ h. k) (λ short. either L (grantable W c e m) _ _
-      (λ free. lock-sound L W c e m k (le-leb m 2 (inside-of 1 2 m (p .1 .1 .0) .1)) (entry-of W e (p .1 .0)) (live-at W c 2 (p .0) (not-false _ (p .1 .1 .1 .0)) refl) short free) (λ h. k))
+  unfolding checks _if_ effect lockEntry lockGranted covers done blocked running outside
+  locks c e m p = either L (leb m (W .held e c)) _ _ (λ h. leave-sound L W k c) (λ short. either L (grantable W c e m && mayPass W.line c e) _ _
+      (λ free. leave-sound L (putHeld W e c m) (lock-sound L W c e m k (le-leb m 2 (inside-of 1 2 m (p .1 .1 .0) .1)) (entry-of W e (p .1 .0)) (live-at W c 2 (p .0) (not-false _ (p .1 .1 .1 .0)) refl) short (and-left (grantable W c e m) _ free)) c)
+      (λ h. wait-sound L W k c e m (not-false _ (p .1 .1 .1 .0)) (entry-of W e (p .1 .0)) (p .1 .1 .0)))
 
   writes : (c e v : ℕ) → fits (Write c e v) ≡ true → Passed (checks L W (Write c e v)) → Sound L (effect W (Write c e v) .after)
   unfolding fits arguments all checks _if_ effect writeEntry addRecord done running withValue live recordSound outside
@@ -130,8 +140,8 @@ module _ (L : Limits) (W : Window) (k : Sound L W) where
   unfolding effect done checks _if_ running outside
   effect-sound (Open n) a p = open-sound L W n p
   effect-sound (Initiate q) a p = start-sound L W q (ap not (p .1 .1 .0)) (ltb-false W.given q (p .0)) k
-  effect-sound (Begin c) a p = moves c 1 2 (p .0) (p .1 .0) refl refl
-  effect-sound (Complete c) a p = moves c 2 3 (p .0) (p .1 .0) refl refl
+  effect-sound (Begin c) a p = begins c p
+  effect-sound (Complete c) a p = completes c p
   effect-sound (Lock c e m) a p = locks c e m p
   effect-sound (Read c e) a p = k
   effect-sound (Write c e v) a p = writes c e v a p

@@ -1,5 +1,5 @@
 -- Tests, functions changed at a place, bounded quantifiers, sorted lists: nothing of the window. Assumes nothing.
-use mathlib.Core.Bool.{Bool, true, false, cond, _&&_, _||_}
+use mathlib.Core.Bool.{Bool, true, false, not, cond, _&&_, _||_}
 use mathlib.Core.List.{List, [], _∷_}
 use Prim.Native.Nat.{ℕ, zero, suc, compare, Ordering, Ordering·lt, Ordering·eq, Ordering·gt}
 use lib.Dec.{ltb, eqb}
@@ -95,3 +95,8 @@ insert key unite x (y ∷ l) = byOrder (order (key x) (key y)) (x ∷ y ∷ l) (
 unfoldable pub rising {ℓ} : {A : Type ℓ} → (A → Key) → List A → Bool
 rising key [] = true
 rising key (x ∷ l) = all (λ y. isLt (order (key x) (key y))) l && rising key l
+
+-- no number stands twice
+unfoldable pub distinct {ℓ} : {A : Type ℓ} → (A → ℕ) → List A → Bool
+distinct number [] = true
+distinct number (x ∷ l) = all (λ y. not (eqb (number y) (number x))) l && distinct number l

@@ -58,3 +58,7 @@ done k W = record { answer = 0; number = k; after = W }
 -- another answer: "no byte changes"
 unfoldable pub unchanged : ℕ → ℕ → Window → Outcome
 unchanged a k W = record { answer = a; number = k; after = W }
+
+-- "a blocked lock alters the window by its place in line"
+unfoldable pub blocked : ℕ → Window → Outcome
+blocked k W = record { answer = 20; number = k; after = W }

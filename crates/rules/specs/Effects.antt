@@ -4,11 +4,12 @@ use mathlib.Core.List.{List, [], _∷_, _++_, map, foldr}
 use Prim.Native.Nat.{ℕ, suc, max}
 use lib.Dec.{leb, eqb}
 use Rattle.rules.specs.Base.{put, put2, anyBelow, countBelow, lowestBelow, any, keep}
-use Rattle.rules.specs.Sets.{Set, putAll}
-use Rattle.rules.specs.Window.{LogRecord, PermitRecord, TieRecord, Window, fresh, withValue, withStatus, withHeld, withLog, withPermits, withTies}
+use Rattle.rules.specs.Sets.{Set, only, putAll}
+use Rattle.rules.specs.Window.{LogRecord, PermitRecord, TieRecord, Window, fresh, withValue, withStatus, withHeld, withLog, withPermits, withTies, withLine}
 use Rattle.rules.specs.Locks.{clash, permitted, makePermit, addPermit}
 use Rattle.rules.specs.Ties.{isArrow, makeTie, addTie, groupOf, endSet}
-use Rattle.rules.specs.Calls.{Call, Open, Initiate, Begin, Complete, Lock, Read, Write, Permit, Delegate, Depend, Commit, Abort, Status, Parent, Value, Outcome, done, unchanged}
+use Rattle.rules.specs.Line.{makeWaiter, mayPass, enterLine, lineLeft}
+use Rattle.rules.specs.Calls.{Call, Open, Initiate, Begin, Complete, Lock, Read, Write, Permit, Delegate, Depend, Commit, Abort, Status, Parent, Value, Outcome, done, unchanged, blocked}
 
 -- INITIATE
 -- "Changes, numbered 1, 2, 3 as they are initiated. A number is never given twice": the next number, with status 1
@@ -23,7 +24,16 @@ addChange W p = record {
   log = W.log;
   permits = W.permits;
   ties = W.ties;
+  line = W.line;
 }
+
+-- COMPLETE
+-- "A change that stops running leaves its line"
+unfoldable pub leave : Window → ℕ → Window
+leave W c = withLine W (lineLeft (only c) W.line)
+
+unfoldable pub completeChange : Window → ℕ → Window
+completeChange W c = withStatus (leave W c) (put W.status c 3)
 
 -- LOCK
 -- "0 if a lock held already covers the mode": "Write covers read"
@@ -42,9 +52,18 @@ grantable W c e m = not (anyBelow (suc W.given) (lockBlockers W c e m))
 unfoldable pub putHeld : Window → ℕ → ℕ → ℕ → Window
 putHeld W e c m = withHeld W (put2 W.held e c m)
 
--- "0 if a lock held already covers the mode. Otherwise granted if … Otherwise 20, and no byte changes"
+-- "a lock not already covered is granted exactly when every clashing holder permits it and no other change is first in line"
+unfoldable pub lockGranted : Window → ℕ → ℕ → ℕ → Bool
+lockGranted W c e m = grantable W c e m && mayPass W.line c e
+
+-- "A lock call that would be blocked puts its change at the end of that entry's line, with its mode"
+unfoldable pub wait : Window → ℕ → ℕ → ℕ → Window
+wait W c e m = withLine W (enterLine (makeWaiter c e m) W.line)
+
+-- "0 if a lock held already covers the mode. Otherwise granted if … Otherwise 20, and the change stands in line";
+-- "a grant leaves the line", and a mode already covered "takes the change out of that entry's line"
 unfoldable pub lockEntry : Window → ℕ → ℕ → ℕ → Outcome
-lockEntry W c e m = cond (covers (W .held e c) m) (done 0 W) (cond (grantable W c e m) (done 0 (putHeld W e c m)) (unchanged 20 0 W))
+lockEntry W c e m = cond (covers (W .held e c) m) (done 0 (leave W c)) (cond (lockGranted W c e m) (done 0 (leave (putHeld W e c m) c)) (blocked 0 (wait W c e m)))
 
 -- WRITE
 -- "adds a log record": at the end
@@ -106,10 +125,11 @@ handOver W from to on = record {
   log = moveLog from to on W.log;
   permits = movePermits from to on W.permits;
   ties = W.ties;
+  line = W.line;
 }
 
 -- COMMIT AND ABORT
--- "An ended change loses its locks, log records, ties, and permits given and received. Remaining records close up in order":
+-- "An ended change loses its locks, log records, ties, and permits given and received. Remaining records close up in order"; "A change that stops running leaves its line":
 -- what is left of each when the changes of a set end
 unfoldable pub released : Set → (ℕ → ℕ → ℕ) → ℕ → ℕ → ℕ
 released s held e = putAll s 0 (held e)
@@ -144,6 +164,7 @@ endAll how s W = record {
   log = unowned s W.log;
   permits = permitsLeft s W.permits;
   ties = tiesLeft s W.ties;
+  line = lineLeft s W.line;
 }
 
 -- "how many changes this call ended"
@@ -187,7 +208,7 @@ unfoldable pub effect : Window → Call → Outcome
 effect W (Open n) = done 0 (fresh n)
 effect W (Initiate p) = done (suc W.given) (addChange W p)
 effect W (Begin c) = done 0 (withStatus W (put W.status c 2))
-effect W (Complete c) = done 0 (withStatus W (put W.status c 3))
+effect W (Complete c) = done 0 (completeChange W c)
 effect W (Lock c e m) = lockEntry W c e m
 effect W (Read c e) = done (W .value e) W
 effect W (Write c e v) = done 0 (writeEntry W c e v)

@@ -64,6 +64,20 @@ isTying k l f (permitting g t e o) = false
 isTying k l f (delegating h t e) = false
 isTying k l f (tying k′ l′ f′) = eqb k k′ && eqb l l′ && eqb f f′
 
+-- a lock of this change on this entry
+unfoldable pub isLocking : ℕ → ℕ → Action → Bool
+isLocking c e opening = false
+isLocking c e initiating = false
+isLocking c e nothing = false
+isLocking c e (locking d x m) = eqb c d && eqb e x
+isLocking c e (permitting g t x o) = false
+isLocking c e (delegating f t x) = false
+isLocking c e (tying k l f) = false
+
+-- such a lock, answered so
+unfoldable pub isAnswered : ℕ → ℕ → ℕ → Event → Bool
+isAnswered answer c e x = eqb x.answer answer && isLocking c e (actionOf x.call)
+
 -- "the highest given" after an action with second number n, h before it
 unfoldable pub highestAfter : Action → ℕ → ℕ → ℕ
 highestAfter opening n h = h

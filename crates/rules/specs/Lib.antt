@@ -6,6 +6,7 @@ pub mod Sets
 pub mod Window
 pub mod Locks
 pub mod Ties
+pub mod Line
 pub mod Sound
 -- "The calls"
 pub mod Calls
@@ -15,3 +16,5 @@ pub mod Refusals
 -- "Lists of calls": the words of demand 3, and the demand
 pub mod Events
 pub mod Lists
+-- "What the lines are held to": who waits on an entry, and in which order they are granted
+pub mod Waiting

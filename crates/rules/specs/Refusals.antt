@@ -9,6 +9,7 @@ use Rattle.rules.specs.Base.{exceeds, outside}
 use Rattle.rules.specs.Window.{Limits, Window, noChange, noEntry, live, running}
 use Rattle.rules.specs.Locks.{makePermit, addPermit, clashesPermitted}
 use Rattle.rules.specs.Ties.{makeTie, addTie, acyclic}
+use Rattle.rules.specs.Line.{waitsElsewhere}
 use Rattle.rules.specs.Calls.{Call, Open, Initiate, Begin, Complete, Lock, Read, Write, Permit, Delegate, Depend, Commit, Abort, Status, Parent, Value, Outcome, unchanged}
 use Rattle.rules.specs.Effects.{every, entriesNamed, handOver, effect}
 
@@ -27,6 +28,7 @@ _if_ a b = record { code = a; fails = b }
 -- "5. A mode, operations or kind is not one of its values"
 -- "6. The two changes of a permit, delegate or depend are the same"
 -- "7. A status does not suit: begin takes 1; complete, lock, read and write take 2; a parent other than 0 must be 2; permit, delegate and depend take live ones, taker 0 apart"
+-- "12. The change stands in another entry's line, checked after 7, for lock only"
 -- "8. A read has no lock on the entry, or a write no write lock"
 -- "9. The new tie would let a path of arrows return to its group"
 -- "10. After the delegate some clashing pair would have no permit as soundness wants it"
@@ -36,7 +38,7 @@ checks L W (Open n) = 2 if (ltb n 1 || exceeds n L.entries) ∷ []
 checks L W (Initiate p) = 3 if ltb W.given p ∷ 7 if not (eqb p 0 || running W p) ∷ 11 if exceeds (suc W.given) L.changes ∷ []
 checks L W (Begin c) = 3 if noChange W c ∷ 7 if not (eqb (W .status c) 1) ∷ []
 checks L W (Complete c) = 3 if noChange W c ∷ 7 if not (running W c) ∷ []
-checks L W (Lock c e m) = 3 if noChange W c ∷ 4 if noEntry W e ∷ 5 if outside 1 2 m ∷ 7 if not (running W c) ∷ []
+checks L W (Lock c e m) = 3 if noChange W c ∷ 4 if noEntry W e ∷ 5 if outside 1 2 m ∷ 7 if not (running W c) ∷ 12 if waitsElsewhere W.line c e ∷ []
 checks L W (Read c e) = 3 if noChange W c ∷ 4 if noEntry W e ∷ 7 if not (running W c) ∷ 8 if eqb (W .held e c) 0 ∷ []
 checks L W (Write c e v) = 3 if noChange W c ∷ 4 if noEntry W e ∷ 7 if not (running W c) ∷ 8 if not (eqb (W .held e c) 2) ∷ 11 if exceeds (suc (length W.log)) L.records ∷ []
 checks L W (Permit g t e o) =

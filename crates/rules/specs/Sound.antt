@@ -4,9 +4,9 @@ use mathlib.Core.List.{List, [], _∷_}
 use Prim.Native.Nat.{ℕ, suc, _^_}
 use lib.Dec.{leb, ltb, eqb}
 use lib.ListN.{length}
-use Rattle.rules.specs.Base.{exceeds, outside, allBelow, all, rising}
+use Rattle.rules.specs.Base.{exceeds, outside, allBelow, all, rising, distinct}
 use Rattle.rules.specs.Sets.{Set}
-use Rattle.rules.specs.Window.{Limits, LogRecord, PermitRecord, TieRecord, Window, notGiven, live, permitKey, tieKey}
+use Rattle.rules.specs.Window.{Limits, LogRecord, PermitRecord, TieRecord, LineRecord, Window, notGiven, live, running, permitKey, tieKey}
 use Rattle.rules.specs.Locks.{clashesPermitted}
 use Rattle.rules.specs.Ties.{isGroup, acyclic}
 
@@ -38,6 +38,10 @@ permitSound entries lives p = lives p.giver && (eqb p.taker 0 || lives p.taker) 
 unfoldable pub tieSound : Set → TieRecord → Bool
 tieSound lives t = not (outside 1 3 t.kind) && lives t.leader && lives t.follower && not (eqb t.leader t.follower) && (not (isGroup t.kind) || ltb t.leader t.follower)
 
+-- a change that stands in line "is running"; its entry and mode are in their ranges
+unfoldable pub waiterSound : ℕ → Set → LineRecord → Bool
+waiterSound entries runs r = runs r.change && ltb r.entry entries && not (outside 1 2 r.mode)
+
 -- what is asked, each under the words it stands for. Bytes that hold no figure are the crate layout's, `soundBytes`
 unfoldable pub parts : Limits → Window → List Bool
 parts L W =
@@ -60,6 +64,10 @@ parts L W =
     ∷ acyclic (suc W.given) W.ties
     -- "each clashing pair has a permit …"
     ∷ clashesPermitted W
+    -- "each change stands in one line at most, and is running": so no more stand in line than there are changes
+    ∷ not (exceeds (length W.line) L.changes)
+    ∷ all (waiterSound W.entries (running W)) W.line
+    ∷ distinct (λ r. r .change) W.line
     ∷ []
 
 -- "A window is sound when" (the invariant of its data)

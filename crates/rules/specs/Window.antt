@@ -37,9 +37,16 @@ pub record TieRecord : Type 0 where
   pub leader : ℕ
   pub follower : ℕ
 
+-- "each entry has a line of changes that wait for a lock on it, in order of coming, each with its mode" (a queue of lock requests)
+pub record LineRecord : Type 0 where
+  pub change : ℕ
+  pub entry : ℕ
+  pub mode : ℕ
+
 -- a window: "Entries, numbered from 0" (data items) with their values, "Changes, numbered 1, 2, 3" (transactions) with status and parent,
--- "Locks: for each entry and change", the log, the permits and the ties.
--- `given` is the highest change number given; `held e c` is the lock of change c on entry e: "0 none, 1 read or 2 write"
+-- "Locks: for each entry and change", the log, the permits, the ties and the lines.
+-- `given` is the highest change number given; `held e c` is the lock of change c on entry e: "0 none, 1 read or 2 write".
+-- `line` has the lines of all entries, in order of coming: the line of an entry is its records there, in that order
 pub record Window : Type 0 where
   pub entries : ℕ
   pub value : ℕ → ℕ
@@ -50,6 +57,7 @@ pub record Window : Type 0 where
   pub log : List LogRecord
   pub permits : List PermitRecord
   pub ties : List TieRecord
+  pub line : List LineRecord
 
 -- "Status: 1 initiated, 2 running, 3 completed, 4 committed, 5 aborted. Statuses 1 to 3 are live" (active)
 abbrev pub isLive : ℕ → Bool
@@ -91,23 +99,26 @@ tieKey t = record { k1 = t.kind; k2 = t.leader; k3 = t.follower }
 
 -- "as many as open was given", "all 0 at the start": what open makes
 unfoldable pub fresh : ℕ → Window
-fresh n = record { entries = n; value = λ e. 0; given = 0; status = λ c. 0; parent = λ c. 0; held = λ e c. 0; log = []; permits = []; ties = [] }
+fresh n = record { entries = n; value = λ e. 0; given = 0; status = λ c. 0; parent = λ c. 0; held = λ e c. 0; log = []; permits = []; ties = []; line = [] }
 
 -- a window with one part put in another's place
 unfoldable pub withValue : Window → (ℕ → ℕ) → Window
-withValue W x = record { entries = W.entries; value = x; given = W.given; status = W.status; parent = W.parent; held = W.held; log = W.log; permits = W.permits; ties = W.ties }
+withValue W x = record { entries = W.entries; value = x; given = W.given; status = W.status; parent = W.parent; held = W.held; log = W.log; permits = W.permits; ties = W.ties; line = W.line }
 
 unfoldable pub withStatus : Window → (ℕ → ℕ) → Window
-withStatus W x = record { entries = W.entries; value = W.value; given = W.given; status = x; parent = W.parent; held = W.held; log = W.log; permits = W.permits; ties = W.ties }
+withStatus W x = record { entries = W.entries; value = W.value; given = W.given; status = x; parent = W.parent; held = W.held; log = W.log; permits = W.permits; ties = W.ties; line = W.line }
 
 unfoldable pub withHeld : Window → (ℕ → ℕ → ℕ) → Window
-withHeld W x = record { entries = W.entries; value = W.value; given = W.given; status = W.status; parent = W.parent; held = x; log = W.log; permits = W.permits; ties = W.ties }
+withHeld W x = record { entries = W.entries; value = W.value; given = W.given; status = W.status; parent = W.parent; held = x; log = W.log; permits = W.permits; ties = W.ties; line = W.line }
 
 unfoldable pub withLog : Window → List LogRecord → Window
-withLog W x = record { entries = W.entries; value = W.value; given = W.given; status = W.status; parent = W.parent; held = W.held; log = x; permits = W.permits; ties = W.ties }
+withLog W x = record { entries = W.entries; value = W.value; given = W.given; status = W.status; parent = W.parent; held = W.held; log = x; permits = W.permits; ties = W.ties; line = W.line }
 
 unfoldable pub withPermits : Window → List PermitRecord → Window
-withPermits W x = record { entries = W.entries; value = W.value; given = W.given; status = W.status; parent = W.parent; held = W.held; log = W.log; permits = x; ties = W.ties }
+withPermits W x = record { entries = W.entries; value = W.value; given = W.given; status = W.status; parent = W.parent; held = W.held; log = W.log; permits = x; ties = W.ties; line = W.line }
 
 unfoldable pub withTies : Window → List TieRecord → Window
-withTies W x = record { entries = W.entries; value = W.value; given = W.given; status = W.status; parent = W.parent; held = W.held; log = W.log; permits = W.permits; ties = x }
+withTies W x = record { entries = W.entries; value = W.value; given = W.given; status = W.status; parent = W.parent; held = W.held; log = W.log; permits = W.permits; ties = x; line = W.line }
+
+unfoldable pub withLine : Window → List LineRecord → Window
+withLine W x = record { entries = W.entries; value = W.value; given = W.given; status = W.status; parent = W.parent; held = W.held; log = W.log; permits = W.permits; ties = W.ties; line = x }

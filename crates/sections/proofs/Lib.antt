@@ -1,7 +1,7 @@
 -- The sections of sound windows: what the tests on bytes come to.
 -- bytes joined to numbers
 pub mod ByteLaws
--- the values and the line, the header, the changes
+-- the values, the header, the changes
 pub mod PlaceLaws
 pub mod HeadLaws
 pub mod ChangeLaws

@@ -1,4 +1,4 @@
--- The values, each in its fixed place, and the line, which is zeros. Assumes nothing.
+-- The values, each in its fixed place. Assumes nothing.
 use mathlib.Core.Path.{_≡_, refl, sym, _∙_, ap}
 use mathlib.Core.Logic.{_↔_}
 use mathlib.Core.Bool.{Bool, true, cond, _&&_, _||_}
@@ -12,10 +12,10 @@ use Rattle.rules.specs.Base.{allBelow}
 use Rattle.rules.specs.Sound.{valueSound}
 use Rattle.rules.proofs.BaseLaws.{Below, under, over, below}
 use Rattle.rules.proofs.SoundParts.{no-value}
-use Rattle.layout.specs.Codec.{byte, join4, valueByte, lineByte, valueSection, lineSection}
+use Rattle.layout.specs.Codec.{byte, join4, valueByte, valueSection}
 use Rattle.layout.proofs.CodecLaws.{byte-zero, join4-same}
 use Rattle.layout.proofs.RecordLaws.{by-cells}
-use Rattle.layout.proofs.SectionLaws.{Bytes, getD-table0, table-list}
+use Rattle.layout.proofs.SectionLaws.{Bytes, getD-table0}
 use Rattle.cells.specs.Part.{byteIs}
 use Rattle.cells.specs.Num.{le}
 use Rattle.cells.proofs.NumLaws.{le-byte}
@@ -54,11 +54,3 @@ module _ (bs : List ℕ) (b : Bytes bs) (size : length bs ≡ 1024) (entries : �
 
   pub values-sound : allBelow (1024 - entries * 4) (byteIs bs (entries * 4) 0) ≡ true ↔ ValuesSound bs entries
   values-sound = (λ z. record { value = valueAt; bytes = values-bytes; fine = values-fine z }, values-zero)
-
--- THE LINE
-pub line-sound : (bs : List ℕ) → length bs ≡ 1024 → allBelow (1024 - 0) (byteIs bs 0 0) ≡ true ↔ bs ≡ lineSection
-unfolding lineSection lineByte
-line-sound bs size = (
-  λ z. sym (table-list 0 bs lineByte size (λ i h. sym (zeros-at bs 0 1024 z i (omega arith) h))),
-  λ e. zeros-all bs 0 1024 (λ i h t. ap (λ l. getD l i 0) e ∙ getD-table0 1024 lineByte i 0 t),
-)

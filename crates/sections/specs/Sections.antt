@@ -17,13 +17,15 @@ pub record HeadSound (bs : List ℕ) : Type 0 where
   pub records : ℕ
   pub permits : ℕ
   pub ties : ℕ
-  pub bytes : bs ≡ headSection (entries ∷ given ∷ records ∷ permits ∷ ties ∷ [])
+  pub waiters : ℕ
+  pub bytes : bs ≡ headSection (entries ∷ given ∷ records ∷ permits ∷ ties ∷ waiters ∷ [])
   pub some : 1 ≤ entries
   pub entries-most : entries ≤ 256
   pub given-most : given ≤ 255
   pub records-most : records ≤ 2048
   pub permits-most : permits ≤ 1024
   pub ties-most : ties ≤ 512
+  pub waiters-most : waiters ≤ 255
 
 -- values: the places of no entry are 0
 pub record ValuesSound (bs : List ℕ) (entries : ℕ) : Type 0 where

@@ -1,10 +1,9 @@
-// Whether a section of lent bytes is that of a sound window: a function for each, but for permits and ties.
+// Whether a section of lent bytes is that of a sound window: a function for each, but for the line, permits and ties.
 use cells::all_zero;
 use cells::read_u16;
 use layout::Changes;
 use layout::Entries;
 use layout::Header;
-use layout::Line;
 use layout::Locks;
 use layout::Log;
 use layout::Permits;
@@ -17,7 +16,7 @@ ghost use Prim.Native.Nat.{ℕ, _+_, _*_, _≤_, _<_};
 ghost use lib.ListN.{length};
 ghost use Rattle.rules.specs.Base.{allBelow};
 ghost use Rattle.rules.specs.Sets.{Set};
-ghost use Rattle.layout.specs.Codec.{headSize, valuesSize, changesSize, lineSize, locksSize, logSize, lineSection};
+ghost use Rattle.layout.specs.Codec.{headSize, valuesSize, changesSize, locksSize, logSize};
 ghost use Rattle.cells.specs.Bits.{bytesHave};
 ghost use Rattle.sets.specs.Members.{members};
 ghost use Rattle.sections.specs.Fits.{changeFits, nextFits, writes, rowFits, recordFits};
@@ -47,7 +46,10 @@ pub fn header(head: &[u8]) -> bool
     if Ties::MOST < read_u16(head, 8) as usize {
         return false;
     }
-    all_zero(head, 10, Header::SIZE)
+    if Changes::MOST < read_u16(head, 10) as usize {
+        return false;
+    }
+    all_zero(head, 12, Header::SIZE)
 }
 
 // The places of no entry are 0.
@@ -57,14 +59,6 @@ pub fn values(values: &[u8], entries: usize) -> bool
     ensures { λ r. ⌜ (r ≡ true ↔ ValuesSound (now (values .entry)) entries) ⌝ }
 {
     all_zero(values, entries * 4, Entries::SIZE)
-}
-
-// The reserved section is 0.
-pub fn line(line: &[u8]) -> bool
-    requires { ⌜ length (now line) ≡ lineSize ⌝ }
-    ensures { λ r. ⌜ (r ≡ true ↔ now (line .entry) ≡ lineSection) ⌝ }
-{
-    all_zero(line, 0, Line::SIZE)
 }
 
 // A byte as a wider number. A function, so that its contract says at each use that the number is the byte's.

@@ -7,7 +7,7 @@ use native.Mathlib.Omega.{arith}
 use lib.ListN.{length}
 use borrow.Author.Tests.{lt-ltb, ltb-true}
 use Rattle.rules.specs.Base.{all}
-use Rattle.rules.specs.Window.{limits, Window, live, lives}
+use Rattle.rules.specs.Window.{limits, Window, live, lives, running}
 use Rattle.rules.specs.Sound.{heldSound, tieSound}
 use Rattle.rules.specs.Locks.{clashesPermitted}
 use Rattle.rules.specs.Ties.{acyclic}
@@ -22,6 +22,7 @@ use Rattle.layout.proofs.PartLaws.{eight-parts}
 use Rattle.cells.specs.Part.{part}
 use Rattle.locks.specs.Held.{Modes}
 use Rattle.sections.specs.Sections.{HeadSound, ChangesSound}
+use Rattle.line_section.specs.Sections.{runBy}
 use Rattle.soundness.specs.Parts.{FrontSound, BackSound, Listed}
 
 -- eight lists one after the other
@@ -31,7 +32,7 @@ join8 p q r s t u v w = λ i. p i ++ (q i ++ (r i ++ (s i ++ (t i ++ (u i ++ (v 
 
 -- FROM THE SECTIONS TO THE WINDOW
 module _ (bs : List ℕ) (h : HeadSound (part bs headAt headSize)) (c : ChangesSound (part bs changesAt changesSize) (h .given))
-    (f : FrontSound bs (h .entries) (lives (h .given) (c .status)))
+    (f : FrontSound bs (h .entries) (h .waiters) (lives (h .given) (c .status)) (runBy (c .status)))
     (k : BackSound bs (h .entries) (h .permits) (h .ties) (h .records) (lives (h .given) (c .status)) (f .locks .held)) where
   -- the window that they are
   unfoldable pub gathered : Window
@@ -45,16 +46,17 @@ module _ (bs : List ℕ) (h : HeadSound (part bs headAt headSize)) (c : ChangesS
     log = k .log .log;
     permits = k .permits .permits;
     ties = k .ties .ties;
+    line = f .line .line;
   }
 
   pub gathered-bytes : length bs ≡ windowSize → encode gathered ≡ bs
   unfolding gathered encode lay figures part
   gathered-bytes size = sym (eight-parts bs size ∙ join8
-      (h .bytes ∙ (λ i. headSection (h .entries ∷ h .given ∷ sym (k .log .size) i ∷ sym (k .permits .size) i ∷ sym (k .ties .size) i ∷ [])))
-      (f .values .bytes) (c .bytes) (f .line) (f .locks .bytes) (k .permits .bytes) (k .ties .bytes) (k .log .bytes))
+      (h .bytes ∙ (λ i. headSection (h .entries ∷ h .given ∷ sym (k .log .size) i ∷ sym (k .permits .size) i ∷ sym (k .ties .size) i ∷ sym (f .line .size) i ∷ [])))
+      (f .values .bytes) (c .bytes) (f .line .bytes) (f .locks .bytes) (k .permits .bytes) (k .ties .bytes) (k .log .bytes))
 
   gathered-sound : acyclic (suc (h .given)) (k .ties .ties) ≡ true → clashesPermitted gathered ≡ true → Sound limits gathered
-  unfolding gathered live limits
+  unfolding gathered live running runBy limits
   gathered-sound a p = record {
     some = lt-ltb 0 (h .entries) (omega (arith, h .some));
     entries = ap not (over-false (h .entries) 256 (h .entries-most));
@@ -73,6 +75,9 @@ module _ (bs : List ℕ) (h : HeadSound (part bs headAt headSize)) (c : ChangesS
     tie-order = k .ties .order;
     no-cycle = a;
     locks = fits-all gathered (f .locks .fine) p;
+    room-line = rw (f .line .size) (ap not (over-false (h .waiters) 255 (h .waiters-most)));
+    line = f .line .fine;
+    line-once = f .line .once;
   }
 
   pub gathered-all : length bs ≡ windowSize → acyclic (suc (h .given)) (k .ties .ties) ≡ true → clashesPermitted gathered ≡ true → soundBytes bs ≡ true
@@ -122,6 +127,7 @@ module _ (bs : List ℕ) (s : soundBytes bs ≡ true) where
     records = length (W .log);
     permits = length (W .permits);
     ties = length (W .ties);
+    waiters = length (W .line);
     bytes = head-bytes bs s;
     some = ltb-true 0 (W .entries) (z .some);
     entries-most = entries-most W z;
@@ -129,17 +135,18 @@ module _ (bs : List ℕ) (s : soundBytes bs ≡ true) where
     records-most = within-of (length (W .log)) 2048 (z .room-log);
     permits-most = within-of (length (W .permits)) 1024 (z .room-permits);
     ties-most = within-of (length (W .ties)) 512 (z .room-ties);
+    waiters-most = within-of (length (W .line)) 255 (z .room-line);
   }
 
   unfoldable pub changes-known : ChangesSound (part bs changesAt changesSize) (W .given)
   unfolding W part
   changes-known = record { status = W .status; parent = W .parent; bytes = changes-bytes bs s; statuses = z .statuses; parents = z .parents }
 
-  unfoldable pub front-known : FrontSound bs (W .entries) (lives (W .given) (W .status))
-  unfolding W live part
+  unfoldable pub front-known : FrontSound bs (W .entries) (length (W .line)) (lives (W .given) (W .status)) (runBy (W .status))
+  unfolding W live running runBy part
   front-known = record {
     values = record { value = W .value; bytes = values-known bs s; fine = z .values };
-    line = line-known bs s;
+    line = record { line = W .line; size = refl; bytes = line-known bs s; fine = z .line; once = z .line-once };
     locks = record { held = W .held; bytes = locks-known bs s; fine = z .helds };
   }
 

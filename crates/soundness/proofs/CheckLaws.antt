@@ -14,6 +14,7 @@ use Rattle.layout.specs.Codec.{headAt, headSize, changesAt, changesSize, locksA
 use Rattle.layout.specs.Memory.{soundBytes}
 use Rattle.cells.specs.Part.{part}
 use Rattle.sections.specs.Sections.{HeadSound, ChangesSound, LocksSound}
+use Rattle.line_section.specs.Sections.{runBy}
 use Rattle.soundness.specs.Parts.{FrontSound, BackSound, Listed}
 use Rattle.soundness.specs.Read.{AreFigures}
 use Rattle.soundness.specs.declared.Figures.{Figures}
@@ -22,6 +23,10 @@ use Rattle.soundness.proofs.Assembly.{W, head-known, changes-known, fro
 -- m is the set of the live changes that bytes of changes say
 abbrev Lives : List ℕ → ℕ → Set → Type 0
 Lives bs given m = (st pa : ℕ → ℕ) → part bs changesAt changesSize ≡ changeSection st pa → (k : ℕ) → m k ≡ lives given st k
+
+-- r decides whether the values, the line and the locks are sound beside the changes
+abbrev Fronted : List ℕ → ℕ → ℕ → Set → Bool → Type 0
+Fronted bs entries waiters m r = (st pa : ℕ → ℕ) → part bs changesAt changesSize ≡ changeSection st pa → (r ≡ true ↔ FrontSound bs entries waiters m (runBy st))
 
 -- r decides whether the permits, the ties and the log are sound beside sound locks
 abbrev Decided : List ℕ → ℕ → ℕ → ℕ → ℕ → Set → Bool → Type 0
@@ -44,9 +49,9 @@ module _ (bs : List ℕ) (f : Figures) (read : (h : HeadSound (part bs headAt he
     unfolding head-known changes-known
     members-known = fun-ext (λ k. live _ _ (changes-known bs s .bytes) k ∙ ap (λ g. lives g (W bs s .status) k) (figures-known .given))
 
-    pub front-asked : FrontSound bs (f .entries) m
-    unfolding head-known
-    front-asked = rw (figures-known .entries, members-known) (front-known bs s)
+    pub front-asked : (r : Bool) → Fronted bs (f .entries) (f .waiters) m r → r ≡ true
+    unfolding head-known changes-known
+    front-asked r d = d _ _ (changes-known bs s .bytes) .1 (rw (figures-known .entries, figures-known .waiters, members-known) (front-known bs s))
 
     pub back-asked : (r : Bool) → Decided bs (f .entries) (f .permits) (f .ties) (f .records) m r → r ≡ true
     unfolding head-known front-known
@@ -61,7 +66,7 @@ module _ (bs : List ℕ) (f : Figures) (read : (h : HeadSound (part bs headAt he
 
 module _ (bs : List ℕ) (size : length bs ≡ windowSize) (h : HeadSound (part bs headAt headSize)) where
   -- all passed: the sections are sound, and the last two tests say so
-  sections-passed : (c : ChangesSound (part bs changesAt changesSize) (h .given)) (t : FrontSound bs (h .entries) (lives (h .given) (c .status)))
+  sections-passed : (c : ChangesSound (part bs changesAt changesSize) (h .given)) (t : FrontSound bs (h .entries) (h .waiters) (lives (h .given) (c .status)) (runBy (c .status)))
       → BackSound bs (h .entries) (h .permits) (h .ties) (h .records) (lives (h .given) (c .status)) (t .locks .held)
       → (r : Bool) → Says bs (h .entries) (h .permits) (h .ties) r → r ≡ true → soundBytes bs ≡ true
   unfolding gathered
@@ -70,17 +75,19 @@ module _ (bs : List ℕ) (size : length bs ≡ windowSize) (h : HeadSound (part 
       gathered-all bs h c t k size (and-left (acyclic (suc (h .given)) (k .ties .ties)) (clashesPermitted (gathered bs h c t k)) both) (and-right (acyclic (suc (h .given)) (k .ties .ties)) (clashesPermitted (gathered bs h c t k)) both)
 
   -- the same, by the live changes found
-  tests-passed : (m : Set) → Lives bs (h .given) m → ChangesSound (part bs changesAt changesSize) (h .given) → FrontSound bs (h .entries) m
+  tests-passed : (m : Set) → Lives bs (h .given) m → ChangesSound (part bs changesAt changesSize) (h .given)
+      → (o : Bool) → Fronted bs (h .entries) (h .waiters) m o → o ≡ true
       → (q : Bool) → Decided bs (h .entries) (h .permits) (h .ties) (h .records) m q → q ≡ true
       → (r : Bool) → Says bs (h .entries) (h .permits) (h .ties) r → r ≡ true → soundBytes bs ≡ true
-  tests-passed m live c t q d e r g y =
+  tests-passed m live c o t i q d e r g y =
       let same : m ≡ lives (h .given) (c .status) = fun-ext (λ k. live _ _ (c .bytes) k) in
-      let t′ : FrontSound bs (h .entries) (lives (h .given) (c .status)) = rw same at t in
+      let t′ : FrontSound bs (h .entries) (h .waiters) (lives (h .given) (c .status)) (runBy (c .status)) = rw same at (t (c .status) (c .parent) (c .bytes) .0 i) in
       let d′ : Decided bs (h .entries) (h .permits) (h .ties) (h .records) (lives (h .given) (c .status)) q = rw same at d in
       sections-passed c t′ (d′ (t′ .locks) .0 e) r g y
 
   -- the same, by the figures read
-  pub passed : (f : Figures) → AreFigures h f → (m : Set) → Lives bs (f .given) m → ChangesSound (part bs changesAt changesSize) (f .given) → FrontSound bs (f .entries) m
+  pub passed : (f : Figures) → AreFigures h f → (m : Set) → Lives bs (f .given) m → ChangesSound (part bs changesAt changesSize) (f .given)
+      → (o : Bool) → Fronted bs (f .entries) (f .waiters) m o → o ≡ true
       → (q : Bool) → Decided bs (f .entries) (f .permits) (f .ties) (f .records) m q → q ≡ true
       → (r : Bool) → Says bs (f .entries) (f .permits) (f .ties) r → r ≡ true → soundBytes bs ≡ true
-  passed f a m live c t q d e r g y = tests-passed m (rw (a .given) at live) (rw (a .given) at c) (rw (a .entries) at t) q (rw (a .entries, a .permits, a .ties, a .records) at d) e r (rw (a .entries, a .permits, a .ties) at g) y
+  passed f a m live c o t i q d e r g y = tests-passed m (rw (a .given) at live) (rw (a .given) at c) o (rw (a .entries, a .waiters) at t) i q (rw (a .entries, a .permits, a .ties, a .records) at d) e r (rw (a .entries, a .permits, a .ties) at g) y

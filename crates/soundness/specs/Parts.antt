@@ -6,17 +6,18 @@ use Prim.Native.Nat.{ℕ, suc}
 use lib.ListN.{length}
 use Rattle.rules.specs.Sets.{Set}
 use Rattle.rules.specs.Window.{Window}
-use Rattle.layout.specs.Codec.{valuesAt, valuesSize, lineAt, lineSize, locksAt, locksSize, permitsAt, permitsSize, tiesAt, tiesSize, logAt, logSize, lineSection, tieSection}
+use Rattle.layout.specs.Codec.{valuesAt, valuesSize, lineAt, lineSize, locksAt, locksSize, permitsAt, permitsSize, tiesAt, tiesSize, logAt, logSize, tieSection}
 use Rattle.layout.specs.Records.{endsBelow}
 use Rattle.cells.specs.Part.{part}
 use Rattle.sections.specs.Sections.{ValuesSound, LocksSound, LogSound}
+use Rattle.line_section.specs.Sections.{LineSound}
 use Rattle.row_sections.specs.Sections.{PermitsSound, TiesSound}
 use Rattle.clashes.specs.LocksAndPermits.{LocksAndPermits}
 
 -- the values, the line and the locks
-pub record FrontSound (bs : List ℕ) (entries : ℕ) (live : Set) : Type 0 where
+pub record FrontSound (bs : List ℕ) (entries waiters : ℕ) (live runs : Set) : Type 0 where
   pub values : ValuesSound (part bs valuesAt valuesSize) entries
-  pub line : part bs lineAt lineSize ≡ lineSection
+  pub line : LineSound (part bs lineAt lineSize) waiters entries runs
   pub locks : LocksSound (part bs locksAt locksSize) entries live
 
 -- the permits, the ties and the log

@@ -12,3 +12,4 @@ pub record AreFigures {bs : List ℕ} (h : HeadSound bs) (f : Figures) : Type 0 
   pub records : f .records ≡ h .records
   pub permits : f .permits ≡ h .permits
   pub ties : f .ties ≡ h .ties
+  pub waiters : f .waiters ≡ h .waiters

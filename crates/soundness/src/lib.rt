@@ -12,16 +12,17 @@ use sets::ChangeSet;
 ghost use mathlib.Core.Path.{_≡_};
 ghost use mathlib.Core.Bool.{true, _&&_};
 ghost use mathlib.Core.Logic.{_↔_};
-ghost use Prim.Native.Nat.{suc, _≤_};
+ghost use Prim.Native.Nat.{ℕ, suc, _≤_};
 ghost use lib.ListN.{length};
 ghost use Rattle.rules.specs.Window.{Window};
 ghost use Rattle.rules.specs.Locks.{clashesPermitted};
 ghost use Rattle.rules.specs.Ties.{acyclic};
-ghost use Rattle.layout.specs.Codec.{headAt, headSize, locksAt, locksSize, windowSize};
+ghost use Rattle.layout.specs.Codec.{headAt, headSize, changesAt, changesSize, changeSection, locksAt, locksSize, windowSize};
 ghost use Rattle.layout.specs.Memory.{soundBytes, soundMemory};
 ghost use Rattle.cells.specs.Part.{part};
 ghost use Rattle.sets.specs.Members.{members};
 ghost use Rattle.sections.specs.Sections.{HeadSound, LocksSound};
+ghost use Rattle.line_section.specs.Sections.{runBy};
 ghost use Rattle.soundness.specs.Parts.{FrontSound, BackSound, Listed};
 ghost use Rattle.soundness.specs.Read.{AreFigures};
 
@@ -32,6 +33,7 @@ struct Figures {
     records: usize,
     permits: usize,
     ties: usize,
+    waiters: usize,
 }
 
 // The figures of a window.
@@ -46,19 +48,25 @@ fn read_figures(w: &[u8]) -> Figures
         records: figure(head, 2),
         permits: figure(head, 3),
         ties: figure(head, 4),
+        waiters: figure(head, 5),
     }
 }
 
-// The values, the line and the locks.
-fn front(w: &[u8], entries: usize, live: ChangeSet) -> bool
+// The values, the line beside the changes, and the locks.
+fn front(w: &[u8], entries: usize, waiters: usize, live: ChangeSet) -> bool
     requires { ⌜ length (now w) ≡ windowSize ⌝ }
-    requires { ⌜ entries ≤ 256 ⌝ }
-    ensures { λ r. ⌜ (r ≡ true ↔ FrontSound (now (w .entry)) entries (members live)) ⌝ }
+    requires { ⌜ (entries ≤ 256) × (waiters ≤ 255) ⌝ }
+    ensures { λ r. ⌜ ((st pa : ℕ → ℕ) → part (now (w .entry)) changesAt changesSize ≡ changeSection st pa → (r ≡ true ↔ FrontSound (now (w .entry)) entries waiters (members live) (runBy st))) ⌝ }
 {
     if !sections::values(&w[Entries::AT..Changes::AT], entries) {
         return false;
     }
-    if !sections::line(&w[Line::AT..Locks::AT]) {
+    if !line_section::line(
+        &w[Line::AT..Locks::AT],
+        waiters,
+        entries,
+        &w[Changes::AT..Line::AT],
+    ) {
         return false;
     }
     sections::locks(&w[Locks::AT..Permits::AT], entries, live)
@@ -120,7 +128,7 @@ fn sound(w: &[u8]) -> bool
         return false;
     }
     let live = places::live_set(&w[Changes::AT..Line::AT], f.given);
-    if !front(w, f.entries, live) {
+    if !front(w, f.entries, f.waiters, live) {
         return false;
     }
     if !back(w, f.entries, f.permits, f.ties, f.records, live) {

@@ -51,7 +51,7 @@ pub fn complete(w: &mut [u8], change: u32) -> Reply
     effects::complete(w, change)
 }
 
-// A lock, unless a clashing holder does not permit it.
+// A lock: covered, granted, or blocked and put in line.
 pub fn lock(w: &mut [u8], change: u32, entry: u32, mode: u32) -> Reply
     requires { ⌜ length (now w) ≡ windowSize ⌝ }
     requires { ⌜ soundBytes (now w) ≡ true ⌝ }
@@ -61,7 +61,7 @@ pub fn lock(w: &mut [u8], change: u32, entry: u32, mode: u32) -> Reply
     if code != 0 {
         return unchanged(code);
     }
-    effects::lock(w, change, entry, mode)
+    locking::lock(w, change, entry, mode)
 }
 
 // The value of an entry, for a change that holds a lock on it.

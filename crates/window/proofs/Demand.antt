@@ -1,4 +1,4 @@
--- Demand 3 of every list of calls made through the exported functions. Assumes nothing.
+-- Demand 3 of every list of calls made through the exported functions, and who waits in turn. Assumes nothing.
 use mathlib.Core.Path.{_≡_, refl, sym, _∙_, ap}
 use mathlib.Core.Bool.{true}
 use mathlib.Core.List.{List, [], _∷_, _++_, map, map-append}
@@ -8,8 +8,9 @@ use Rattle.rules.specs.Window.{isLive}
 use Rattle.rules.specs.Calls.{Call, Open, Status, fits}
 use Rattle.rules.specs.Events.{Event}
 use Rattle.rules.specs.Lists.{remember, event, history, status, highest, liveGroups, walks, Kept, AllCompleted, Demand3After}
+use Rattle.rules.specs.Waiting.{LastInTurn}
 use Rattle.layout.specs.Memory.{perform}
-use Rattle.layout.proofs.Demand.{bytes-kept}
+use Rattle.layout.proofs.Demand.{bytes-kept, bytes-queued}
 use Rattle.replies.specs.Gives.{Gives}
 use Rattle.window.specs.Seen.{Done, seenOf, seen}
 use Rattle.window.proofs.Contracts.{Made, made-gives}
@@ -42,25 +43,31 @@ pub record Demand3Seen (mem : List ℕ) (d : Done) (l : List Done) : Type 0 wher
   pub walked : AllCompleted (seen [] (d ∷ l)) → (k : List Done) → Run mem (d ∷ (l ++ k)) → callsOf k ≡ walks (liveGroups (seen [] (d ∷ l))) (highest (seen [] (d ∷ l)))
       → (c : ℕ) → isLive (status (seen [] (d ∷ l)) c) ≡ true → status (seen [] (d ∷ (l ++ k))) c ≡ 4
 
--- DEMAND 3, of every list of calls made through the functions, each on the memory that the last one left, after an open answered 0
-pub code-kept : (mem : List ℕ) (n : ℕ) (d : Done) (l : List Done) → Run mem (d ∷ l) → d .call ≡ Open n → d .reply .answer ≡ 0 → all fits (callsOf l) ≡ true → Demand3Seen mem d l
-code-kept mem n d l r o e f = record {
-  kept = rw past-is (whole .kept);
-  walked = λ a k s w c v. ends k s (rw past-is at w) c ∙ whole .walked (rw past-is at a) c (rw past-is at v);
-}
-  where
-    opened : perform mem (Open n) .answer ≡ 0
-    opened = go r
-      where
-        go : Run mem (d ∷ l) → perform mem (Open n) .answer ≡ 0
-        go (next m s) = ap (λ c. perform mem c .answer) (sym o) ∙ sym (made-gives mem (d .call) (d .reply) (d .after) m .answer) ∙ e
+-- every list of calls made through the functions, each on the memory that the last one left, after an open answered 0
+module _ (mem : List ℕ) (n : ℕ) (d : Done) (l : List Done) (r : Run mem (d ∷ l)) (o : d .call ≡ Open n) (e : d .reply .answer ≡ 0) (f : all fits (callsOf l) ≡ true) where
+  opened : perform mem (Open n) .answer ≡ 0
+  opened = go r
+    where
+      go : Run mem (d ∷ l) → perform mem (Open n) .answer ≡ 0
+      go (next m s) = ap (λ c. perform mem c .answer) (sym o) ∙ sym (made-gives mem (d .call) (d .reply) (d .after) m .answer) ∙ e
 
-    whole : Demand3After (λ k. history perform mem [] (Open n ∷ k)) (callsOf l)
-    whole = bytes-kept mem n opened (callsOf l) f
+  past-is : seen [] (d ∷ l) ≡ history perform mem [] (Open n ∷ callsOf l)
+  past-is = seen-all mem [] (d ∷ l) r ∙ ap (λ c. history perform mem [] (c ∷ callsOf l)) o
 
-    past-is : seen [] (d ∷ l) ≡ history perform mem [] (Open n ∷ callsOf l)
-    past-is = seen-all mem [] (d ∷ l) r ∙ ap (λ c. history perform mem [] (c ∷ callsOf l)) o
+  -- DEMAND 3
+  pub code-kept : Demand3Seen mem d l
+  code-kept = record {
+    kept = rw past-is (whole .kept);
+    walked = λ a k s w c v. ends k s (rw past-is at w) c ∙ whole .walked (rw past-is at a) c (rw past-is at v);
+  }
+    where
+      whole : Demand3After (λ k. history perform mem [] (Open n ∷ k)) (callsOf l)
+      whole = bytes-kept mem n opened (callsOf l) f
 
-    ends : (k : List Done) → Run mem (d ∷ (l ++ k)) → callsOf k ≡ walks (liveGroups (history perform mem [] (Open n ∷ callsOf l))) (highest (history perform mem [] (Open n ∷ callsOf l)))
-        → (c : ℕ) → status (seen [] (d ∷ (l ++ k))) c ≡ status (history perform mem [] (Open n ∷ (callsOf l ++ walks (liveGroups (history perform mem [] (Open n ∷ callsOf l))) (highest (history perform mem [] (Open n ∷ callsOf l)))))) c
-    ends k s w c = ap (λ p. status p c) (seen-all mem [] (d ∷ (l ++ k)) s ∙ ap (λ x. history perform mem [] (x ∷ callsOf (l ++ k))) o ∙ ap (λ x. history perform mem [] (Open n ∷ x)) (map-append (λ (x : Done). x .call) l k ∙ ap (λ x. callsOf l ++ x) w))
+      ends : (k : List Done) → Run mem (d ∷ (l ++ k)) → callsOf k ≡ walks (liveGroups (history perform mem [] (Open n ∷ callsOf l))) (highest (history perform mem [] (Open n ∷ callsOf l)))
+          → (c : ℕ) → status (seen [] (d ∷ (l ++ k))) c ≡ status (history perform mem [] (Open n ∷ (callsOf l ++ walks (liveGroups (history perform mem [] (Open n ∷ callsOf l))) (highest (history perform mem [] (Open n ∷ callsOf l)))))) c
+      ends k s w c = ap (λ p. status p c) (seen-all mem [] (d ∷ (l ++ k)) s ∙ ap (λ x. history perform mem [] (x ∷ callsOf (l ++ k))) o ∙ ap (λ x. history perform mem [] (Open n ∷ x)) (map-append (λ (x : Done). x .call) l k ∙ ap (λ x. callsOf l ++ x) w))
+
+  -- of the last call, and so of every one: no later comer on an entry is granted ahead of an earlier one, and the first in line is served
+  pub code-queued : LastInTurn (seen [] (d ∷ l))
+  code-queued = rw past-is (bytes-queued mem n opened (callsOf l) f)

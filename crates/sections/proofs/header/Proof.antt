@@ -40,15 +40,21 @@ returns-6 c =
 
 returns-7 : tie.Need-returns-7
 returns-7 c =
-    let bs = c .before .before .before .before .before .before .before .before .before .before .before .before .before .args .head .now in
-    let size = c .before .before .before .before .before .before .before .before .before .before .before .before .before .pre in (
-      λ e. head-sound bs size (λ i. c .before .before .before .before .before .before .before .before .before .before .before .before .shared-slice-known .given i .fits) (sym (c .all-zero .ensures) ∙ e)
-          (omega (arith, c .before .before .before .before .before .before .before .before .before .before .before .read-u16 .ensures, c .before .before .before .before .before .before .before .before .before .before .if1 .left))
-          (omega (arith, c .before .before .before .before .before .before .before .before .before .before .before .read-u16 .ensures, c .before .before .before .before .before .before .before .before .before .if2 .left))
-          (omega (arith, c .before .before .before .before .before .before .before .before .read-u162 .ensures, c .before .before .before .before .before .before .before .if3 .left))
-          (omega (arith, c .before .before .before .before .before .before .read-u163 .ensures, c .before .before .before .before .before .if4 .left))
-          (omega (arith, c .before .before .before .before .read-u164 .ensures, c .before .before .before .if5 .left))
-          (omega (arith, c .before .before .read-u165 .ensures, c .before .if6 .left)),
+    let bs = c .before .before .before .before .before .before .before .before .before .before .before .before .before .before .args .head .now in
+    refused (λ s. omega (arith, c .before .read-u166 .ensures, figure-read bs _ 5 (s .bytes) (omega arith) (omega (arith, s .waiters-most)), s .waiters-most))
+
+returns-8 : tie.Need-returns-8
+returns-8 c =
+    let bs = c .before .before .before .before .before .before .before .before .before .before .before .before .before .before .before .args .head .now in
+    let size = c .before .before .before .before .before .before .before .before .before .before .before .before .before .before .before .pre in (
+      λ e. head-sound bs size (λ i. c .before .before .before .before .before .before .before .before .before .before .before .before .before .before .shared-slice-known .given i .fits) (sym (c .all-zero .ensures) ∙ e)
+          (omega (arith, c .before .before .before .before .before .before .before .before .before .before .before .before .before .read-u16 .ensures, c .before .before .before .before .before .before .before .before .before .before .before .before .if1 .left))
+          (omega (arith, c .before .before .before .before .before .before .before .before .before .before .before .before .before .read-u16 .ensures, c .before .before .before .before .before .before .before .before .before .before .before .if2 .left))
+          (omega (arith, c .before .before .before .before .before .before .before .before .before .before .read-u162 .ensures, c .before .before .before .before .before .before .before .before .before .if3 .left))
+          (omega (arith, c .before .before .before .before .before .before .before .before .read-u163 .ensures, c .before .before .before .before .before .before .before .if4 .left))
+          (omega (arith, c .before .before .before .before .before .before .read-u164 .ensures, c .before .before .before .before .before .if5 .left))
+          (omega (arith, c .before .before .before .before .read-u165 .ensures, c .before .before .before .if6 .left))
+          (omega (arith, c .before .before .read-u166 .ensures, c .before .if7 .left)),
       λ s. c .all-zero .ensures ∙ head-zeros bs s,
     )
 
@@ -73,4 +79,7 @@ header-spec =
     (λ c. search needs)
     returns-6
     (λ c κs. search needs)
-    returns-7)
+    (λ c. search needs)
+    returns-7
+    (λ c κs. search needs)
+    returns-8)

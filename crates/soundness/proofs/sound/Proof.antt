@@ -42,11 +42,11 @@ unfolding part
 front-requires c κs =
     let h = passes (c .before .before .before .before .before .before .before .header .ensures) (c .before .before .before .before .before .before .if1 .left) in
     let a = c .before .before .before .before .before .read-figures .ensures h in
-    (c .before .before .before .before .before .before .before .before .before .before .pre, omega (arith, a .entries, h .entries-most))
+    (c .before .before .before .before .before .before .before .before .before .before .pre, (omega (arith, a .entries, h .entries-most), omega (arith, a .waiters, h .waiters-most)))
 
 returns-3 : tie.Need-returns-3
 unfolding part
-returns-3 c = sym (no-true _ (λ s. fails (c .before .front .ensures) (c .if3 .taken) (front-asked (c .before .before .before .before .before .before .before .before .before .before .before .before .args .w .now) (c .before .before .before .before .before .before .before .read-figures .result) (c .before .before .before .before .before .before .before .read-figures .ensures) s (members (c .before .before .live-set .result)) (c .before .before .live-set .ensures))))
+returns-3 c = sym (no-true _ (λ s. false≢true (sym (not-true _ (c .if3 .taken)) ∙ front-asked (c .before .before .before .before .before .before .before .before .before .before .before .before .args .w .now) (c .before .before .before .before .before .before .before .read-figures .result) (c .before .before .before .before .before .before .before .read-figures .ensures) s (members (c .before .before .live-set .result)) (c .before .before .live-set .ensures) _ (c .before .front .ensures))))
 
 back-requires : tie.Need-back-requires
 unfolding part
@@ -72,10 +72,10 @@ returns-5 c =
     let h = passes (c .before .before .before .before .before .before .before .before .before .before .before .before .header .ensures) (c .before .before .before .before .before .before .before .before .before .before .before .if1 .left) in
     let a = c .before .before .before .before .before .before .before .before .before .before .read-figures .ensures h in
     let t = passes (c .before .before .before .before .before .before .before .before .changes .ensures) (c .before .before .before .before .before .before .before .if2 .left) in
-    let v = passes (c .before .before .before .before .front .ensures) (c .before .before .before .if3 .left) in
+    let v = not-false _ (c .before .before .before .if3 .left) in
     let e = not-false _ (c .before .if4 .left) in
     both-ways _ _
-    (passed (c .before .before .before .before .before .before .before .before .before .before .before .before .before .before .before .args .w .now) (c .before .before .before .before .before .before .before .before .before .before .before .before .before .before .before .pre) h _ a (members (c .before .before .before .before .before .live-set .result)) (c .before .before .before .before .before .live-set .ensures) t v _ (c .before .before .back .ensures) e _ (c .related .ensures))
+    (passed (c .before .before .before .before .before .before .before .before .before .before .before .before .before .before .before .args .w .now) (c .before .before .before .before .before .before .before .before .before .before .before .before .before .before .before .pre) h _ a (members (c .before .before .before .before .before .live-set .result)) (c .before .before .before .before .before .live-set .ensures) t _ (c .before .before .before .before .front .ensures) v _ (c .before .before .back .ensures) e _ (c .related .ensures))
     (λ s. related-asked (c .before .before .before .before .before .before .before .before .before .before .before .before .before .before .before .args .w .now) (c .before .before .before .before .before .before .before .before .before .before .read-figures .result) (c .before .before .before .before .before .before .before .before .before .before .read-figures .ensures) s _ (c .related .ensures))
 
 pub sound-spec : {M : Type 1} → statement M

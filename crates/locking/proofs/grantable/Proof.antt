@@ -1,12 +1,12 @@
--- `effects::grantable` meets its contract. Assumes nothing.
+-- `locking::grantable` meets its contract. Assumes nothing.
 use native.Mathlib.Nat.{lt-of-le-of-lt}
 use lib.Dec.{lit≤}
 use Rattle.sets.specs.Members.{members}
-use Rattle.effects.proofs.ArgumentLaws.{lock-known}
-use Rattle.effects.proofs.LockLaws.{grantable-read}
+use Rattle.locking.proofs.ArgumentLaws.{lock-known}
+use Rattle.locking.proofs.LockLaws.{grantable-read}
 use borrow.Author.Needs.{needs}
-use Rattle.effects.proofs.grantable.Statement.{statement}
-use Rattle.effects.proofs.grantable.Tie as tie
+use Rattle.locking.proofs.grantable.Statement.{statement}
+use Rattle.locking.proofs.grantable.Tie as tie
 
 permits-requires : tie.Need-permits-requires
 permits-requires c κs = (c .before .pre .0, c .before .pre .1 .0)

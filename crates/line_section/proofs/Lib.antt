@@ -1,0 +1,2 @@
+-- The line's section of sound windows: what the tests on bytes come to.
+pub mod LineLaws

@@ -1,0 +1,94 @@
+// What a lock does when it is not refused, on the bytes of a sound window: it is covered, granted, or blocked and put in line. The numbers of a lock that is not refused fit a byte.
+use effects::leave_line;
+use layout::Entries;
+use layout::Header;
+use layout::Line;
+use layout::Locks;
+use layout::Permits;
+use layout::Ties;
+use places::store_figure;
+use replies::Reply;
+use replies::done;
+ghost use mathlib.Core.Path.{_≡_};
+ghost use mathlib.Core.Bool.{true};
+ghost use lib.ListN.{length};
+ghost use Rattle.rules.specs.Window.{limits};
+ghost use Rattle.rules.specs.Calls.{Lock};
+ghost use Rattle.rules.specs.Effects.{effect, wait, grantable as isGrantable, lockGranted};
+ghost use Rattle.rules.specs.Refusals.{checks, firstFailed};
+ghost use Rattle.layout.specs.Codec.{windowSize, decode, encode};
+ghost use Rattle.layout.specs.Memory.{soundBytes};
+ghost use Rattle.replies.specs.Gives.{Gives, written};
+
+// Whether each other holder whose lock clashes with the mode has a permit for the change that contains the mode.
+fn grantable(w: &[u8], change: u32, entry: u32, mode: u32) -> bool
+    requires { ⌜ length (now w) ≡ windowSize ⌝ }
+    requires { ⌜ soundBytes (now w) ≡ true ⌝ }
+    requires { ⌜ firstFailed (checks limits (decode (now w)) (Lock change entry mode)) ≡ 0 ⌝ }
+    ensures { λ r. ⌜ r ≡ isGrantable (decode (now (w .entry))) change entry mode ⌝ }
+{
+    let count = reads::permits(w);
+    let c = change as u8;
+    let e = entry as u8;
+    let m = mode as u8;
+    let clashing = locks::clashing(&w[Locks::AT..Permits::AT], e, m);
+    let givers = permits::givers(&w[Permits::AT..Ties::AT], count, c, e, m);
+    clashing.without(c).minus(givers).is_empty()
+}
+
+// Whether that is so, and no other change is first in the entry's line.
+fn granted(w: &[u8], change: u32, entry: u32, mode: u32) -> bool
+    requires { ⌜ length (now w) ≡ windowSize ⌝ }
+    requires { ⌜ soundBytes (now w) ≡ true ⌝ }
+    requires { ⌜ firstFailed (checks limits (decode (now w)) (Lock change entry mode)) ≡ 0 ⌝ }
+    ensures { λ r. ⌜ r ≡ lockGranted (decode (now (w .entry))) change entry mode ⌝ }
+{
+    let first = reads::first_in_line(w, entry) as u32;
+    grantable(w, change, entry, mode) & ((first == 0) | (first == change))
+}
+
+// The change is put at the end of the entry's line with its mode, or keeps its place there and takes the newer mode.
+fn enter_line(w: &mut [u8], change: u32, entry: u32, mode: u32)
+    requires { ⌜ length (now w) ≡ windowSize ⌝ }
+    requires { ⌜ soundBytes (now w) ≡ true ⌝ }
+    requires { ⌜ firstFailed (checks limits (decode (now w)) (Lock change entry mode)) ≡ 0 ⌝ }
+    ensures { λ _. ⌜ now (w .exit) ≡ encode (wait (decode (now (w .entry))) change entry mode) ⌝ }
+{
+    let count = reads::waiters(w);
+    let standing = line::enter(
+        &mut w[Line::AT..Locks::AT],
+        count,
+        change as u8,
+        entry as u8,
+        mode as u8,
+    );
+    store_figure(&mut w[Header::AT..Entries::AT], 5, standing as u16);
+}
+
+// Who gets 0 leaves the line: a lock held covers the mode, or the lock is granted. Else the change waits.
+pub fn lock(w: &mut [u8], change: u32, entry: u32, mode: u32) -> Reply
+    requires { ⌜ length (now w) ≡ windowSize ⌝ }
+    requires { ⌜ soundBytes (now w) ≡ true ⌝ }
+    requires { ⌜ firstFailed (checks limits (decode (now w)) (Lock change entry mode)) ≡ 0 ⌝ }
+    ensures { λ r. ⌜ Gives (written (effect (decode (now (w .entry))) (Lock change entry mode))) r (now (w .exit)) ⌝ }
+{
+    if mode <= reads::held(w, entry, change) as u32 {
+        leave_line(w, change);
+        return done(0);
+    }
+    if !granted(w, change, entry, mode) {
+        enter_line(w, change, entry, mode);
+        return Reply {
+            answer: 20,
+            number: 0,
+        };
+    }
+    leave_line(w, change);
+    locks::grant(
+        &mut w[Locks::AT..Permits::AT],
+        entry as u8,
+        change as u8,
+        mode as u8,
+    );
+    done(0)
+}
