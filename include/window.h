@@ -8,8 +8,9 @@
  * Entries are numbered from 0, changes from 1.
  *
  * Answers. Every call can answer WINDOW_DONE and WINDOW_NOT_SOUND; 'Answers' lists the others. Where several apply, the
- * lowest is given. A call answered otherwise than WINDOW_DONE has changed no byte. A compiler that can warns where an
- * answer is ignored (WINDOW_MUST_USE).
+ * lowest is given. A call answered otherwise than WINDOW_DONE has changed no byte, but for a lock answered
+ * WINDOW_BLOCKED, which has taken its place in line. A compiler that can warns where an answer is ignored
+ * (WINDOW_MUST_USE).
  *
  * WINDOW_NOT_SOUND means that the memory is shorter than a window, was never opened, was written over by somebody else,
  * or that a call on it was cut short. Go back to a copy, or open the window anew.
@@ -38,7 +39,7 @@ extern "C" {
 #endif
 
 /* Rises when this interface gains or changes something. */
-#define WINDOW_VERSION 1
+#define WINDOW_VERSION 2
 
 /* The bytes of a window, whatever it holds. */
 #define WINDOW_SIZE 37952
@@ -81,6 +82,7 @@ enum window_answer {
     WINDOW_CYCLE = 9,       /* the tie would let a path of wait and fall ties return to its group */
     WINDOW_CLASH = 10,      /* after the delegate two locks would clash without a permit */
     WINDOW_FULL = 11,       /* no room (the most that fit are WINDOW_MOST_..) */
+    WINDOW_IN_LINE = 12,    /* the change stands in another entry's line */
     WINDOW_BLOCKED = 20,    /* the lock or the commit has to wait (try again later) */
     WINDOW_ENDED = 21       /* a commit of an aborted change, or an abort of a committed one */
 };
@@ -133,7 +135,7 @@ WINDOW_MUST_USE window_reply window_initiate(uint8_t *window, size_t length, uin
 WINDOW_MUST_USE window_reply window_begin(uint8_t *window, size_t length, uint32_t change);
 
 /*
- * The change has done its work and may be committed; it locks, reads and writes no more.
+ * The change has done its work and may be committed; it locks, reads and writes no more, and leaves its line.
  *   change  a running change
  * Answers: WINDOW_NO_CHANGE, WINDOW_BAD_STATUS.
  */
@@ -145,7 +147,14 @@ WINDOW_MUST_USE window_reply window_complete(uint8_t *window, size_t length, uin
  *   entry   the entry to lock
  *   mode    WINDOW_MODE_READ, or WINDOW_MODE_WRITE, which covers reading
  * Answers: WINDOW_NO_CHANGE, WINDOW_NO_ENTRY, WINDOW_BAD_OPTION (the mode), WINDOW_BAD_STATUS,
- * WINDOW_BLOCKED (another change holds a lock that clashes and has not permitted the mode to this one or to anybody).
+ * WINDOW_IN_LINE (whatever it holds on this entry),
+ * WINDOW_BLOCKED (another change holds a lock that clashes and has not permitted the mode to this one or to anybody,
+ * or another change is first in the entry's line).
+ *
+ * A blocked lock puts its change at the end of the entry's line, with its mode; asked for again it keeps its place and
+ * takes the newer mode. Only the first in line is granted, so ask again: nobody who came later goes ahead. A change
+ * leaves the line when it gets 0 from a lock there, and when it completes or ends. Until then it holds back everybody
+ * behind it, and it can wait on this entry alone.
  */
 WINDOW_MUST_USE window_reply window_lock(uint8_t *window, size_t length, uint32_t change, uint32_t entry,
                                          uint32_t mode);
@@ -184,7 +193,8 @@ WINDOW_MUST_USE window_reply window_permit(uint8_t *window, size_t length, uint3
 
 /*
  * Hands over log records, locks and given permits. Where `to` holds a lock on the entry already, it then has the
- * greater of the two. Permits that `from` was given stay; one that `to` would give to itself is dropped.
+ * greater of the two. Permits that `from` was given stay; one that `to` would give to itself is dropped. Both keep
+ * their places in line.
  *   from   the live change that hands over
  *   to     the live change that receives
  *   entry  the entry handed over, or WINDOW_EVERY_ENTRY

@@ -16,6 +16,7 @@ static const char *const texts[] = {
     [WINDOW_CYCLE] = "the tie would let a path of wait and fall ties return to its group",
     [WINDOW_CLASH] = "after the delegate two locks would clash without a permit",
     [WINDOW_FULL] = "no room",
+    [WINDOW_IN_LINE] = "the change stands in another entry's line",
     [WINDOW_BLOCKED] = "the lock or the commit has to wait",
     [WINDOW_ENDED] = "a commit of an aborted change, or an abort of a committed one",
 };

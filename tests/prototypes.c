@@ -74,6 +74,7 @@ static void check_answers(void)
     CHECK(WINDOW_CYCLE == 9);
     CHECK(WINDOW_CLASH == 10);
     CHECK(WINDOW_FULL == 11);
+    CHECK(WINDOW_IN_LINE == 12);
     CHECK(WINDOW_BLOCKED == 20);
     CHECK(WINDOW_ENDED == 21);
 }

@@ -70,6 +70,13 @@ fn wide(x: u8) -> u64
     x as u64
 }
 
+// A byte as an index, for the same reason.
+pub fn index(x: u8) -> usize
+    ensures { λ r. ⌜ r ≡ x ⌝ }
+{
+    x as usize
+}
+
 // The number in eight bytes at an offset, said by its bits. Written out, the bytes are loaded as one.
 pub fn read_u64(s: &[u8], at: usize) -> u64
     requires { ⌜ at + 8 ≤ length (now s) ⌝ }

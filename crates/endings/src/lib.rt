@@ -50,10 +50,7 @@ pub fn commit(w: &mut [u8], change: u32) -> Reply
     let group = graph::group(&w[Ties::AT..Log::AT], ties, change as u8);
     let blockers = blockers(w, group);
     if !blockers.is_empty() {
-        return Reply {
-            answer: 20,
-            number: blockers.lowest(),
-        };
+        return replies::blocked(blockers.lowest());
     }
     end_all(w, group, 4);
     replies::done(group.count())

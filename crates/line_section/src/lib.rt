@@ -1,5 +1,6 @@
 // Whether the lent section of the line is that of a sound window: each who stands in it runs, and stands once.
 use cells::all_zero;
+use cells::index;
 use layout::Line;
 use sets::ChangeSet;
 use words::among;
@@ -16,19 +17,12 @@ ghost use Rattle.words.specs.Members.{wordsHave};
 ghost use Rattle.line_section.specs.Fits.{runIn, waiterFits, placeFits};
 ghost use Rattle.line_section.specs.Sections.{runBy, LineSound};
 
-// A byte as a wider number. A function, so that its contract says at each use that the number is the byte's.
-fn wide(x: u8) -> usize
-    ensures { λ r. ⌜ r ≡ x ⌝ }
-{
-    x as usize
-}
-
 // Whether a change runs.
 fn runs(changes: &[u8], c: u8) -> bool
     requires { ⌜ length (now changes) ≡ changesSize ⌝ }
     ensures { λ r. ⌜ r ≡ runIn (now (changes .entry)) c ⌝ }
 {
-    changes[wide(c) * 4] == 2
+    changes[index(c) * 4] == 2
 }
 
 // Who stands at place j: status 2, an entry that there is, mode 1 or 2, and the last byte 0.
@@ -40,7 +34,7 @@ fn waiter_at(line: &[u8], j: usize, entries: usize, changes: &[u8]) -> bool
     let at = j * Line::RECORD;
     let mode = line[at + 2];
     runs(changes, line[at])
-        & (wide(line[at + 1]) < entries)
+        & (index(line[at + 1]) < entries)
         & !((mode < 1) | (2 < mode))
         & (line[at + 3] == 0)
 }

@@ -8,6 +8,7 @@ use layout::Permits;
 use layout::Ties;
 use places::store_figure;
 use replies::Reply;
+use replies::blocked;
 use replies::done;
 ghost use mathlib.Core.Path.{_≡_};
 ghost use mathlib.Core.Bool.{true};
@@ -78,10 +79,7 @@ pub fn lock(w: &mut [u8], change: u32, entry: u32, mode: u32) -> Reply
     }
     if !granted(w, change, entry, mode) {
         enter_line(w, change, entry, mode);
-        return Reply {
-            answer: 20,
-            number: 0,
-        };
+        return blocked(0);
     }
     leave_line(w, change);
     locks::grant(

@@ -14,6 +14,13 @@ pub fn done(number: u32) -> Reply
     Reply { answer: 0, number }
 }
 
+// Answer 20 is blocked, with a second number.
+pub fn blocked(number: u32) -> Reply
+    ensures { λ r. ⌜ (r .answer ≡ 20) × (r .number ≡ number) ⌝ }
+{
+    Reply { answer: 20, number }
+}
+
 // Another answer, with second number 0: of a call that changes no byte.
 pub fn unchanged(answer: u32) -> Reply
     ensures { λ r. ⌜ (r .answer ≡ answer) × (r .number ≡ 0) ⌝ }

@@ -1,7 +1,7 @@
 -- Records of lines: who enters and who leaves, and that no more stand in line than there are changes. Assumes nothing.
 use mathlib.Core.Path.{_≡_, refl, sym, _∙_, ap}
 use mathlib.Core.Logic.{_≢_}
-use mathlib.Core.Bool.{Bool, true, false, not, cond, _&&_, _||_, false≢true}
+use mathlib.Core.Bool.{Bool, true, false, not, cond, _&&_}
 use mathlib.Core.List.{List, [], _∷_, List·Memᴰ, List·Memᴰ·head, List·Memᴰ·tail}
 use Prim.Native.Nat.{ℕ, zero, suc, _≤_, _<_}
 use native.Mathlib.Nat.{not-suc-le-zero, le-of-suc-le-suc}
@@ -12,9 +12,9 @@ use borrow.Author.Tests.{eqb-true, eqb-false, eq-eqb, ne-eqb, ltb-true, not-true
 use Rattle.rules.specs.Base.{all, any, keep, distinct, outside, countBelow}
 use Rattle.rules.specs.Sets.{Set, everything}
 use Rattle.rules.specs.Window.{LineRecord}
-use Rattle.rules.specs.Line.{enterLine, staysInLine, lineLeft}
+use Rattle.rules.specs.Line.{enterLine}
 use Rattle.rules.specs.Sound.{waiterSound}
-use Rattle.rules.proofs.BaseLaws.{and-both, and-left, and-right, or-left, or-right, never, no-true, eqb-same, eqb-sym, count-le, Same, same, other, same?}
+use Rattle.rules.proofs.BaseLaws.{and-both, and-left, and-right, or-left, or-right, never, no-true, eqb-same, count-le, Same, same, other, same?}
 use Rattle.rules.proofs.BoundLaws.{count-more}
 use Rattle.rules.proofs.ListLaws.{all-member, all-keep, all-weaken, all-at, all-places, find}
 

@@ -1,26 +1,21 @@
--- What a lock does to the lines, in words: a blocked one takes or keeps its change's place in line and changes nothing else, one answered 0 takes its change out;
--- who stands in a line runs. Assumes nothing.
+-- What a lock does to the lines, in words: a blocked one takes or keeps its change's place in line and changes nothing else, one answered 0 takes its change out. Assumes nothing.
 use mathlib.Core.Path.{_≡_, refl, sym, _∙_, ap}
-use mathlib.Core.Bool.{Bool, true, false, not, cond, _&&_, _||_}
-use mathlib.Core.List.{List, [], _∷_, _++_, List·Memᴰ}
+use mathlib.Core.Bool.{Bool, true, false, not, cond, _&&_}
+use mathlib.Core.List.{List, [], _∷_, _++_}
 use Prim.Native.Nat.{ℕ}
 use native.Mathlib.Omega.{arith}
 use lib.Dec.{eqb}
 use borrow.Author.Tests.{not-false, eqb-true}
 use Rattle.rules.specs.Base.{any, keep}
 use Rattle.rules.specs.Sets.{only}
-use Rattle.rules.specs.Window.{Limits, LineRecord, Window, withHeld, withLine, running}
+use Rattle.rules.specs.Window.{Limits, LineRecord, Window, withHeld, withLine}
 use Rattle.rules.specs.Line.{makeWaiter, waitsElsewhere, enterLine, staysInLine, lineLeft}
-use Rattle.rules.specs.Sound.{waiterSound}
 use Rattle.rules.specs.Calls.{Lock, done, blocked}
 use Rattle.rules.specs.Effects.{effect, leave, covers, putHeld, lockGranted, wait, lockEntry}
 use Rattle.rules.specs.Refusals.{checks, _if_, step}
 use Rattle.rules.specs.Events.{actionOf}
 use Rattle.rules.proofs.BaseLaws.{or-none, Same, same, other, same?}
-use Rattle.rules.proofs.LineLaws.{waiter-parts}
-use Rattle.rules.proofs.ListLaws.{all-member}
 use Rattle.rules.proofs.RuleLaws.{placed, quiet, unrefused-by, done-unrefused}
-use Rattle.rules.proofs.SoundParts.{Sound}
 use Rattle.rules.proofs.SoundStep.{passed, codes}
 
 -- a line before and after w has its place: "at the end of that entry's line, with its mode", or "A repeated call keeps its place and takes the newer mode"
@@ -62,7 +57,3 @@ module _ (L : Limits) (W : Window) (c e m : ℕ) where
       go true d h = refl
       go false true h = refl
       go false false h = absurd (omega arith)
-
--- "each change stands in one line at most, and is running"
-pub in-line-runs : (L : Limits) (W : Window) → Sound L W → {r : LineRecord} → List·Memᴰ r (W .line) → running W r.change ≡ true
-in-line-runs L W z {r} m = waiter-parts (W .entries) (running W) r (all-member (waiterSound (W .entries) (running W)) m (z .line)) .0

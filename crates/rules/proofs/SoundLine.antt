@@ -1,22 +1,22 @@
 -- A place in line that is taken or left keeps a window sound. Assumes nothing.
 use mathlib.Core.Path.{_≡_, refl, ap}
-use mathlib.Core.Bool.{Bool, true, false, not, cond, _&&_, _||_}
-use mathlib.Core.List.{List}
+use mathlib.Core.Bool.{Bool, true, false, not, cond}
+use mathlib.Core.List.{List, List·Memᴰ}
 use Prim.Native.Nat.{ℕ, suc, _≤_, _<_}
 use native.Mathlib.Omega.{arith}
 use lib.Dec.{ltb, eqb}
 use lib.ListN.{length}
 use borrow.Author.Tests.{not-true, eqb-true, eqb-false, lt-ltb}
-use Rattle.rules.specs.Base.{put, all, distinct, exceeds, outside}
+use Rattle.rules.specs.Base.{put, all, distinct, outside}
 use Rattle.rules.specs.Sets.{only}
 use Rattle.rules.specs.Window.{Limits, LineRecord, Window, withStatus, withLine, live, running, noChange}
 use Rattle.rules.specs.Locks.{pairPermitted}
-use Rattle.rules.specs.Line.{makeWaiter, enterLine, lineLeft, staysInLine}
+use Rattle.rules.specs.Line.{makeWaiter, lineLeft, staysInLine}
 use Rattle.rules.specs.Sound.{statusSound, waiterSound}
 use Rattle.rules.specs.Effects.{leave, wait}
 use Rattle.rules.proofs.BaseLaws.{and-both, or-none, over-false, within-of}
 use Rattle.rules.proofs.LineLaws.{waiter-parts, distinct-keep, distinct-most, enter-all, enter-distinct}
-use Rattle.rules.proofs.ListLaws.{all-keep, all-weaken}
+use Rattle.rules.proofs.ListLaws.{all-member, all-keep, all-weaken}
 use Rattle.rules.proofs.SoundParts.{Sound, numbered}
 
 module _ (L : Limits) (W : Window) (k : Sound L W) where
@@ -33,7 +33,11 @@ module _ (L : Limits) (W : Window) (k : Sound L W) where
   unfolding noChange
   running-given c h = let n = running-change c h in (omega (arith, eqb-false c 0 (or-none (eqb c 0) _ n .0)), numbered W c n)
 
-  -- "each change in one line at most": so there are no more in line than changes
+  -- "each change stands in one line at most, and is running": what a record of a line says
+  pub in-line : {r : LineRecord} → List·Memᴰ r W.line → (running W r.change ≡ true) × (ltb r.entry W.entries ≡ true) × (not (outside 1 2 r.mode) ≡ true)
+  in-line {r} m = waiter-parts W.entries (running W) r (all-member (waiterSound W.entries (running W)) m (k .line))
+
+  -- so no more stand in line than there are changes
   pub line-most : (l : List LineRecord) → all (waiterSound W.entries (running W)) l ≡ true → distinct (λ r. r .change) l ≡ true → length l ≤ W .given
   line-most l a d = distinct-most (λ r. r .change) (W .given) l
       (all-weaken (waiterSound W.entries (running W)) _ (λ r h. let g = running-given r.change (waiter-parts W.entries (running W) r h .0) in and-both (ltb 0 r.change) _ (lt-ltb 0 r.change (g .0)) (lt-ltb r.change (suc (W .given)) (omega (arith, g .1)))) l a) d

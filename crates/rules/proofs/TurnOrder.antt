@@ -1,18 +1,17 @@
 -- Lines in order of coming: each record's number above all before it. Assumes nothing.
 use mathlib.Core.Path.{_≡_, refl, sym, _∙_, ap}
-use mathlib.Core.Logic.{_⊎_, inl, inr, ⊎-elim, _≢_}
-use mathlib.Core.Bool.{Bool, true, false, not, cond, _&&_, _||_, false≢true, true≢false}
+use mathlib.Core.Logic.{_⊎_, inl, inr, _≢_}
+use mathlib.Core.Bool.{Bool, true, false, not, cond, _&&_, false≢true, true≢false}
 use mathlib.Core.List.{List, [], _∷_, List·Memᴰ, List·Memᴰ·head, List·Memᴰ·tail}
 use Prim.Native.Nat.{ℕ, _<_}
 use lib.Dec.{ltb, eqb}
 use borrow.Author.Tests.{eqb-true, eqb-false, eq-eqb, ne-eqb, ltb-true, not-true}
 use Rattle.rules.specs.Base.{all, any, keep, distinct}
-use Rattle.rules.specs.Sets.{Set, only}
 use Rattle.rules.specs.Window.{LineRecord}
-use Rattle.rules.specs.Line.{makeWaiter, waitsElsewhere, firstInLine, enterLine, staysInLine, lineLeft}
-use Rattle.rules.proofs.BaseLaws.{and-both, and-left, and-right, or-left, or-right, or-cases, or-none, no-true, never, eqb-same, Same, same, other, same?}
+use Rattle.rules.specs.Line.{makeWaiter, waitsElsewhere, firstInLine, enterLine}
+use Rattle.rules.proofs.BaseLaws.{and-both, and-left, and-right, or-left, or-right, or-cases, no-true, eqb-same, Same, same, other, same?}
 use Rattle.rules.proofs.LineLaws.{distinct-one, enter-all}
-use Rattle.rules.proofs.ListLaws.{all-keep, all-weaken, all-member, all-members, any-find, any-member, any-weaken, any-keep-up}
+use Rattle.rules.proofs.ListLaws.{all-keep, all-member, all-members, any-find, any-member, any-weaken, any-keep-up}
 
 module _ {A : Type 0} where
   unfoldable pub inOrder : (A → ℕ) → List A → Bool

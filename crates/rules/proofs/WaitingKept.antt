@@ -1,18 +1,17 @@
 -- What the lines are held to, of the rules, for any largest figures: no later comer is granted ahead of an earlier one, and the first in line is served. Assumes nothing.
 use mathlib.Core.Path.{_≡_, refl, sym, _∙_, ap}
 use mathlib.Core.Logic.{_⊎_, inl, inr, ⊎-elim, _≢_}
-use mathlib.Core.Bool.{Bool, true, false, not, cond, _&&_, false≢true, true≢false, and-true, and-false}
+use mathlib.Core.Bool.{Bool, true, false, not, cond, _&&_, false≢true, and-true, and-false}
 use mathlib.Core.List.{List, [], _∷_, List·Memᴰ}
-use Prim.Native.Nat.{ℕ, zero, suc, _<_}
+use Prim.Native.Nat.{ℕ, _<_}
 use native.Mathlib.Omega.{arith}
 use lib.Dec.{ltb, leb, eqb}
 use borrow.Author.Tests.{eqb-true, ltb-true, lt-leb}
 use Rattle.rules.specs.Base.{all, outside}
-use Rattle.rules.specs.Window.{Limits, LineRecord, Window, fresh, running, noChange, noEntry}
+use Rattle.rules.specs.Window.{Limits, LineRecord, Window, fresh, running, noEntry}
 use Rattle.rules.specs.Locks.{clash, permitted}
 use Rattle.rules.specs.Line.{waitsElsewhere, firstInLine}
-use Rattle.rules.specs.Sound.{waiterSound}
-use Rattle.rules.specs.Calls.{Call, Open, Lock, Outcome, done, unchanged, fits}
+use Rattle.rules.specs.Calls.{Call, Open, Lock, done, fits}
 use Rattle.rules.specs.Effects.{covers, effect, lockEntry}
 use Rattle.rules.specs.Refusals.{step, settle, checks, firstFailed, _if_}
 use Rattle.rules.specs.Events.{Event, nothing, actionOf, action, isOpening, isOpen}
@@ -22,12 +21,10 @@ use Rattle.rules.proofs.BaseLaws.{and-left, and-right, Same, same, othe
 use Rattle.rules.proofs.Demand.{Inv, call-inv, first-inv}
 use Rattle.rules.proofs.DemandBook.{bookOf}
 use Rattle.rules.proofs.DemandMoves.{shownStatus, status-shown}
-use Rattle.rules.proofs.LineLaws.{waiter-parts}
-use Rattle.rules.proofs.ListLaws.{all-member}
 use Rattle.rules.proofs.Promises.{lock-granted}
 use Rattle.rules.proofs.RuleLaws.{is-open, done-unrefused}
 use Rattle.rules.proofs.SoundParts.{Sound}
-use Rattle.rules.proofs.SoundLine.{running-given, running-change}
+use Rattle.rules.proofs.SoundLine.{running-given, running-change, in-line}
 use Rattle.rules.proofs.SoundStep.{step-sound, opened-sound, opened-fresh}
 use Rattle.rules.proofs.TurnOrder.{first-before, stands-record, one-line}
 use Rattle.rules.proofs.WaitingLaws.{since, Queue, since-some, queue-fresh, queue-next}
@@ -45,7 +42,7 @@ module _ (L : Limits) (W : Window) (p : List Event) (v : Inv L W p) (Q : Queue W
 
   -- nobody in line is 0
   numbered : {r : LineRecord} → List·Memᴰ r (W .line) → 0 < r .change
-  numbered {r} m = running-given L W (v .sound) r.change (waiter-parts (W .entries) (running W) r (all-member (waiterSound (W .entries) (running W)) m (v .sound .line)) .0) .0
+  numbered {r} m = running-given L W z r.change (in-line L W z m .0) .0
 
   granted-in-turn : (a b e m : ℕ) → step L W (Lock b e m) .answer ≡ 0 → covers (book p .held e b) m ≡ false → a ≢ b → Waits p a e → Waits p b e × (waitsSince p b e < waitsSince p a e)
   granted-in-turn a b e m o h n w = go (lock-granted L W z b e m (done-unrefused L W (Lock b e m) o .0) (rw (same-held e b) at h) .0 o .1) (q .4)
@@ -72,7 +69,7 @@ module _ (L : Limits) (W : Window) (p : List Event) (v : Inv L W p) (Q : Queue W
       q = first-before (since p) e (r .1) (r .3) (Q .sorted)
 
       fine : (running W (r .0 .change) ≡ true) × (ltb (r .0 .entry) (W .entries) ≡ true) × (not (outside 1 2 (r .0 .mode)) ≡ true)
-      fine = waiter-parts (W .entries) (running W) (r .0) (all-member (waiterSound (W .entries) (running W)) (r .1) (z .line))
+      fine = in-line L W z (r .1)
 
       runs : running W c ≡ true
       runs = ap (running W) (sym (r .2)) ∙ fine .0

@@ -12,14 +12,15 @@ use Rattle.rules.specs.Base.{all, any, keep, outside}
 use Rattle.rules.specs.Sets.{only}
 use Rattle.rules.specs.Window.{Limits, LineRecord, Window, fresh, running, noChange}
 use Rattle.rules.specs.Line.{makeWaiter, waitsElsewhere, enterLine, staysInLine, lineLeft}
-use Rattle.rules.specs.Sound.{statusSound, waiterSound}
-use Rattle.rules.specs.Calls.{Call, Lock}
+use Rattle.rules.specs.Sound.{statusSound}
+use Rattle.rules.specs.Calls.{Lock}
 use Rattle.rules.specs.Events.{Event, actionOf, isLocking, isOpening, isAnswered}
 use Rattle.rules.specs.Waiting.{waitsSince, Waits}
-use Rattle.rules.proofs.BaseLaws.{cond-same, and-both, and-left, and-right, or-none, no-true, eqb-same, Same, same, other, same?}
+use Rattle.rules.proofs.BaseLaws.{cond-same, and-both, and-left, and-right, eqb-same, Same, same, other, same?}
 use Rattle.rules.proofs.DemandMoves.{shownStatus}
-use Rattle.rules.proofs.LineLaws.{waiter-parts, enter-all}
+use Rattle.rules.proofs.LineLaws.{enter-all}
 use Rattle.rules.proofs.ListLaws.{all-member, all-members, any-member, keep-member}
+use Rattle.rules.proofs.SoundLine.{in-line}
 use Rattle.rules.proofs.SoundParts.{Sound}
 use Rattle.rules.proofs.TurnOrder.{inOrder, order-keep, order-same, order-enter, standsIn, stands-record, record-stands, not-elsewhere, keep-stands, enter-self, enter-others}
 use Rattle.rules.proofs.WaitingMoves.{Shift, opens, goes, leaves, enters}
@@ -95,7 +96,7 @@ module _ (L : Limits) (X : Window) (z : Sound L X) (x : Event) (shows : (c : ℕ
 
     module _ (W : Window) (zw : Sound L W) (Q : Queue W p) where
       runs : {r : LineRecord} → List·Memᴰ r (W .line) → running W r.change ≡ true
-      runs {r} m = waiter-parts (W .entries) (running W) r (all-member (waiterSound (W .entries) (running W)) m (zw .line)) .0
+      runs m = in-line L W zw m .0
 
       some : {r : LineRecord} → List·Memᴰ r (W .line) → since p r ≢ 0
       some m q = let h = since-some W p Q m in omega arith

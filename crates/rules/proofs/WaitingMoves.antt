@@ -1,15 +1,14 @@
 -- What a call on a sound window does to the lines, seen from the words of a list of calls. Assumes nothing.
 use mathlib.Core.Path.{_≡_, refl, sym, _∙_, ap}
 use mathlib.Core.Logic.{_≢_}
-use mathlib.Core.Bool.{Bool, true, false, not, cond, _&&_, _||_, false≢true, and-false}
-use mathlib.Core.List.{List, [], _∷_}
+use mathlib.Core.Bool.{Bool, true, false, not, cond, _&&_, and-false}
 use Prim.Native.Nat.{ℕ, zero, suc, _<_}
 use native.Mathlib.Omega.{arith}
-use lib.Dec.{leb, ltb, eqb}
-use borrow.Author.Tests.{not-false, not-true, eqb-true, ne-eqb}
+use lib.Dec.{eqb}
+use borrow.Author.Tests.{not-false, ne-eqb}
 use Rattle.rules.specs.Base.{put, all, keep, anyBelow}
 use Rattle.rules.specs.Sets.{Set, only, putAll}
-use Rattle.rules.specs.Window.{Limits, LineRecord, Window, withValue, withStatus, withHeld, withLog, withPermits, withTies, withLine, running}
+use Rattle.rules.specs.Window.{Limits, Window, withValue, withStatus, withHeld, withLog, withPermits, withTies, withLine, running}
 use Rattle.rules.specs.Ties.{groupOf, endSet}
 use Rattle.rules.specs.Line.{makeWaiter, waitsElsewhere, enterLine, staysInLine, lineLeft}
 use Rattle.rules.specs.Sound.{waiterSound}
@@ -17,11 +16,10 @@ use Rattle.rules.specs.Calls.{Call, Open, Initiate, Begin, Complete, Loc
 use Rattle.rules.specs.Effects.{effect, addChange, leave, completeChange, covers, lockGranted, wait, putHeld, lockEntry, writeEntry, handOver, endAll, commitChange, commitBlockers, commitGroup, abortChange, abortAll}
 use Rattle.rules.specs.Refusals.{step, settle, checks, firstFailed, _if_}
 use Rattle.rules.specs.Events.{actionOf, isOpening, isLocking}
-use Rattle.rules.proofs.BaseLaws.{and-left, and-right, Same, same, other, same?}
 use Rattle.rules.proofs.LineLaws.{waiter-parts}
 use Rattle.rules.proofs.ListLaws.{keep-same, keep-all}
 use Rattle.rules.proofs.RuleLaws.{refusal-low}
-use Rattle.rules.proofs.SoundLine.{run-begin, run-complete}
+use Rattle.rules.proofs.SoundLine.{run-begin}
 use Rattle.rules.proofs.SoundParts.{Sound}
 use Rattle.rules.proofs.SoundPlain.{run-start}
 use Rattle.rules.proofs.SoundStep.{Passed, passed, codes}

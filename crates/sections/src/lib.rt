@@ -1,5 +1,6 @@
 // Whether a section of lent bytes is that of a sound window: a function for each, but for the line, permits and ties.
 use cells::all_zero;
+use cells::index;
 use cells::read_u16;
 use layout::Changes;
 use layout::Entries;
@@ -61,13 +62,6 @@ pub fn values(values: &[u8], entries: usize) -> bool
     all_zero(values, entries * 4, Entries::SIZE)
 }
 
-// A byte as a wider number. A function, so that its contract says at each use that the number is the byte's.
-fn wide(x: u8) -> usize
-    ensures { λ r. ⌜ r ≡ x ⌝ }
-{
-    x as usize
-}
-
 // A change's place: a status from 1 to 5, a lower parent, and two bytes that are 0.
 fn change(changes: &[u8], c: usize) -> bool
     requires { ⌜ length (now changes) ≡ changesSize ⌝ }
@@ -77,7 +71,7 @@ fn change(changes: &[u8], c: usize) -> bool
     let at = c * 4;
     let status = changes[at];
     !((status < 1) | (5 < status))
-        & (wide(changes[at + 1]) < c)
+        & (index(changes[at + 1]) < c)
         & (changes[at + 2] == 0)
         & (changes[at + 3] == 0)
 }
@@ -177,7 +171,7 @@ fn is_writer(locks: &[u8], e: u8, c: u8) -> bool
     requires { ⌜ length (now locks) ≡ locksSize ⌝ }
     ensures { λ r. ⌜ r ≡ writes (now (locks .entry)) e c ⌝ }
 {
-    (locks[wide(e) * Locks::ENTRY + Locks::SET + wide(c / 8)] >> (c % 8)) % 2 == 1
+    (locks[index(e) * Locks::ENTRY + Locks::SET + index(c / 8)] >> (c % 8)) % 2 == 1
 }
 
 // The log record at place j: the owner among the entry's writers.

@@ -23,7 +23,7 @@ use Rattle.cells.specs.Part.{part}
 use Rattle.locks.specs.Held.{Modes}
 use Rattle.sections.specs.Sections.{HeadSound, ChangesSound}
 use Rattle.line_section.specs.Sections.{runBy}
-use Rattle.soundness.specs.Parts.{FrontSound, BackSound, Listed}
+use Rattle.parts.specs.Parts.{FrontSound, BackSound, Listed}
 
 -- eight lists one after the other
 join8 : {a b c d e f g h a′ b′ c′ d′ e′ f′ g′ h′ : List ℕ} → a ≡ a′ → b ≡ b′ → c ≡ c′ → d ≡ d′ → e ≡ e′ → f ≡ f′ → g ≡ g′ → h ≡ h′

@@ -15,7 +15,7 @@ use Rattle.layout.specs.Memory.{soundBytes}
 use Rattle.cells.specs.Part.{part}
 use Rattle.sections.specs.Sections.{HeadSound, ChangesSound, LocksSound}
 use Rattle.line_section.specs.Sections.{runBy}
-use Rattle.soundness.specs.Parts.{FrontSound, BackSound, Listed}
+use Rattle.parts.specs.Parts.{FrontSound, BackSound, Listed}
 use Rattle.soundness.specs.Read.{AreFigures}
 use Rattle.soundness.specs.declared.Figures.{Figures}
 use Rattle.soundness.proofs.Assembly.{W, head-known, changes-known, front-known, back-known, gathered, gathered-all, gathered-listed, listed-known, relations-known}

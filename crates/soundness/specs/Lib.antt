@@ -1,3 +1,2 @@
--- The parts of a sound window's bytes, put together; the figures read from its header.
-pub mod Parts
+-- The figures read from a window's header.
 pub mod Read

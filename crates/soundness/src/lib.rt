@@ -3,27 +3,16 @@ use layout::Changes;
 use layout::Entries;
 use layout::Header;
 use layout::Line;
-use layout::Locks;
-use layout::Log;
-use layout::Permits;
-use layout::Ties;
+use parts::back;
+use parts::front;
+use parts::related;
 use places::figure;
-use sets::ChangeSet;
 ghost use mathlib.Core.Path.{_≡_};
-ghost use mathlib.Core.Bool.{true, _&&_};
-ghost use mathlib.Core.Logic.{_↔_};
-ghost use Prim.Native.Nat.{ℕ, suc, _≤_};
 ghost use lib.ListN.{length};
-ghost use Rattle.rules.specs.Window.{Window};
-ghost use Rattle.rules.specs.Locks.{clashesPermitted};
-ghost use Rattle.rules.specs.Ties.{acyclic};
-ghost use Rattle.layout.specs.Codec.{headAt, headSize, changesAt, changesSize, changeSection, locksAt, locksSize, windowSize};
+ghost use Rattle.layout.specs.Codec.{headAt, headSize, windowSize};
 ghost use Rattle.layout.specs.Memory.{soundBytes, soundMemory};
 ghost use Rattle.cells.specs.Part.{part};
-ghost use Rattle.sets.specs.Members.{members};
-ghost use Rattle.sections.specs.Sections.{HeadSound, LocksSound};
-ghost use Rattle.line_section.specs.Sections.{runBy};
-ghost use Rattle.soundness.specs.Parts.{FrontSound, BackSound, Listed};
+ghost use Rattle.sections.specs.Sections.{HeadSound};
 ghost use Rattle.soundness.specs.Read.{AreFigures};
 
 // The figures of a header.
@@ -50,69 +39,6 @@ fn read_figures(w: &[u8]) -> Figures
         ties: figure(head, 4),
         waiters: figure(head, 5),
     }
-}
-
-// The values, the line beside the changes, and the locks.
-fn front(w: &[u8], entries: usize, waiters: usize, live: ChangeSet) -> bool
-    requires { ⌜ length (now w) ≡ windowSize ⌝ }
-    requires { ⌜ (entries ≤ 256) × (waiters ≤ 255) ⌝ }
-    ensures { λ r. ⌜ ((st pa : ℕ → ℕ) → part (now (w .entry)) changesAt changesSize ≡ changeSection st pa → (r ≡ true ↔ FrontSound (now (w .entry)) entries waiters (members live) (runBy st))) ⌝ }
-{
-    if !sections::values(&w[Entries::AT..Changes::AT], entries) {
-        return false;
-    }
-    if !line_section::line(
-        &w[Line::AT..Locks::AT],
-        waiters,
-        entries,
-        &w[Changes::AT..Line::AT],
-    ) {
-        return false;
-    }
-    sections::locks(&w[Locks::AT..Permits::AT], entries, live)
-}
-
-// The permits, the ties and the log, beside sound locks.
-fn back(
-    w: &[u8],
-    entries: usize,
-    permits: usize,
-    ties: usize,
-    records: usize,
-    live: ChangeSet,
-) -> bool
-    requires { ⌜ length (now w) ≡ windowSize ⌝ }
-    requires { ⌜ (permits ≤ 1024) × (ties ≤ 512) × (records ≤ 2048) ⌝ }
-    ensures { λ r. ⌜ ((z : LocksSound (part (now (w .entry)) locksAt locksSize) entries (members live)) → (r ≡ true ↔ BackSound (now (w .entry)) entries permits ties records (members live) (z .held))) ⌝ }
-{
-    if !row_sections::permits(&w[Permits::AT..Ties::AT], permits, entries, live) {
-        return false;
-    }
-    if !row_sections::ties(&w[Ties::AT..Log::AT], ties, live) {
-        return false;
-    }
-    sections::log(
-        &w[Log::AT..layout::Window::SIZE],
-        records,
-        &w[Locks::AT..Permits::AT],
-    )
-}
-
-// Arrows do not close a cycle, and each clashing pair of locks has a permit.
-fn related(w: &[u8], entries: usize, permits: usize, ties: usize) -> bool
-    requires { ⌜ length (now w) ≡ windowSize ⌝ }
-    requires { ⌜ (entries ≤ 256) × (permits ≤ 1024) × (ties ≤ 512) ⌝ }
-    ensures { λ r. ⌜ ((W : Window) → Listed (now (w .entry)) entries permits ties W → r ≡ acyclic (suc (W .given)) (W .ties) && clashesPermitted W) ⌝ }
-{
-    if !cycles::acyclic(&w[Ties::AT..Log::AT], ties) {
-        return false;
-    }
-    clashes::all_permitted(
-        &w[Locks::AT..Permits::AT],
-        entries,
-        &w[Permits::AT..Ties::AT],
-        permits,
-    )
 }
 
 // Whether a window's bytes are sound.

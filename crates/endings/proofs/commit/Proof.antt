@@ -1,5 +1,5 @@
 -- `endings::commit` meets its contract. Assumes nothing.
-use mathlib.Core.Path.{refl}
+use mathlib.Core.Path.{_∙_}
 use native.Mathlib.Omega.{arith}
 use borrow.Author.Needs.{needs}
 use borrow.Author.Tests.{not-true, not-false}
@@ -47,16 +47,16 @@ group-requires c κs = let s = c .before .before .before .before .before .before
 -- something holds it up
 returns-3 : tie.Need-returns-3
 returns-3 c =
-    let s = c .before .before .before .before .before .before .before .before .before .before .before .before .before .before .before in
+    let s = c .before .before .before .before .before .before .before .before .before .before .before .before .before .before .before .before in
     let w = s .args .w .now in
-    let status = c .before .before .before .before .before .before .before .before .before .before .before .before .status in
-    let ties = c .before .before .before .before .before .before .before .before .ties in
-    let group = c .before .before .before .before .before .group in
-    let blockers = c .before .before .before .blockers in
-    let empty = c .before .before .is-empty in
-    commit-waits w (s .pre .1 .0) (s .args .change) (status .result) (s .pre .1 .1) (status .ensures) (c .before .before .before .before .before .before .before .before .before .before .before .if1 .left) (c .before .before .before .before .before .before .before .before .before .before .if2 .left)
+    let status = c .before .before .before .before .before .before .before .before .before .before .before .before .before .status in
+    let ties = c .before .before .before .before .before .before .before .before .before .ties in
+    let group = c .before .before .before .before .before .before .group in
+    let blockers = c .before .before .before .before .blockers in
+    let empty = c .before .before .before .is-empty in
+    commit-waits w (s .pre .1 .0) (s .args .change) (status .result) (s .pre .1 .1) (status .ensures) (c .before .before .before .before .before .before .before .before .before .before .before .before .if1 .left) (c .before .before .before .before .before .before .before .before .before .before .before .if2 .left)
     (members (group .result)) (group-read w (s .pre .1 .0) (s .args .change) (ties .result) (ties .ensures .0) (members (group .result)) (group .ensures))
-    (members (blockers .result)) (blockers .ensures) (empty .result) (empty .ensures) (not-true _ (c .before .if3 .taken)) _ refl (c .lowest .ensures)
+    (members (blockers .result)) (blockers .ensures) (empty .result) (empty .ensures) (not-true _ (c .before .before .if3 .taken)) (c .blocked .result) (c .blocked .ensures .0) (c .blocked .ensures .1 ∙ c .before .lowest .ensures)
 
 -- nothing does
 returns-4 : tie.Need-returns-4
@@ -91,6 +91,7 @@ commit-spec =
     (λ c. search needs)
     cast-group
     group-requires
+    (λ c κs. search needs)
     (λ c κs. search needs)
     (λ c κs. search needs)
     (λ c κs. search needs)

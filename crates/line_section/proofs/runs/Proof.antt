@@ -6,7 +6,7 @@ use Rattle.line_section.proofs.runs.Tie as tie
 
 returns : tie.Need-returns
 unfolding runIn
-returns c = rw (c .before .wide .ensures)
+returns c = rw (c .before .index .ensures)
 
 pub runs-spec : {M : Type 1} → statement M
 runs-spec = tie.close (tie.spec (λ c κs. search needs) (λ c. search needs) (λ c. search needs) returns)

@@ -9,7 +9,7 @@ use Rattle.line_section.proofs.waiter_at.Tie as tie
 
 returns : tie.Need-returns
 unfolding waiterFits waiterSound waiterAt outside
-returns c = rw (c .before .before .before .runs .ensures, c .before .wide .ensures)
+returns c = rw (c .before .before .before .runs .ensures, c .before .index .ensures)
 
 pub waiter-at-spec : {M : Type 1} → statement M
 waiter-at-spec =

@@ -1,5 +1,4 @@
 -- `locking::lock` meets its contract: covered, blocked, or granted. Assumes nothing.
-use mathlib.Core.Path.{refl}
 use native.Mathlib.Nat.{lt-of-le-of-lt}
 use lib.Dec.{lit≤}
 use Rattle.layout.specs.Codec.{decode}
@@ -17,8 +16,8 @@ returns : tie.Need-returns
 returns c = let s = c .before .before .before .before .before .before .before .before .before in lock-covered (decode (s .args .w .now)) (s .args .change) (s .args .entry) (s .args .mode) _ (c .before .before .before .before .before .before .held .ensures) (c .done .result) _ (c .before .before .before .before .before .if1 .taken) (c .before .before .before .leave-line .ensures) (c .done .ensures)
 
 returns-2 : tie.Need-returns-2
-returns-2 c = let s = c .before .before .before .before .before .before .before .before .before .before .before in
-    lock-blocked (decode (s .args .w .now)) (s .args .change) (s .args .entry) (s .args .mode) _ (c .before .before .before .before .before .before .before .before .held .ensures) _ _ (c .before .before .before .before .before .before .before .if1 .left) _ (c .before .before .before .before .before .granted .ensures) (not-true _ (c .before .before .before .before .if2 .taken)) (c .before .before .enter-line .ensures) (refl, refl)
+returns-2 c = let s = c .before .before .before .before .before .before .before .before .before .before .before .before in
+    lock-blocked (decode (s .args .w .now)) (s .args .change) (s .args .entry) (s .args .mode) _ (c .before .before .before .before .before .before .before .before .before .held .ensures) _ _ (c .before .before .before .before .before .before .before .before .if1 .left) _ (c .before .before .before .before .before .before .granted .ensures) (not-true _ (c .before .before .before .before .before .if2 .taken)) (c .before .before .before .enter-line .ensures) (c .blocked .ensures)
 
 leave-line-requires-2 : tie.Need-leave-line-requires-2
 leave-line-requires-2 c κs = let s = c .before .before .before .before .before .before .before .before in (s .pre .0, (s .pre .1 .0, lock-named (s .args .w .now) (s .pre .1 .0) (s .args .change) (s .args .entry) (s .args .mode) (s .pre .1 .1) .0))
@@ -48,6 +47,7 @@ lock-spec =
     returns
     (λ c κs. c .before .before .before .before .before .pre)
     (λ c κs. c .before .before .before .before .before .before .before .before .pre)
+    (λ c κs. search needs)
     (λ c. search needs)
     returns-2
     leave-line-requires-2

@@ -7,7 +7,7 @@ use Rattle.sections.proofs.change.Tie as tie
 
 returns : tie.Need-returns
 unfolding changeFits outside
-returns c = rw (c .before .before .wide .ensures)
+returns c = rw (c .before .before .index .ensures)
 
 pub change-spec : {M : Type 1} → statement M
 change-spec =

@@ -7,7 +7,7 @@ use Rattle.sections.proofs.is_writer.Tie as tie
 
 returns : tie.Need-returns
 unfolding writes unpack
-returns c = rw (c .before .before .wide .ensures, c .before .wide2 .ensures)
+returns c = rw (c .before .before .index .ensures, c .before .index2 .ensures)
 
 pub is-writer-spec : {M : Type 1} → statement M
 is-writer-spec =

@@ -1,12 +1,12 @@
--- `soundness::back` meets its contract. Assumes nothing.
+-- `parts::back` meets its contract. Assumes nothing.
 use native.Mathlib.Omega.{arith}
 use Rattle.layout.specs.Codec.{locksAt, locksSize, logAt, logSize}
 use Rattle.cells.specs.Part.{part}
 use Rattle.cells.proofs.PartLaws.{length-part}
 use Rattle.rules.proofs.TurnLaws.{fails, passes, refused}
 use borrow.Author.Needs.{needs}
-use Rattle.soundness.proofs.back.Statement.{statement}
-use Rattle.soundness.proofs.back.Tie as tie
+use Rattle.parts.proofs.back.Statement.{statement}
+use Rattle.parts.proofs.back.Tie as tie
 
 permits-requires : tie.Need-permits-requires
 permits-requires c κs = omega (arith, c .before .before .pre)

@@ -1,12 +1,12 @@
--- `soundness::front` meets its contract. Assumes nothing.
+-- `parts::front` meets its contract. Assumes nothing.
 use native.Mathlib.Omega.{arith}
 use borrow.Author.Needs.{needs}
 use Rattle.rules.proofs.TurnLaws.{fails, passes, refused}
 use Rattle.layout.specs.Codec.{locksAt, locksSize}
 use Rattle.cells.specs.Part.{part}
 use Rattle.cells.proofs.PartLaws.{length-part}
-use Rattle.soundness.proofs.front.Statement.{statement}
-use Rattle.soundness.proofs.front.Tie as tie
+use Rattle.parts.proofs.front.Statement.{statement}
+use Rattle.parts.proofs.front.Tie as tie
 
 returns : tie.Need-returns
 unfolding part

@@ -1,4 +1,4 @@
--- `soundness::related` meets its contract. Assumes nothing.
+-- `parts::related` meets its contract. Assumes nothing.
 use mathlib.Core.Path.{sym, _∙_, ap}
 use mathlib.Core.Bool.{_&&_}
 use native.Mathlib.Omega.{arith}
@@ -8,8 +8,8 @@ use Rattle.cells.specs.Part.{part}
 use Rattle.cells.proofs.PartLaws.{length-part}
 use borrow.Author.Needs.{needs}
 use borrow.Author.Tests.{not-true, not-false}
-use Rattle.soundness.proofs.related.Statement.{statement}
-use Rattle.soundness.proofs.related.Tie as tie
+use Rattle.parts.proofs.related.Statement.{statement}
+use Rattle.parts.proofs.related.Tie as tie
 
 acyclic-requires : tie.Need-acyclic-requires
 acyclic-requires c κs = omega (arith, c .before .before .pre)

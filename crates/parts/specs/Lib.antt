@@ -1,0 +1,2 @@
+-- Sections of a sound window's bytes, taken together.
+pub mod Parts
