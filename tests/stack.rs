@@ -49,6 +49,7 @@ fn main() {
             let (call, answer) = match case.kind {
                 Kind::Check => continue,
                 Kind::Done(call) => (call, 0),
+                Kind::Blocked(call) => (call, 20),
                 Kind::Refused(call) => (call, 8),
             };
             let place = call.fields().0;

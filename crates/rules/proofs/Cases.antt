@@ -4,6 +4,7 @@ use mathlib.Core.Path.{_≡_, refl}
 use mathlib.Core.List.{List, [], _∷_, map}
 use Prim.Native.Nat.{ℕ, suc}
 use Rattle.rules.specs.Window.{Limits, fresh}
+use Rattle.rules.specs.Line.{makeWaiter, enterLine}
 use Rattle.rules.specs.Calls.{Call, Open, Initiate, Begin, Complete, Lock, Read, Write, Permit, Delegate, Depend, Commit, Abort, Status, Parent, Value}
 use Rattle.rules.specs.Refusals.{step}
 use Rattle.rules.specs.Lists.{answers}
@@ -127,17 +128,32 @@ pub covered-leaves : Answered (two (Lock 1 0 1 ∷ Lock 2 0 1 ∷ Lock 1 0 2 ∷
 unfolding rules
 covered-leaves e c r p t = refl
 
--- "A change that stops running leaves its line": completed, or ended with another
+-- "A change that stops running leaves its line": completed, and ended through another
 pub stopped : Answered (two (Initiate 0 ∷ Begin 3 ∷ Lock 3 0 2 ∷ Lock 1 0 2 ∷ Lock 2 0 1 ∷ Abort 3 ∷ Lock 2 0 1 ∷ Complete 1 ∷ Lock 2 0 1 ∷ []))
     (begun ((0, 3) ∷ (0, 0) ∷ (0, 0) ∷ (20, 0) ∷ (20, 0) ∷ (0, 1) ∷ (20, 0) ∷ (0, 0) ∷ (0, 0) ∷ []))
 unfolding rules
 stopped e c r p t = refl
 
--- a repeated call keeps its place, whatever the newer mode
+pub fallen-out : Answered (two (Initiate 0 ∷ Begin 3 ∷ Lock 3 0 2 ∷ Lock 1 0 2 ∷ Lock 2 0 1 ∷ Depend 2 3 1 ∷ Abort 3 ∷ Lock 2 0 1 ∷ []))
+    (begun ((0, 3) ∷ (0, 0) ∷ (0, 0) ∷ (20, 0) ∷ (20, 0) ∷ (0, 0) ∷ (0, 2) ∷ (0, 0) ∷ []))
+unfolding rules
+fallen-out e c r p t = refl
+
+-- 3 waits on entry 1 and is not held back by 2, who waits on entry 0 since before
+pub own-lines : Answered (two (Initiate 0 ∷ Begin 3 ∷ Lock 1 0 2 ∷ Lock 1 1 2 ∷ Lock 2 0 2 ∷ Lock 3 1 2 ∷ Permit 1 3 1 2 ∷ Lock 3 1 2 ∷ []))
+    (begun ((0, 3) ∷ (0, 0) ∷ (0, 0) ∷ (0, 0) ∷ (20, 0) ∷ (20, 0) ∷ (0, 0) ∷ (0, 0) ∷ []))
+unfolding rules
+own-lines e c r p t = refl
+
+-- "A repeated call keeps its place", whatever the newer mode; and in the line itself
 pub place-kept : Answered (two (Initiate 0 ∷ Begin 3 ∷ Lock 1 0 2 ∷ Lock 2 0 2 ∷ Lock 3 0 1 ∷ Lock 2 0 1 ∷ Abort 1 ∷ Lock 3 0 1 ∷ Lock 2 0 1 ∷ Lock 3 0 1 ∷ []))
     (begun ((0, 3) ∷ (0, 0) ∷ (0, 0) ∷ (20, 0) ∷ (20, 0) ∷ (20, 0) ∷ (0, 1) ∷ (20, 0) ∷ (0, 0) ∷ (0, 0) ∷ []))
 unfolding rules
 place-kept e c r p t = refl
+
+pub newer-mode : enterLine (makeWaiter 2 0 1) (makeWaiter 2 0 2 ∷ makeWaiter 3 0 2 ∷ []) ≡ makeWaiter 2 0 1 ∷ makeWaiter 3 0 2 ∷ []
+unfolding rules
+newer-mode = refl
 
 -- THE CHECKING ORDER
 -- tables so small that each can be full

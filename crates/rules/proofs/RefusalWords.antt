@@ -35,7 +35,7 @@ NoChange W c = (c ≡ 0) ⊎ (W .given < c)
 unfoldable pub Live : Window → ℕ → Type 0
 Live W c = (c ≤ W .given) × (1 ≤ W .status c) × (W .status c ≤ 3)
 
--- "the change stands in another entry's line"
+-- "The change stands in another entry's line"
 unfoldable pub InAnotherLine : Window → ℕ → ℕ → Type 0
 InAnotherLine W c e = (r : LineRecord) × List·Memᴰ r W.line × (r .change ≡ c) × (r .entry ≢ e)
 
