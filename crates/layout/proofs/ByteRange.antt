@@ -1,6 +1,6 @@
 -- The bytes of a sound window are bytes, and a call leaves bytes where bytes were. Assumes nothing.
 use mathlib.Core.Path.{_≡_, refl}
-use mathlib.Core.Bool.{Bool, true, false, false≢true}
+use mathlib.Core.Bool.{Bool, true, false}
 use mathlib.Core.Logic.{⊎-elim}
 use mathlib.Core.List.{List, [], _∷_}
 use Prim.Native.Nat.{ℕ, zero, suc, _+_, _*_, _^_, _/_, _%_}
@@ -14,12 +14,13 @@ use Rattle.rules.specs.Window.{limits, fresh, LogRecord, PermitRecord, TieRecor
 use Rattle.rules.specs.Calls.{Call, fits, Reply, Outcome}
 use Rattle.rules.specs.Refusals.{step}
 use Rattle.rules.specs.Sound.{statusSound, parentSound, recordSound, permitSound, tieSound, waiterSound}
-use Rattle.rules.proofs.BaseLaws.{Below, under, over, below, and-right, or-cases}
+use Rattle.rules.proofs.BaseLaws.{and-right, or-cases}
 use Rattle.rules.proofs.ListLaws.{all-weaken, all-join, all-getD, all-table}
 use Rattle.rules.proofs.RuleLaws.{is-open}
 use Rattle.rules.proofs.SoundStep.{step-sound, opened-sound}
 use Rattle.rules.proofs.LineLaws.{waiter-parts}
-use Rattle.rules.proofs.SoundParts.{Sound, status-none, live-below, record-parts, permit-parts, tie-parts, inside-of, status-range, numbered}
+use Rattle.rules.proofs.SoundLine.{running-given}
+use Rattle.rules.proofs.SoundParts.{Sound, live-below, record-parts, permit-parts, tie-parts, inside-of, status-range, numbered}
 use Rattle.layout.specs.Codec.{waiterBytes, lineByte, headSize, valuesSize, changesSize, lineSize, locksSize, permitsSize, tiesSize, logSize, byte, noRecord, noPermit, noTie, noWaiter, headByte, valueByte, changeByte, lockByte, recordBytes, logByte, permitBytes, permitByte, tieBytes, tieByte, figures, encode, windowSize}
 use Rattle.layout.specs.Memory.{windowOf, handBack, layInto, perform}
 use Rattle.layout.proofs.CodecLaws.{pack-most}
@@ -57,12 +58,7 @@ module _ (W : Window) (k : Sound limits W) where
 
   -- who runs has a number
   run-small : (c : ℕ) → running W c ≡ true → small c ≡ true
-  unfolding running
-  run-small c h = go (below c (suc W.given))
-    where
-      go : {b : Bool} → Below c (suc W.given) b → small c ≡ true
-      go (under l) = lt-ltb c 256 (omega (arith, given-most W k))
-      go (over l) = absurd (false≢true (rw (status-none limits W k c l) at h))
+  run-small c h = lt-ltb c 256 (omega (arith, running-given limits W k c h .1, given-most W k))
 
   head-small : (i : ℕ) → small (headByte (figures W) i) ≡ true
   unfolding headByte

@@ -15,7 +15,7 @@ use Rattle.rules.specs.Calls.{Call, Open, fits, Reply, Outcome}
 use Rattle.rules.specs.Refusals.{step}
 use Rattle.rules.specs.Events.{actionOf, isOpening, isOpen}
 use Rattle.rules.proofs.BaseLaws.{and-left, and-right, and-both, eqb-same, Same, same, other, same?}
-use Rattle.rules.proofs.RuleLaws.{placed, quiet, open-answer, open-number}
+use Rattle.rules.proofs.RuleLaws.{blockedWindow, quiet, open-answer, open-number}
 use Rattle.rules.proofs.SoundParts.{Sound, sound-parts, parts-sound}
 use Rattle.rules.proofs.SoundStep.{step-sound, opened-sound, opened-fresh}
 use Rattle.layout.specs.Codec.{headAt, headSize, valuesAt, valuesSize, changesAt, changesSize, lineAt, lineSize, locksAt, locksSize, permitsAt, permitsSize, tiesAt, tiesSize, logAt, logSize, windowSize, figures, headSection, valueSection, changeSection, lineSection, lockSection, permitSection, tieSection, logSection, lay, decode, encode}
@@ -245,7 +245,7 @@ module _ (mem : List ℕ) where
       go (kept n) = back _
 
   -- BLOCKED: a lock's place in line is stored, and a commit changes no byte
-  pub perform-blocked : (c : Call) → soundMemory mem ≡ true → perform mem c .answer ≡ 20 → perform mem c .after ≡ encode (placed (windowOf mem) (actionOf c)) ++ drop windowSize mem
+  pub perform-blocked : (c : Call) → soundMemory mem ≡ true → perform mem c .answer ≡ 20 → perform mem c .after ≡ encode (blockedWindow (windowOf mem) (actionOf c)) ++ drop windowSize mem
   perform-blocked c h b = perform-after c h ∙ ap (λ X. encode X ++ drop windowSize mem) (quiet limits (windowOf mem) c .blocks (sym (perform-answer c h) ∙ b))
 
   -- PAST THE WINDOW: what lies there is as it was, and the memory is as long

@@ -15,7 +15,7 @@ use Rattle.rules.specs.Effects.{effect, leave, covers, putHeld, lockGran
 use Rattle.rules.specs.Refusals.{checks, _if_, step}
 use Rattle.rules.specs.Events.{actionOf}
 use Rattle.rules.proofs.BaseLaws.{or-none, Same, same, other, same?}
-use Rattle.rules.proofs.RuleLaws.{placed, quiet, unrefused-by, done-unrefused}
+use Rattle.rules.proofs.RuleLaws.{blockedWindow, quiet, unrefused-by, done-unrefused}
 use Rattle.rules.proofs.SoundStep.{passed, codes}
 
 -- a line before and after w has its place: "at the end of that entry's line, with its mode", or "A repeated call keeps its place and takes the newer mode"
@@ -42,7 +42,7 @@ enter-place w (r ∷ l) h = let n = or-none (eqb r.change w.change && not (eqb r
 module _ (L : Limits) (W : Window) (c e m : ℕ) where
   -- "A lock answered 20 changes its place in line and nothing else"
   pub blocked-place : step L W (Lock c e m) .answer ≡ 20 → (k : List LineRecord) × (step L W (Lock c e m) .after ≡ withLine W k) × PlaceTaken (makeWaiter c e m) (W .line) k
-  unfolding actionOf placed wait makeWaiter checks _if_
+  unfolding actionOf blockedWindow wait makeWaiter checks _if_
   blocked-place a = (enterLine w (W .line), quiet L W (Lock c e m) .blocks a, enter-place w (W .line) (passed (checks L W (Lock c e m)) (codes L W (Lock c e m)) (unrefused-by L W (Lock c e m) 20 (λ h. omega arith) a .0) .1 .1 .1 .1 .0))
     where
       w : LineRecord

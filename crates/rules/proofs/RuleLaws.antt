@@ -1,7 +1,7 @@
 -- A call that is turned back leaves the window as it was, a blocked one too but for a lock's place in line, and one answered 0 was not refused; open answers the same whatever it was. Assumes nothing.
 use mathlib.Core.Path.{_≡_, refl, sym, _∙_}
 use mathlib.Core.Logic.{_≢_}
-use mathlib.Core.Bool.{Bool, true, false, cond, _||_, false≢true}
+use mathlib.Core.Bool.{Bool, true, false, cond, _&&_, _||_, false≢true}
 use mathlib.Core.List.{List, [], _∷_}
 use Prim.Native.Nat.{ℕ, zero, suc, _≤_, _<_}
 use native.Mathlib.Omega.{arith}
@@ -16,14 +16,14 @@ use Rattle.rules.specs.Refusals.{Check, step, settle, checks, _if_, firs
 use Rattle.rules.proofs.BaseLaws.{and-left, and-right}
 
 -- what a blocked call leaves: a lock "alters the window by its place in line", a commit does not alter it
-unfoldable pub placed : Window → Action → Window
-placed W opening = W
-placed W initiating = W
-placed W nothing = W
-placed W (locking c e m) = wait W c e m
-placed W (permitting g t e o) = W
-placed W (delegating f t e) = W
-placed W (tying k l f) = W
+unfoldable pub blockedWindow : Window → Action → Window
+blockedWindow W opening = W
+blockedWindow W initiating = W
+blockedWindow W nothing = W
+blockedWindow W (locking c e m) = wait W c e m
+blockedWindow W (permitting g t e o) = W
+blockedWindow W (delegating f t e) = W
+blockedWindow W (tying k l f) = W
 
 -- an answer other than 0 and 20 leaves the window as it was, and its second number is 0; 20 leaves X
 pub record Quiet (W X : Window) (o : Outcome) : Type 0 where
@@ -61,8 +61,8 @@ quiet-settle W X (suc a) o n q = quiet-refused W X (suc a) n
 
 ruleset quiets = (quiet-done, quiet-ended, quiet-blocked, quiet-waits, quiet-cond)
 
-quiet-effect : (W : Window) (c : Call) → Quiet W (placed W (actionOf c)) (effect W c)
-unfolding effect lockEntry commitChange commitGroup abortChange abortAll actionOf placed
+quiet-effect : (W : Window) (c : Call) → Quiet W (blockedWindow W (actionOf c)) (effect W c)
+unfolding effect lockEntry commitChange commitGroup abortChange abortAll actionOf blockedWindow
 quiet-effect W (Open n) = search quiets
 quiet-effect W (Initiate p) = search quiets
 quiet-effect W (Begin c) = search quiets
@@ -79,38 +79,38 @@ quiet-effect W (Status c) = search quiets
 quiet-effect W (Parent c) = search quiets
 quiet-effect W (Value e) = search quiets
 
--- no refusal is numbered 20
-low-codes : (L : Limits) (W : Window) (c : Call) → all (λ k. ltb k.code 20) (checks L W c) ≡ true
+-- refusals are numbered from 1 to 19
+pub numbered : (L : Limits) (W : Window) (c : Call) → all (λ k. ltb 0 k.code && ltb k.code 20) (checks L W c) ≡ true
 unfolding all checks _if_
-low-codes L W (Open n) = refl
-low-codes L W (Initiate p) = refl
-low-codes L W (Begin c) = refl
-low-codes L W (Complete c) = refl
-low-codes L W (Lock c e m) = refl
-low-codes L W (Read c e) = refl
-low-codes L W (Write c e v) = refl
-low-codes L W (Permit g t e o) = refl
-low-codes L W (Delegate f t e) = refl
-low-codes L W (Depend k l f) = refl
-low-codes L W (Commit c) = refl
-low-codes L W (Abort c) = refl
-low-codes L W (Status c) = refl
-low-codes L W (Parent c) = refl
-low-codes L W (Value e) = refl
+numbered L W (Open n) = refl
+numbered L W (Initiate p) = refl
+numbered L W (Begin c) = refl
+numbered L W (Complete c) = refl
+numbered L W (Lock c e m) = refl
+numbered L W (Read c e) = refl
+numbered L W (Write c e v) = refl
+numbered L W (Permit g t e o) = refl
+numbered L W (Delegate f t e) = refl
+numbered L W (Depend k l f) = refl
+numbered L W (Commit c) = refl
+numbered L W (Abort c) = refl
+numbered L W (Status c) = refl
+numbered L W (Parent c) = refl
+numbered L W (Value e) = refl
 
-first-low : (l : List Check) → all (λ k. ltb k.code 20) l ≡ true → firstFailed l < 20
+first-low : (l : List Check) → all (λ k. ltb 0 k.code && ltb k.code 20) l ≡ true → firstFailed l < 20
 unfolding all firstFailed
 first-low [] e = omega arith
-first-low (k ∷ l) e = go (k .fails) (first-low l (and-right (ltb k.code 20) _ e))
+first-low (k ∷ l) e = go (k .fails) (first-low l (and-right (ltb 0 k.code && ltb k.code 20) _ e))
   where
     go : (b : Bool) → firstFailed l < 20 → cond b k.code (firstFailed l) < 20
-    go true h = ltb-true k.code 20 (and-left (ltb k.code 20) _ e)
+    go true h = ltb-true k.code 20 (and-right (ltb 0 k.code) _ (and-left (ltb 0 k.code && ltb k.code 20) _ e))
     go false h = h
 
 pub refusal-low : (L : Limits) (W : Window) (c : Call) → firstFailed (checks L W c) < 20
-refusal-low L W c = first-low (checks L W c) (low-codes L W c)
+refusal-low L W c = first-low (checks L W c) (numbered L W c)
 
-pub quiet : (L : Limits) (W : Window) (c : Call) → Quiet W (placed W (actionOf c)) (step L W c)
+pub quiet : (L : Limits) (W : Window) (c : Call) → Quiet W (blockedWindow W (actionOf c)) (step L W c)
 unfolding step
 quiet L W c = let h = refusal-low L W c in quiet-settle W _ (firstFailed (checks L W c)) (effect W c) (λ e. omega arith) (quiet-effect W c)
 

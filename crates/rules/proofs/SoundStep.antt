@@ -18,7 +18,7 @@ use Rattle.rules.specs.Refusals.{Check, firstFailed, _if_, checks, step,
 use Rattle.rules.proofs.BaseLaws.{and-left, and-right, or-none}
 use Rattle.rules.proofs.LineLaws.{waiter-more}
 use Rattle.rules.proofs.ListLaws.{all-weaken}
-use Rattle.rules.proofs.RuleLaws.{done-unrefused}
+use Rattle.rules.proofs.RuleLaws.{numbered, done-unrefused}
 use Rattle.rules.proofs.SetLaws.{reach-to}
 use Rattle.rules.proofs.SoundDelegate.{hand-sound}
 use Rattle.rules.proofs.SoundDepend.{make-sound, depend-sound}
@@ -46,22 +46,7 @@ passed (k ∷ l) c e = go (k .fails) refl (and-left (ltb 0 k.code) (all (λ j. l
 
 -- no refusal is numbered 0
 pub codes : (L : Limits) (W : Window) (c : Call) → all (λ k. ltb 0 k.code) (checks L W c) ≡ true
-unfolding all checks _if_
-codes L W (Open n) = refl
-codes L W (Initiate p) = refl
-codes L W (Begin c) = refl
-codes L W (Complete c) = refl
-codes L W (Lock c e m) = refl
-codes L W (Read c e) = refl
-codes L W (Write c e v) = refl
-codes L W (Permit g t e o) = refl
-codes L W (Delegate f t e) = refl
-codes L W (Depend k l f) = refl
-codes L W (Commit c) = refl
-codes L W (Abort c) = refl
-codes L W (Status c) = refl
-codes L W (Parent c) = refl
-codes L W (Value e) = refl
+codes L W c = all-weaken (λ k. ltb 0 k.code && ltb k.code 20) (λ k. ltb 0 k.code) (λ k h. and-left (ltb 0 k.code) _ h) (checks L W c) (numbered L W c)
 
 -- open asks nothing of the window
 open-sound : (L : Limits) (W : Window) (n : ℕ) → Passed (checks L W (Open n)) → Sound L (effect W (Open n) .after)
