@@ -42,7 +42,7 @@ fn first_served() -> Vec<Line> {
     )
 }
 
-/// 2 stays before 3, and asks for the mode that it named last.
+/// 2 stays before 3, whatever mode it asks for.
 fn place_kept() -> Vec<Line> {
     runs(
         1,
@@ -131,7 +131,7 @@ fn another_line() -> Vec<Line> {
     )
 }
 
-/// 4 and 5 wait on entry 1 since after 3 waits on entry 0, which does not hold them back.
+/// 3 waits on entry 0 since before 4 and 5 wait on entry 1, and does not hold them back.
 fn own_lines() -> Vec<Line> {
     runs(
         2,

@@ -1,4 +1,4 @@
--- What is proved of the effects on a window's bytes.
+-- What is proved of initiate, begin, complete and of a place in line that is left, on a window's bytes.
 -- what is known of the arguments of a call that is not refused
 pub mod ArgumentLaws
 -- each call's effect

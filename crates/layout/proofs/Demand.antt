@@ -1,4 +1,4 @@
--- Demand 3 of the calls on lent memory, and who waits there. Assumes nothing.
+-- Demand 3 of the calls on lent memory, and what the lines are held to. Assumes nothing.
 use mathlib.Core.Path.{_≡_, sym, _∙_}
 use mathlib.Core.Bool.{true}
 use mathlib.Core.Logic.{_↔_}

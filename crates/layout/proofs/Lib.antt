@@ -8,7 +8,7 @@ pub mod ReadLaws
 pub mod PartLaws
 pub mod PutLaws
 pub mod LentLaws
--- how long the sections of locks, permits, ties and the log are
+-- how long the sections of the line, locks, permits, ties and the log are
 pub mod LengthLaws
 -- decode (encode W) ≡ W of a sound W (SoundCodec.sound-again)
 pub mod CodecLaws
@@ -17,5 +17,5 @@ pub mod SoundCodec
 pub mod MemoryLaws
 pub mod CallLists
 pub mod ByteRange
--- demand 3 of the calls on lent memory (Demand.bytes-kept)
+-- demand 3 and what the lines are held to, of the calls on lent memory (Demand.bytes-kept, bytes-queued)
 pub mod Demand

@@ -45,7 +45,7 @@ impl Line {
 
     pub const SIZE: usize = 1024;
 
-    // The bytes of a place in line: one for each change, and one that is unused.
+    // The bytes of a place in line. There is a place for each change, and one that is unused.
     pub const RECORD: usize = Line::SIZE / (Changes::MOST + 1);
 }
 

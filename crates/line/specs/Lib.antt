@@ -1,2 +1,2 @@
--- Who stands in the lines of a window, and what entering and leaving make of them.
+-- A place in line as a row of four bytes, and who is found there.
 pub mod Line

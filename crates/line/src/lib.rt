@@ -103,7 +103,7 @@ pub fn drop_all(line: &mut [u8], count: usize, leaving: ChangeSet) -> usize
     j
 }
 
-// A change is taken out.
+// A change is taken out. What comes back is how many are left.
 pub fn leave(line: &mut [u8], count: usize, change: u8) -> usize
     requires { ⌜ length (now line) ≡ lineSize ⌝ }
     requires { ⌜ count ≤ 255 ⌝ }

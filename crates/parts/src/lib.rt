@@ -1,4 +1,4 @@
-// Whether sections of lent bytes taken together are those of a sound window: those before the permits, those from the permits on, and what relates them.
+// Whether sections of lent bytes taken together are those of a sound window: values, line and locks; permits, ties and log; arrows and clashing pairs.
 use layout::Changes;
 use layout::Entries;
 use layout::Line;

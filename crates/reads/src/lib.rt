@@ -1,5 +1,5 @@
 // What a sound window holds, read from its bytes. Numbers are as a caller gives them: a change or an entry that there cannot be has
-// status, parent, value and lock 0.
+// status, parent, value and lock 0. The lines are asked of changes and entries that there are.
 use layout::Changes;
 use layout::Entries;
 use layout::Header;

@@ -1,4 +1,4 @@
--- Rows of four bytes, the first three of which are their sort key: what the tables of permits and of ties are made of. Assumes nothing.
+-- Rows of four bytes, the first three of which are their sort key: what the tables of permits and of ties are made of; places in line are rows too, in order of coming. Assumes nothing.
 use mathlib.Core.Path.{_≡_}
 use mathlib.Core.Bool.{Bool, not, cond, _&&_, _||_}
 use mathlib.Core.List.{List, [], _∷_, _++_, flatMap}

@@ -1,10 +1,10 @@
 -- What is proved of the rules, by subject. Other crates cite a file X here as Rattle.rules.proofs.X.
--- the starred calls and others by computation; a sound window and single faults; the words of demand 3 on two lists
+-- the starred calls and others by computation; a sound window and single faults; the words of demand 3 and of the lines on three lists
 pub mod Computing
 pub mod Cases
 pub mod SoundCases
 pub mod ListCases
--- tests, numbers below a bound, walks that ask a test of one number after the other and what one test decides, lists, orders, sets, ties
+-- tests, numbers below a bound, walks that ask a test of one number after the other and what one test decides, lists, orders, sets, ties, lines
 pub mod BaseLaws
 pub mod BoundLaws
 pub mod TurnLaws
@@ -29,7 +29,7 @@ pub mod SoundDelegate
 pub mod SoundDepend
 pub mod SoundEnd
 pub mod SoundStep
--- groups, the set that an abort ends and arrows, by paths; demand 2: when a lock is granted, when a change commits, what a withdrawal puts back
+-- groups, the set that an abort ends and arrows, by paths; demand 2: when a lock is granted, when a change commits, what a withdrawal puts back, what a lock does to the lines
 pub mod Promises
 pub mod LineWords
 -- demand 1: the first refusal that applies is the lowest (RefusalLaws), and which one a call gets, in words (RefusalWords.call-refused)

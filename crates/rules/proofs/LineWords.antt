@@ -40,7 +40,7 @@ enter-place w (r ∷ l) h = let n = or-none (eqb r.change w.change && not (eqb r
     go (other n) i h ih = place-behind w r i ih
 
 module _ (L : Limits) (W : Window) (c e m : ℕ) where
-  -- "A lock answered 20 changes its place in line and nothing else"
+  -- "A lock answered 20 alters the window by its place in line, with the mode, and by nothing else"
   pub blocked-place : step L W (Lock c e m) .answer ≡ 20 → (k : List LineRecord) × (step L W (Lock c e m) .after ≡ withLine W k) × PlaceTaken (makeWaiter c e m) (W .line) k
   unfolding actionOf blockedWindow wait makeWaiter checks _if_
   blocked-place a = (enterLine w (W .line), quiet L W (Lock c e m) .blocks a, enter-place w (W .line) (passed (checks L W (Lock c e m)) (codes L W (Lock c e m)) (unrefused-by L W (Lock c e m) 20 (λ h. omega arith) a .0) .1 .1 .1 .1 .0))

@@ -33,7 +33,7 @@ module _ (L : Limits) (W : Window) (k : Sound L W) where
   unfolding noChange
   running-given c h = let n = running-change c h in (omega (arith, eqb-false c 0 (or-none (eqb c 0) _ n .0)), numbered W c n)
 
-  -- "each change stands in one line at most, and is running": what a record of a line says
+  -- "each change stands in one line at most, and who stands in line is running": what a record of a line says
   pub in-line : {r : LineRecord} → List·Memᴰ r W.line → (running W r.change ≡ true) × (ltb r.entry W.entries ≡ true) × (not (outside 1 2 r.mode) ≡ true)
   in-line {r} m = waiter-parts W.entries (running W) r (all-member (waiterSound W.entries (running W)) m (k .line))
 

@@ -1,4 +1,4 @@
--- Lines in order of coming: each record's number above all before it. Assumes nothing.
+-- Lines in order of coming: since when each waits is after all before it. Assumes nothing.
 use mathlib.Core.Path.{_≡_, refl, sym, _∙_, ap}
 use mathlib.Core.Logic.{_⊎_, inl, inr, _≢_}
 use mathlib.Core.Bool.{Bool, true, false, not, cond, _&&_, false≢true, true≢false}

@@ -24,7 +24,7 @@ use Rattle.rules.proofs.SoundParts.{Sound}
 use Rattle.rules.proofs.SoundPlain.{run-start}
 use Rattle.rules.proofs.SoundStep.{Passed, passed, codes}
 
--- what a call answered so comes to: only a lock answered 0 or 20 does more than take out those who stop running
+-- what a call answered so comes to: only an open and a lock answered 0 or 20 do more than take out those who stop running
 pub data Shift (W : Window) (x : Call) (answer : ℕ) (X : Window) : Type 0 where
   opens : isOpening (actionOf x) ≡ true → answer ≡ 0 → Shift W x answer X
   goes : ((c e : ℕ) → (eqb answer 0 && isLocking c e (actionOf x) ≡ false) × (eqb answer 20 && isLocking c e (actionOf x) ≡ false)) → X .line ≡ keep (λ r. running X r.change) (W .line) → Shift W x answer X

@@ -55,7 +55,7 @@ Outcome = Reply Window
 unfoldable pub done : ℕ → Window → Outcome
 done k W = record { answer = 0; number = k; after = W }
 
--- another answer: "no byte changes"
+-- another answer, with which "no byte changes"
 unfoldable pub unchanged : ℕ → ℕ → Window → Outcome
 unchanged a k W = record { answer = a; number = k; after = W }
 

@@ -1,4 +1,4 @@
--- docs/RULES.md, "Lists of calls": a call made, and what the words of demand 3 look at in it. Assumes nothing.
+-- docs/RULES.md, "Lists of calls": a call made, and what the words of demand 3 and of the lines look at in it. Assumes nothing.
 use mathlib.Core.Bool.{Bool, true, false, cond, _&&_}
 use Prim.Native.Nat.{ℕ, max}
 use lib.Dec.{eqb}

@@ -38,7 +38,7 @@ permitSound entries lives p = lives p.giver && (eqb p.taker 0 || lives p.taker) 
 unfoldable pub tieSound : Set → TieRecord → Bool
 tieSound lives t = not (outside 1 3 t.kind) && lives t.leader && lives t.follower && not (eqb t.leader t.follower) && (not (isGroup t.kind) || ltb t.leader t.follower)
 
--- a change that stands in line "is running"; its entry and mode are in their ranges
+-- "who stands in line is running"; its entry and mode are in their ranges
 unfoldable pub waiterSound : ℕ → Set → LineRecord → Bool
 waiterSound entries runs r = runs r.change && ltb r.entry entries && not (outside 1 2 r.mode)
 
@@ -64,7 +64,7 @@ parts L W =
     ∷ acyclic (suc W.given) W.ties
     -- "each clashing pair has a permit …"
     ∷ clashesPermitted W
-    -- "each change stands in one line at most, and is running": so no more stand in line than there are changes
+    -- "each change stands in one line at most, and who stands in line is running": so no more stand in line than there are changes
     ∷ not (exceeds (length W.line) L.changes)
     ∷ all (waiterSound W.entries (running W)) W.line
     ∷ distinct (λ r. r .change) W.line

@@ -1,4 +1,4 @@
--- Demand 3 of every list of calls made through the exported functions, and who waits in turn. Assumes nothing.
+-- Demand 3 of every list of calls made through the exported functions, and what the lines are held to. Assumes nothing.
 use mathlib.Core.Path.{_≡_, refl, sym, _∙_, ap}
 use mathlib.Core.Bool.{true}
 use mathlib.Core.List.{List, [], _∷_, _++_, map, map-append}

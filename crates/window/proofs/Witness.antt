@@ -1,4 +1,4 @@
--- `Made` is not empty: it holds of what `perform` gives, for any call on any memory. So `code-kept` speaks of every list of calls whose arguments fit. Assumes nothing.
+-- `Made` is not empty: it holds of what `perform` gives, for any call on any memory. So `code-kept` and `code-queued` speak of every list of calls whose arguments fit. Assumes nothing.
 use mathlib.Core.Path.{_≡_, refl, sym, _∙_, ap}
 use mathlib.Core.Bool.{true, false, false≢true}
 use mathlib.Core.List.{List, [], _∷_}
