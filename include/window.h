@@ -153,8 +153,8 @@ WINDOW_MUST_USE window_reply window_complete(uint8_t *window, size_t length, uin
  *
  * A blocked lock puts its change at the end of the entry's line, with its mode; asked for again it keeps its place and
  * takes the newer mode. Where somebody stands in line only the first is granted, so ask again: nobody who came later
- * goes ahead. A change leaves the line when it gets 0 from a lock there, and when it completes or ends. Until then it holds back everybody
- * behind it, and it can wait on this entry alone.
+ * goes ahead. A change leaves the line when it gets WINDOW_DONE from a lock there, and when it completes or ends. Until
+ * then it holds back everybody behind it, and it can wait on this entry alone.
  */
 WINDOW_MUST_USE window_reply window_lock(uint8_t *window, size_t length, uint32_t change, uint32_t entry,
                                          uint32_t mode);
