@@ -147,7 +147,7 @@ fn full() -> Set {
         (Parent(255), None),
         (Value(255), None),
     ];
-    let holds = "every table full but for five ties and the line, which is empty: one writer and four readers of each entry";
+    let holds = "every table full but for the line and five ties: one writer and four readers of each entry";
     set("full", holds, &w, calls, (Lock(255, 255, 2), None), (Read(255, 0), None))
 }
 

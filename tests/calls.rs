@@ -291,11 +291,13 @@ fn random_lists(r: &mut Random, calls: usize, tally: &mut Tally) {
         }
     }
     println!("{made} random calls, {} lists ended in walks", tally.walked);
-    println!("at most {} in line, {} granted while others waited, {} first in line and free", tally.longest, tally.granted, tally.served);
-    assert!(tally.longest > 20 && tally.granted > 100 && tally.served > 100, "too few stood in line");
+    let Tally { longest, granted, served, .. } = *tally;
+    println!("at most {longest} in line, {granted} granted while others waited, {served} first in line and free");
+    assert!(longest > 20 && granted > 100 && served > 100, "too few stood in line");
 }
 
-/// Who stands in line after calls on a window with three in line: who completes or ends leaves, and the others close up in order.
+/// Who stands in line after calls on a window with three in line: who completes or ends leaves, and the others close up
+/// in order.
 fn lines_left(tally: &mut Tally) {
     let lists: [(&[Call], &[u8]); 6] = [
         (&[Complete(2)], &[4, 3]),
@@ -317,16 +319,15 @@ fn lines_left(tally: &mut Tally) {
 
 fn main() {
     let (seed, calls) = (random::seed(), random::setting("WINDOW_TEST_CALLS", 300_000) as usize);
-    let tries =
-        [
-            tries::calls_to_try(),
-            tries::errors(),
-            readings::readings(),
-            tied::tied(),
-            full_tables::full_tables(),
-            lines::lines(),
-        ]
-        .concat();
+    let tries = [
+        tries::calls_to_try(),
+        tries::errors(),
+        readings::readings(),
+        tied::tied(),
+        full_tables::full_tables(),
+        lines::lines(),
+    ]
+    .concat();
     tries.iter().for_each(follow);
     println!("{} lists by hand", tries.len());
     picture();

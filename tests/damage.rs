@@ -56,7 +56,8 @@ fn main() {
     damaged("waiting", &windows::waiting(), &bits);
     permits_needed("contested", &windows::contested(), 4);
     permits_needed("crowded", &windows::crowded(), 19);
-    for w in [windows::full(), windows::all_locks(), windows::all_permits(), windows::all_ties(), windows::all_lines()] {
+    use windows::{all_lines, all_locks, all_permits, all_ties, full};
+    for w in [full(), all_locks(), all_permits(), all_ties(), all_lines()] {
         let m = model::bytes(&w);
         assert!(model::sound(&m) && verdict(&m));
     }

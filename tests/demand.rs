@@ -1,5 +1,5 @@
-//! Demand 3's words, read off the calls made (docs/RULES.md, "Lists of calls"), those of the lines ("What the lines are held
-//! to"), and a few more that can be read off them.
+//! Demand 3's words, read off the calls made (docs/RULES.md, "Lists of calls"), those of the lines ("What the lines are
+//! held to"), and a few more that can be read off them.
 use crate::model::Window;
 use crate::perform::{Call, Reply, EVERY_ENTRY};
 use std::collections::{BTreeMap, BTreeSet};

@@ -111,7 +111,8 @@ fn zero(m: &[u8], from: usize, to: usize) -> bool {
 fn figures(m: &[u8]) -> Option<[usize; 6]> {
     let figures = [0, 2, 4, 6, 8, 10].map(|at| get16(m, at));
     let [entries, given, records, permits, ties, waiters] = figures;
-    if entries < 1 || entries > 256 || given > 255 || records > 2_048 || permits > 1_024 || ties > 512 || waiters > 255 {
+    let fit = given <= 255 && records <= 2_048 && permits <= 1_024 && ties <= 512 && waiters <= 255;
+    if entries < 1 || entries > 256 || !fit {
         return None;
     }
     let zero = |from: usize, to: usize| zero(m, from, to);

@@ -369,7 +369,8 @@ fn abort(w: &mut Window, c: u8) -> Reply {
     (0, end(w, &set, 5))
 }
 
-/// An ended change loses its locks, log records, ties, permits given and received, and its place in line. How many ended.
+/// An ended change loses its locks, log records, ties, permits given and received, and its place in line. How many
+/// ended.
 fn end(w: &mut Window, set: &BTreeSet<u8>, status: u8) -> u32 {
     for c in set {
         w.changes[*c as usize - 1].0 = status;

@@ -94,7 +94,8 @@ pub fn all_lines() -> Window {
     w
 }
 
-/// Full tables (but for five ties, and nobody in line), as ordinary use would fill them: one writer and a few readers of each entry.
+/// Full tables (but for five ties, and nobody in line), as ordinary use would fill them: one writer and a few readers of
+/// each entry.
 pub fn full() -> Window {
     let mut w = with_changes(256, 255);
     for e in 0..=255u8 {
