@@ -19,7 +19,8 @@ use Rattle.rules.proofs.LineLaws.{waiter-on, distinct-places, distinct-apart}
 use Rattle.rules.proofs.TurnLaws.{none-yet, turn-failed, turn-passed}
 use Rattle.layout.specs.Codec.{noWaiter, waiterBytes, lineByte, lineSection, changeSection}
 use Rattle.layout.specs.Records.{waiterAt}
-use Rattle.layout.proofs.RecordLaws.{placed, place-at, places-again, places-rest, first-byte, waiter-again}
+use Rattle.layout.proofs.ReadLaws.{waiter-read}
+use Rattle.layout.proofs.RecordLaws.{placed, place-at, places-again, places-rest, first-byte}
 use Rattle.layout.proofs.SectionLaws.{Bytes, length-table, getD-table0}
 use Rattle.cells.proofs.ZeroLaws.{zeros-at, zeros-all, Tested}
 use Rattle.words.specs.Members.{wordsHave}
@@ -118,8 +119,7 @@ module _ (bs : List ℕ) (b : Bytes bs) (size : length bs ≡ 1024) (n entries :
     byte-at j k h l = ap (λ x. getD x (j * 4 + k) 0) (s .bytes) ∙ place-at 4 waiterBytes noWaiter 256 (s .line) j k h l
 
     read-at : (j : ℕ) → j < 256 → waiterAt bs j ≡ getD (s .line) j noWaiter
-    unfolding waiterAt
-    read-at j h = waiter-again (λ i. getD bs i 0) (getD (s .line) j noWaiter) j (λ k l. byte-at j k h l)
+    read-at j h = ap (λ x. waiterAt x j) (s .bytes) ∙ waiter-read (s .line) j h
 
     change-at : (j : ℕ) → j < 256 → getD bs (j * 4) 0 ≡ getD (s .line) j noWaiter .change
     unfolding waiterAt
