@@ -1,6 +1,9 @@
-// Whom a permit lets stand beside a writer: whether its operations contain the mode in which one holds.
+// The test for a clash: who is in the way of a change, by who has permitted; and whether a permit's operations contain a mode.
+use sets::ChangeSet;
 ghost use mathlib.Core.Path.{_≡_};
-ghost use Rattle.rules.specs.Locks.{contains};
+ghost use Rattle.rules.specs.Base.{lowestOrZero};
+ghost use Rattle.rules.specs.Locks.{contains, blocking};
+ghost use Rattle.sets.specs.Members.{members};
 ghost use Rattle.beside.specs.Beside.{containsHeld};
 
 // Whether operations contain a mode.
@@ -15,4 +18,15 @@ pub fn contains_held(operations: u8, reads: bool, writes: bool) -> bool
     ensures { λ r. ⌜ r ≡ containsHeld operations reads writes ⌝ }
 {
     (reads & contains(operations, 1)) | (writes & contains(operations, 2))
+}
+
+// The lowest of those whose locks clash with a change's that is another and has not permitted; 0 where there is none.
+pub fn blocker(clashing: ChangeSet, permitting: ChangeSet, change: u8) -> u32
+    ensures { λ r. ⌜ r ≡ lowestOrZero 256 (blocking (members clashing) (members permitting) change) ⌝ }
+{
+    let left = clashing.minus(permitting).without(change);
+    if left.is_empty() {
+        return 0;
+    }
+    left.lowest()
 }

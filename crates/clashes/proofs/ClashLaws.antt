@@ -1,29 +1,30 @@
 -- What the code finds of an entry is what the rules say of its clashing pairs. Assumes nothing.
 use mathlib.Core.Path.{_≡_, refl, sym, _∙_, ap, ap₂, fun-ext}
 use mathlib.Core.Logic.{_≢_}
-use mathlib.Core.Bool.{Bool, true, false, not, _&&_, _||_, or-false, or-comm}
+use mathlib.Core.Bool.{Bool, true, false, not, _&&_, _||_, and-false, or-false, or-comm, false≢true}
 use mathlib.Core.List.{List}
 use Prim.Native.Nat.{ℕ, suc, _+_, _-_, _*_, _≤_, _<_}
 use native.Mathlib.Decide.{decLt}
 use native.Mathlib.Omega.{arith}
 use lib.Dec.{ltb, eqb}
 use lib.ListN.{length, getD, take, drop}
-use borrow.Author.Tests.{eqb-true, ne-eqb, eqb-false, not-true, lt-ltb, ltb-true, leb-true, leb-false}
-use Rattle.rules.specs.Base.{allBelow, anyBelow, any, rising}
+use borrow.Author.Tests.{eqb-true, eq-eqb, ne-eqb, eqb-false, not-true, not-false, lt-ltb, ltb-true, leb-true, leb-false}
+use Rattle.rules.specs.Base.{allBelow, anyBelow, lowestOrZero, any, rising}
 use Rattle.rules.specs.Sets.{Set}
 use Rattle.rules.specs.Window.{PermitRecord, Window, permitKey}
-use Rattle.rules.specs.Locks.{clash, contains, permitted, pairPermitted, clashesPermitted}
-use Rattle.rules.proofs.BaseLaws.{both-ways, and-both, and-left, and-right, any-intro, any-elim, allBelow-intro, allBelow-at, Below, under, over, below, Same, same, other, same?, eqb-same}
+use Rattle.rules.specs.Locks.{clash, contains, permitted, blocking, clashesPermitted}
+use Rattle.rules.proofs.BaseLaws.{both-ways, none-below, anyBelow-none, and-both, and-left, and-right, any-intro, any-elim, allBelow-intro, allBelow-at, Below, under, over, below, Same, same, other, same?, eqb-same}
 use Rattle.rules.proofs.ListLaws.{any-at, any-place}
 use Rattle.layout.specs.Codec.{noPermit, lockSection, permitSection}
 use Rattle.layout.specs.Records.{permitAt}
 use Rattle.layout.proofs.CodecLaws.{each-mode}
 use Rattle.layout.proofs.ReadLaws.{permit-read}
-use Rattle.rules.proofs.BoundLaws.{any-or, all-ext}
+use Rattle.rules.proofs.BoundLaws.{any-or, all-ext, lowest-zero, zero-lowest}
+use Rattle.rules.proofs.PairLaws.{blocking-parts, pairPermitted, by-pairs}
 use Rattle.locks.specs.Held.{Modes, inMode, holding}
 use Rattle.locks.proofs.RowLaws.{row-holders}
 use Rattle.beside.specs.Permits.{anyOf, FirstOf}
-use Rattle.beside.specs.Beside.{containsHeld, beside, otherHolder, othersFit, entryFits}
+use Rattle.beside.specs.Beside.{containsHeld, beside, holder, otherHolder, standsBeside, writerBlocker, entryFits}
 use Rattle.beside.proofs.PlaceLaws.{any-same}
 use Rattle.clashes.specs.LocksAndPermits.{LocksAndPermits}
 use Rattle.clashes.specs.Permits.{permitFrom, fromEntry}
@@ -112,8 +113,8 @@ module _ (ps : List PermitRecord) (bs : List ℕ) (section : bs ≡ permitSectio
 
 -- permits that say the same
 entry-same : (n : ℕ) (t t′ : ℕ → PermitRecord) (r x : Set) → ((j : ℕ) → j < n → t j ≡ t′ j) → entryFits n t r x ≡ entryFits n t′ r x
-unfolding entryFits othersFit
-entry-same n t t′ r x h = all-ext _ _ 256 (λ a ha. ap (λ w. not (x a) || w) (all-ext _ _ 256 (λ b hb. ap (λ w. not (otherHolder r x a b) || w) (any-same n t t′ _ _ (λ j l. ap (beside r x a b) (h j l))))))
+unfolding entryFits writerBlocker standsBeside
+entry-same n t t′ r x h = all-ext _ _ 256 (λ a ha. ap (λ s. not (x a) || eqb (lowestOrZero 256 (blocking (holder r x) s a)) 0) (fun-ext (λ b. any-same n t t′ (beside r x a b) (beside r x a b) (λ j l. ap (beside r x a b) (h j l)))))
 
 -- what the code finds of an entry in the part of the bytes that has its permits: r′ and x′ are its readers and writers in code
 pub entry-found : (bs : List ℕ) (from to : ℕ) {r x r′ x′ : Set} {found : Bool} → ((k : ℕ) → r′ k ≡ r k) → ((k : ℕ) → x′ k ≡ x k)
@@ -126,8 +127,21 @@ unfoldable pub entryPermitted : Window → ℕ → Bool
 entryPermitted W e = allBelow (suc W.given) (λ a. allBelow (suc W.given) (λ b. pairPermitted W e a b))
 
 pub by-entries : (W : Window) → clashesPermitted W ≡ allBelow W.entries (entryPermitted W)
-unfolding clashesPermitted entryPermitted
-by-entries W = refl
+unfolding entryPermitted
+by-entries = by-pairs
+
+-- nobody is in the way of a writer where permits let every other holder stand beside it, and back where change 0 holds nothing
+module _ (n : ℕ) (t : ℕ → PermitRecord) (r x : Set) (a : ℕ) where
+  others-fit : ((b : ℕ) → b < 256 → otherHolder r x a b ≡ true → standsBeside n t r x a b ≡ true) → eqb (writerBlocker n t r x a) 0 ≡ true
+  unfolding writerBlocker otherHolder
+  others-fit f = eq-eqb _ 0 (zero-lowest 256 (blocking (holder r x) (standsBeside n t r x a) a) (none-below 256 (blocking (holder r x) (standsBeside n t r x a) a) (λ b h q.
+      let p = blocking-parts (holder r x) (standsBeside n t r x a) a b q in
+      false≢true (sym (p .2) ∙ f b h (rw (ne-eqb b a (p .0)) (p .1))))))
+
+  fit-others : holder r x 0 ≡ false → eqb (writerBlocker n t r x a) 0 ≡ true → (b : ℕ) → b < 256 → otherHolder r x a b ≡ true → standsBeside n t r x a b ≡ true
+  unfolding writerBlocker otherHolder blocking
+  fit-others z f b h o = not-false _ (rw o at (anyBelow-none 256 (blocking (holder r x) (standsBeside n t r x a) a)
+      (lowest-zero 256 (blocking (holder r x) (standsBeside n t r x a) a) (rw (z, and-false (not (eqb 0 a)))) (eqb-true _ 0 f)) b h))
 
 -- two modes that clash: one is write, and the other is held
 pair-cases : (m k : ℕ) (u v : Bool) → (m ≡ 2 → 0 < k → u || v ≡ true) → (k ≡ 2 → 0 < m → u || v ≡ true) → not (clash m k) || u || v ≡ true
@@ -160,7 +174,7 @@ unless-not : (o f : Bool) → (o ≡ true → f ≡ true) → not o || f ≡ tru
 unless-not true f h = h refl
 unless-not false f h = refl
 
-module _ (W : Window) (modes : Modes W.held) (given : W.given < 256) (none-above : (e c : ℕ) → W.given < c → W .held e c ≡ 0) (e : ℕ) where
+module _ (W : Window) (modes : Modes W.held) (given : W.given < 256) (none-above : (e c : ℕ) → W.given < c → W .held e c ≡ 0) (nobody : (e : ℕ) → W .held e 0 ≡ 0) (e : ℕ) where
   abbrev row : ℕ → ℕ
   row = W .held e
 
@@ -176,13 +190,16 @@ module _ (W : Window) (modes : Modes W.held) (given : W.given < 256) (none-above
   unfolding inMode
   mode-set m c h = rw (lt-ltb c 256 h)
 
-  holder : (c : ℕ) → c < 256 → inMode 1 row c || inMode 2 row c ≡ ltb 0 (row c)
-  unfolding holding
-  holder c h = row-holders row row-most c ∙ rw (lt-ltb c 256 h)
+  holds : (c : ℕ) → c < 256 → holder (inMode 1 row) (inMode 2 row) c ≡ ltb 0 (row c)
+  unfolding holding holder
+  holds c h = row-holders row row-most c ∙ rw (lt-ltb c 256 h)
+
+  no-holder : holder (inMode 1 row) (inMode 2 row) 0 ≡ false
+  no-holder = holds 0 (omega arith) ∙ rw (nobody e)
 
   other-holder : (a b : ℕ) → b < 256 → b ≢ a → 0 < row b → otherHolder (inMode 1 row) (inMode 2 row) a b ≡ true
   unfolding otherHolder
-  other-holder a b hb n h = rw (ne-eqb b a n, holder b hb, lt-ltb 0 (row b) h)
+  other-holder a b hb n h = rw (ne-eqb b a n, holds b hb, lt-ltb 0 (row b) h)
 
   -- an entry whose writers have permits with all other holders
   pairs-permitted : ((a b : ℕ) → a < 256 → b < 256 → inMode 2 row a ≡ true → otherHolder (inMode 1 row) (inMode 2 row) a b ≡ true → 0 < row b → Between a b ≡ true) → entryPermitted W e ≡ true
@@ -226,24 +243,24 @@ module _ (W : Window) (modes : Modes W.held) (given : W.given < 256) (none-above
         → anyOf n t (beside (inMode 1 row) (inMode 2 row) a b) ≡ true
     unfolding otherHolder
     found-beside f a b ha hb xa o =
-        let h : 0 < row b = ltb-true 0 (row b) (sym (holder b hb) ∙ and-right (not (eqb b a)) _ o) in
+        let h : 0 < row b = ltb-true 0 (row b) (sym (holds b hb) ∙ and-right (not (eqb b a)) _ o) in
         beside-between a b hb h ∙ between f a b (eqb-false b a (not-true (eqb b a) (and-left (not (eqb b a)) _ o))) (eqb-true (row a) 2 (sym (mode-set 2 a ha) ∙ xa)) h
 
     entry-permitted : entryFits n t (inMode 1 row) (inMode 2 row) ≡ entryPermitted W e
-    unfolding entryFits othersFit
+    unfolding entryFits standsBeside
     entry-permitted = both-ways _ _
-        (λ f. pairs-permitted (λ a b ha hb xa o h. sym (beside-between a b hb h) ∙ unless _ _ o (allBelow-at 256 _ (unless _ _ xa (allBelow-at 256 _ f a ha)) b hb)))
-        (λ f. allBelow-intro 256 _ (λ a ha. unless-not (inMode 2 row a) _ (λ xa. allBelow-intro 256 _ (λ b hb. unless-not (otherHolder (inMode 1 row) (inMode 2 row) a b) _ (found-beside f a b ha hb xa)))))
+        (λ f. pairs-permitted (λ a b ha hb xa o h. sym (beside-between a b hb h) ∙ fit-others n t (inMode 1 row) (inMode 2 row) a no-holder (unless _ _ xa (allBelow-at 256 _ f a ha)) b hb o))
+        (λ f. allBelow-intro 256 _ (λ a ha. unless-not (inMode 2 row a) _ (λ xa. others-fit n t (inMode 1 row) (inMode 2 row) a (λ b hb. found-beside f a b ha hb xa))))
 
 -- A TURN OF THE WALK OVER THE ENTRIES
 module _ (locks permits : List ℕ) (entries count : ℕ) (W : Window) (h : LocksAndPermits locks permits entries count W) (e : ℕ) (r : Bool) where
   -- an entry that is passed over
   pub turn-quiet : ((held : ℕ → ℕ → ℕ) → locks ≡ lockSection held → r ≡ contested (inMode 1 (held e)) (inMode 2 (held e))) → r ≡ false → entryPermitted W e ≡ true
-  turn-quiet found q = quiet-permitted W (h .modes) (h .given) (h .none-above) e (sym (found (W .held) (h .lock-bytes)) ∙ q)
+  turn-quiet found q = quiet-permitted W (h .modes) (h .given) (h .none-above) (h .nobody) e (sym (found (W .held) (h .lock-bytes)) ∙ q)
 
   -- an entry that is looked at, with its permits
   pub turn-found : (next from to : ℕ) → count ≤ 1024 → ((j : ℕ) → j < next → permitAt permits j .entry < e) → FirstOf (fromEntry e) permits count next from → FirstOf (fromEntry (e + 1)) permits count from to
       → ((held : ℕ → ℕ → ℕ) → locks ≡ lockSection held → r ≡ entryFits (to - from) (permitFrom permits from) (inMode 1 (held e)) (inMode 2 (held e))) → r ≡ entryPermitted W e
   turn-found next from to most lower first last found = found (W .held) (h .lock-bytes)
-      ∙ entry-permitted W (h .modes) (h .given) (h .none-above) e (to - from) (permitFrom permits from)
+      ∙ entry-permitted W (h .modes) (h .given) (h .none-above) (h .nobody) e (to - from) (permitFrom permits from)
       (own-permitted W.permits permits (h .permit-bytes) (rw (h .permit-count) most) (h .in-order) e next from to lower (rw (h .permit-count) first) (rw (h .permit-count) last))

@@ -19,7 +19,7 @@ use Rattle.sets.proofs.Bytes.{loaded-full}
 use Rattle.rules.proofs.BoundLaws.{any-ext, lowest-hit}
 use Rattle.locks.specs.Held.{inMode}
 use Rattle.locks.proofs.SectionLaws.{row-loaded}
-use Rattle.beside.specs.Beside.{otherHolder}
+use Rattle.beside.specs.Beside.{holder, otherHolder}
 use Rattle.clashes.specs.Contested.{contested}
 
 -- A SET'S BYTES
@@ -55,7 +55,7 @@ module _ (r x : Set) where
 
   -- there is a reader, who is no writer
   pub contested-reader : ((k : ℕ) → r k ≡ true → x k ≡ true → ⊥) → anyBelow 256 x ≡ true → anyBelow 256 r ≡ true → true ≡ contested r x
-  unfolding contested otherHolder
+  unfolding contested otherHolder holder
   contested-reader apart ex er =
       let (a, ha, xa) = any-elim 256 x ex in
       let (b, hb, rb) = any-elim 256 r er in
@@ -63,7 +63,7 @@ module _ (r x : Set) where
 
   -- there is no reader: a writer besides one of them
   contested-at : (a : ℕ) → a < 256 → x a ≡ true → anyBelow 256 r ≡ false → anyBelow 256 (λ k. not (eqb k a) && x k) ≡ contested r x
-  unfolding contested otherHolder
+  unfolding contested otherHolder holder
   contested-at a ha e none = both-ways _ _
       (λ f. let (b, hb, o) = any-elim 256 _ f in
       any-intro 256 _ a ha (and-both (x a) _ e (any-intro 256 _ b hb (rw (anyBelow-none 256 r none b hb) o))))

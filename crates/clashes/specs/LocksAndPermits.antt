@@ -21,7 +21,8 @@ pub record LocksAndPermits (locks permits : List ℕ) (entries count : ℕ) (W :
   pub modes : Modes W.held
   -- "255 changes in a window's life"
   pub given : W.given < 256
-  -- no change above the highest given has a lock
+  -- no change above the highest given has a lock, nor has change 0, which is nobody
   pub none-above : (e c : ℕ) → W.given < c → W .held e c ≡ 0
+  pub nobody : (e : ℕ) → W .held e 0 ≡ 0
   -- "Kept in rising order of entry, giver, taker"
   pub in-order : rising permitKey W.permits ≡ true

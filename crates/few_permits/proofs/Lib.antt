@@ -1,2 +1,2 @@
 -- What is proved of an entry with few permits.
-pub mod StrikeLaws
+pub mod NoteLaws

@@ -11,7 +11,7 @@ use Rattle.rules.specs.Sets.{Set}
 use Rattle.rules.specs.Window.{limits, Window, live}
 use Rattle.rules.specs.Sound.{heldSound}
 use Rattle.rules.specs.Effects.{handOver}
-use Rattle.rules.proofs.SoundParts.{Sound, held-most, held-no-change}
+use Rattle.rules.proofs.SoundParts.{Sound, held-most, held-no-change, held-nobody}
 use Rattle.rules.proofs.SoundDelegate.{hand-held, hand-order}
 use Rattle.layout.specs.Codec.{locksAt, locksSize, permitsSize, windowSize, decode}
 use Rattle.layout.specs.Memory.{soundBytes}
@@ -55,5 +55,6 @@ module _ (W : Window) (from to : ℕ) (on : Set) (k : Sound limits W) (lives : l
     modes = held-most (handOver W from to on) handed-helds;
     given = omega (arith, given-most W k);
     none-above = held-no-change (handOver W from to on) handed-helds;
+    nobody = held-nobody (handOver W from to on) handed-helds (k .statuses 0);
     in-order = hand-order from to on W.permits (k .permit-order);
   }

@@ -1,4 +1,5 @@
 // What a lock does when it is not refused, on the bytes of a sound window: it is covered, granted, or blocked and put in line. The numbers of a lock that is not refused fit a byte.
+use beside::blocker;
 use effects::leave_line;
 use layout::Entries;
 use layout::Header;
@@ -15,18 +16,18 @@ ghost use mathlib.Core.Bool.{true};
 ghost use lib.ListN.{length};
 ghost use Rattle.rules.specs.Window.{limits};
 ghost use Rattle.rules.specs.Calls.{Lock};
-ghost use Rattle.rules.specs.Effects.{effect, wait, grantable as isGrantable, lockGranted};
+ghost use Rattle.rules.specs.Effects.{effect, wait, lockBlocker, inTheWay};
 ghost use Rattle.rules.specs.Refusals.{checks, firstFailed};
 ghost use Rattle.layout.specs.Codec.{windowSize, decode, encode};
 ghost use Rattle.layout.specs.Memory.{soundBytes};
 ghost use Rattle.replies.specs.Gives.{Gives, written};
 
-// Whether each other holder whose lock clashes with the mode has a permit for the change that contains the mode.
-fn grantable(w: &[u8], change: u32, entry: u32, mode: u32) -> bool
+// The lowest other holder whose lock clashes with the mode and that has no permit for the change that contains the mode; 0 where there is none.
+fn lock_blocker(w: &[u8], change: u32, entry: u32, mode: u32) -> u32
     requires { ⌜ length (now w) ≡ windowSize ⌝ }
     requires { ⌜ soundBytes (now w) ≡ true ⌝ }
     requires { ⌜ firstFailed (checks limits (decode (now w)) (Lock change entry mode)) ≡ 0 ⌝ }
-    ensures { λ r. ⌜ r ≡ isGrantable (decode (now (w .entry))) change entry mode ⌝ }
+    ensures { λ r. ⌜ r ≡ lockBlocker (decode (now (w .entry))) change entry mode ⌝ }
 {
     let count = reads::permits(w);
     let c = change as u8;
@@ -34,18 +35,25 @@ fn grantable(w: &[u8], change: u32, entry: u32, mode: u32) -> bool
     let m = mode as u8;
     let clashing = locks::clashing(&w[Locks::AT..Permits::AT], e, m);
     let givers = permits::givers(&w[Permits::AT..Ties::AT], count, c, e, m);
-    clashing.without(c).minus(givers).is_empty()
+    blocker(clashing, givers, c)
 }
 
-// Whether that is so, and no other change is first in the entry's line.
-fn granted(w: &[u8], change: u32, entry: u32, mode: u32) -> bool
+// Who is in the way of a lock: that holder or, where there is none, the other change that is first in the entry's line; 0 where nobody is.
+fn in_the_way(w: &[u8], change: u32, entry: u32, mode: u32) -> u32
     requires { ⌜ length (now w) ≡ windowSize ⌝ }
     requires { ⌜ soundBytes (now w) ≡ true ⌝ }
     requires { ⌜ firstFailed (checks limits (decode (now w)) (Lock change entry mode)) ≡ 0 ⌝ }
-    ensures { λ r. ⌜ r ≡ lockGranted (decode (now (w .entry))) change entry mode ⌝ }
+    ensures { λ r. ⌜ r ≡ inTheWay (decode (now (w .entry))) change entry mode ⌝ }
 {
+    let holder = lock_blocker(w, change, entry, mode);
+    if holder != 0 {
+        return holder;
+    }
     let first = reads::first_in_line(w, entry) as u32;
-    grantable(w, change, entry, mode) & ((first == 0) | (first == change))
+    if first == change {
+        return 0;
+    }
+    first
 }
 
 // The change is put at the end of the entry's line with its mode, or keeps its place there and takes the newer mode.
@@ -77,9 +85,10 @@ pub fn lock(w: &mut [u8], change: u32, entry: u32, mode: u32) -> Reply
         leave_line(w, change);
         return done(0);
     }
-    if !granted(w, change, entry, mode) {
+    let number = in_the_way(w, change, entry, mode);
+    if number != 0 {
         enter_line(w, change, entry, mode);
-        return blocked(0);
+        return blocked(number);
     }
     leave_line(w, change);
     locks::grant(

@@ -1,20 +1,21 @@
 -- Whom the permits of an entry let stand beside a writer: those to anybody and those that name the two. Assumes nothing.
 use mathlib.Core.Path.{_≡_, refl, sym, _∙_, ap, ap₂}
-use mathlib.Core.Bool.{Bool, true, false, not, _&&_, _||_, and-false, or-false, or-assoc, or-comm, or-true, and-or-distrib-right, false≢true}
+use mathlib.Core.Bool.{Bool, true, false, not, _&&_, _||_, and-true, and-false, or-false, or-assoc, or-comm, or-true, and-or-distrib-right, false≢true}
 use Prim.Native.Nat.{ℕ}
 use lib.Dec.{eqb}
 use borrow.Author.Tests.{not-true}
-use Rattle.rules.specs.Base.{anyBelow}
+use Rattle.rules.specs.Base.{anyBelow, lowestOrZero}
 use Rattle.rules.specs.Sets.{Set}
 use Rattle.rules.specs.Window.{PermitRecord}
-use Rattle.rules.specs.Locks.{contains, makePermit}
-use Rattle.rules.proofs.BaseLaws.{Same, same, other, same?, allBelow-intro, anyBelow-none}
-use Rattle.rules.proofs.BoundLaws.{all-ext, any-or, any-and, none-as}
+use Rattle.rules.specs.Locks.{contains, makePermit, blocking}
+use Rattle.rules.proofs.BaseLaws.{none-below, Same, same, other, same?, anyBelow-none}
+use Rattle.rules.proofs.BoundLaws.{all-ext, any-or, any-and, zero-lowest}
+use Rattle.rules.proofs.PairLaws.{blocking-parts}
 use Rattle.beside.specs.Permits.{anyOf}
-use Rattle.beside.specs.Beside.{containsHeld, beside, otherHolder, othersFit, entryFits}
+use Rattle.beside.specs.Beside.{containsHeld, beside, holder, otherHolder, standsBeside, writerBlocker, entryFits}
 use Rattle.beside.proofs.PlaceLaws.{any-same}
-use Rattle.beside.proofs.WriterLaws.{left-over}
-use Rattle.many_permits.specs.Named.{involves, permitsAnybody, names, unserved, writerFits, writersFit}
+use Rattle.beside.proofs.BlockerLaws.{lowest-same}
+use Rattle.many_permits.specs.Named.{involves, permitsAnybody, names, unserved, isNamed, blockerLeft, writersFit}
 
 -- whom a permit g, t, o names beside the writer a
 pub named-added : (r x : Set) (a k g t e o : ℕ) (s sv write : Bool) → sv ≡ containsHeld o (r t) (x t) → write ≡ contains o 2
@@ -86,25 +87,34 @@ module _ (r x : Set) (a b : ℕ) where
 -- the others without those whom permits to anybody serve; g and h: the writer a gives one that contains read, one that contains write
 pub left-unserved : (r x u v : Set) (a k : ℕ) (g h reading served holders others left : Bool) → g ≡ u a → h ≡ v a → reading ≡ v k || r k && g → served ≡ reading || x k && h
     → holders ≡ r k || x k → others ≡ not (eqb k a) && holders → left ≡ others && not served → left ≡ unserved r x u v a k
-unfolding unserved otherHolder
+unfolding unserved otherHolder holder
 left-unserved r x u v a k g h reading served holders others left eg eh er es ea eo el = el ∙ rw (eo, ea, es, er, eg, eh)
 
--- one writer: `left` are those whom no permit to anybody serves, `rest` those of them whom none that names them serves either
-module _ (n : ℕ) (t : ℕ → PermitRecord) (r x u v : Set) (a : ℕ) (left : Set) (known : (k : ℕ) → left k ≡ unserved r x u v a k) (none : Bool) where
-  pub none-left : none ≡ not (anyBelow 256 left) → none ≡ true → true ≡ writerFits n t r x u v a
-  unfolding writerFits
-  none-left e f = sym (allBelow-intro 256 (λ b. not (unserved r x u v a b && not (anyOf n t (names r x a b)))) (λ b h. rw (sym (known b) ∙ anyBelow-none 256 left (not-true (anyBelow 256 left) (sym e ∙ f)) b h)))
+-- one writer: `left` are those whom no permit to anybody serves
+module _ (n : ℕ) (t : ℕ → PermitRecord) (r x u v : Set) (a : ℕ) (left : Set) (known : (k : ℕ) → left k ≡ unserved r x u v a k) where
+  -- there are none
+  pub none-left : (none : Bool) → none ≡ not (anyBelow 256 left) → none ≡ true → 0 ≡ blockerLeft n t r x u v a
+  unfolding blockerLeft
+  none-left none e f = sym (zero-lowest 256 (blocking (unserved r x u v a) (isNamed n t r x a) a) (none-below 256 (blocking (unserved r x u v a) (isNamed n t r x a) a)
+      (λ b h q. false≢true (sym (anyBelow-none 256 left (not-true _ (sym e ∙ f)) b h) ∙ known b ∙ blocking-parts (unserved r x u v a) (isNamed n t r x a) a b q .1))))
 
-  pub none-rest : (found rest : Set) → ((k : ℕ) → found k ≡ anyOf n t (names r x a k)) → ((k : ℕ) → rest k ≡ left k && not (found k)) → none ≡ not (anyBelow 256 rest) → none ≡ writerFits n t r x u v a
-  unfolding writerFits
-  none-rest found rest named minus e = e ∙ none-as 256 rest (λ b. not (unserved r x u v a b && not (anyOf n t (names r x a b)))) (λ b h. rw (minus b, known b, named b))
+  -- the lowest of those that are not named either
+  pub lowest-unnamed : (named : Set) → ((k : ℕ) → named k ≡ anyOf n t (names r x a k)) → (found : ℕ) → found ≡ lowestOrZero 256 (blocking left named a) → found ≡ blockerLeft n t r x u v a
+  unfolding blockerLeft
+  lowest-unnamed named h found e = e ∙ lowest-same (blocking left named a) (blocking (unserved r x u v a) (isNamed n t r x a) a) (λ k. unfold blocking isNamed in rw (known k, h k))
 
 -- the writers looked at with the permits to anybody set apart, and at once
 pub writers-entry : (n : ℕ) (t : ℕ → PermitRecord) (r x u v : Set) → ((k : ℕ) → u k ≡ anyOf n t (permitsAnybody 1 k)) → ((k : ℕ) → v k ≡ anyOf n t (permitsAnybody 2 k))
     → (found : Bool) → found ≡ writersFit n t r x u v → found ≡ entryFits n t r x
-unfolding writersFit entryFits writerFits othersFit unserved
-writers-entry n t r x u v hu hv found e = e ∙ all-ext _ _ 256 (λ a ha. ap (λ w. not (x a) || w) (all-ext _ _ 256 (λ b hb.
-    cell (otherHolder r x a b) (v b || r b && u a || x b && v a) (anyOf n t (names r x a b)) ∙ rw (hu a, hv a, hv b) (ap (λ w. not (otherHolder r x a b) || w) (sym (split-any r x a b n t))))))
+unfolding writersFit entryFits
+writers-entry n t r x u v hu hv found e = e ∙ all-ext _ _ 256 (λ a ha. ap (λ w. not (x a) || eqb w 0) (at a))
   where
-    cell : (o w m : Bool) → not (o && not w && not m) ≡ not o || (w || m)
-    cell o w m = left-over (o && not w) m ∙ ap (λ u. u || m) (left-over o w) ∙ or-assoc (not o) w m
+    cell : (o h w m : Bool) → not o && (not o && h && not w) && not m ≡ not o && h && not (w || m)
+    cell true h w m = refl
+    cell false h true m = rw (and-false h)
+    cell false h false m = rw (and-true h)
+
+    at : (a : ℕ) → blockerLeft n t r x u v a ≡ writerBlocker n t r x a
+    at a = unfold blockerLeft writerBlocker in lowest-same (blocking (unserved r x u v a) (isNamed n t r x a) a) (blocking (holder r x) (standsBeside n t r x a) a) (λ b.
+        unfold blocking unserved otherHolder isNamed standsBeside in rw (split-any r x a b n t, hu a, hv a, hv b)
+        (cell (eqb b a) (holder r x b) (anyOf n t (permitsAnybody 2 b) || r b && anyOf n t (permitsAnybody 1 a) || x b && anyOf n t (permitsAnybody 2 a)) (anyOf n t (names r x a b))))

@@ -3,10 +3,10 @@
 use mathlib.Core.Bool.{Bool, not, _&&_, _||_}
 use Prim.Native.Nat.{ℕ}
 use lib.Dec.{eqb}
-use Rattle.rules.specs.Base.{allBelow}
+use Rattle.rules.specs.Base.{allBelow, lowestOrZero}
 use Rattle.rules.specs.Sets.{Set}
 use Rattle.rules.specs.Window.{PermitRecord}
-use Rattle.rules.specs.Locks.{contains}
+use Rattle.rules.specs.Locks.{contains, blocking}
 use Rattle.beside.specs.Permits.{anyOf}
 use Rattle.beside.specs.Beside.{containsHeld, otherHolder}
 
@@ -28,10 +28,14 @@ names r x a b p = eqb p.giver a && (eqb p.taker b && containsHeld p.ops (r b) (x
 unfoldable pub unserved : Set → Set → Set → Set → ℕ → Set
 unserved r x u v a b = otherHolder r x a b && not (v b || r b && u a || x b && v a)
 
--- each of those has a permit that names the two
-unfoldable pub writerFits : ℕ → (ℕ → PermitRecord) → Set → Set → Set → Set → ℕ → Bool
-writerFits n t r x u v a = allBelow 256 (λ b. not (unserved r x u v a b && not (anyOf n t (names r x a b))))
+-- one of the permits names b and the writer a
+unfoldable pub isNamed : ℕ → (ℕ → PermitRecord) → Set → Set → ℕ → Set
+isNamed n t r x a b = anyOf n t (names r x a b)
 
--- so of every writer
+-- the lowest of those whom neither lets stand beside it; 0 where there is none
+unfoldable pub blockerLeft : ℕ → (ℕ → PermitRecord) → Set → Set → Set → Set → ℕ → ℕ
+blockerLeft n t r x u v a = lowestOrZero 256 (blocking (unserved r x u v a) (isNamed n t r x a) a)
+
+-- nobody is in the way of a writer
 unfoldable pub writersFit : ℕ → (ℕ → PermitRecord) → Set → Set → Set → Set → Bool
-writersFit n t r x u v = allBelow 256 (λ a. not (x a) || writerFits n t r x u v a)
+writersFit n t r x u v = allBelow 256 (λ a. not (x a) || eqb (blockerLeft n t r x u v a) 0)

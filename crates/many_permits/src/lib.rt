@@ -1,4 +1,5 @@
 // An entry with many permits: those to anybody by sets, and those that name a writer past blocks without its number.
+use beside::blocker;
 use beside::contains;
 use beside::contains_held;
 use layout::Permits;
@@ -13,7 +14,7 @@ ghost use Rattle.cells.specs.Part.{byteIs};
 ghost use Rattle.sets.specs.Members.{members};
 ghost use Rattle.beside.specs.Permits.{anyOf, NoneBefore, FirstOf};
 ghost use Rattle.beside.specs.Beside.{entryFits};
-ghost use Rattle.many_permits.specs.Named.{involves, permitsAnybody, names, unserved, writerFits, writersFit};
+ghost use Rattle.many_permits.specs.Named.{involves, permitsAnybody, names, unserved, blockerLeft, writersFit};
 
 // The permits that are passed over at once. An entry with fewer has each looked at.
 pub const BLOCK: usize = 16;
@@ -156,8 +157,8 @@ fn unserved(
     readers.unite(writers).without(writer).minus(served)
 }
 
-// Whether every other holder has a permit from or to a writer.
-fn writer_permitted(
+// The lowest other holder that has no permit from or to a writer; 0 where there is none.
+fn writer_blocker(
     permits: &[u8],
     count: usize,
     readers: ChangeSet,
@@ -165,19 +166,19 @@ fn writer_permitted(
     reading: ChangeSet,
     writing: ChangeSet,
     writer: u8,
-) -> bool
+) -> u32
     requires { ⌜ 4 * count ≤ length (now permits) ⌝ }
-    ensures { λ r. ⌜ r ≡ writerFits count (permitAt (now (permits .entry))) (members readers) (members writers) (members reading) (members writing) writer ⌝ }
+    ensures { λ r. ⌜ r ≡ blockerLeft count (permitAt (now (permits .entry))) (members readers) (members writers) (members reading) (members writing) writer ⌝ }
 {
     let left = unserved(readers, writers, reading, writing, writer);
     if left.is_empty() {
-        return true;
+        return 0;
     }
-    left.minus(named(permits, count, readers, writers, writer))
-        .is_empty()
+    let named = named(permits, count, readers, writers, writer);
+    blocker(left, named, writer)
 }
 
-// Whether that is so of every writer.
+// Whether nobody is in the way of a writer.
 fn writers_permitted(
     permits: &[u8],
     count: usize,
@@ -193,7 +194,7 @@ fn writers_permitted(
     let mut writer = left.lowest();
     while writer < 256 {
         let c = writer as u8;
-        if !writer_permitted(permits, count, readers, writers, reading, writing, c) {
+        if writer_blocker(permits, count, readers, writers, reading, writing, c) != 0 {
             return false;
         }
         left = left.rest();

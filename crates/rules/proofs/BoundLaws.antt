@@ -1,11 +1,12 @@
 -- Of the numbers below a bound: whether one passes, all pass, how many, which is the lowest. What tests that agree have alike, and bounds past which none passes. Assumes nothing.
 use mathlib.Core.Path.{_≡_, refl, sym, ap, _∙_}
+use mathlib.Core.Logic.{_≢_}
 use mathlib.Core.Bool.{Bool, true, false, not, cond, _&&_, _||_, false≢true}
 use Prim.Native.Nat.{ℕ, zero, suc, _+_, _-_, _≤_, _<_}
 use native.Mathlib.Nat.{add-zero, add-suc, not-suc-le-zero}
 use native.Mathlib.Omega.{arith}
 use borrow.Author.Tests.{not-true}
-use Rattle.rules.specs.Base.{anyBelow, allBelow, countBelow, lowestBelow}
+use Rattle.rules.specs.Base.{anyBelow, allBelow, countBelow, lowestBelow, lowestOrZero}
 use Rattle.rules.proofs.BaseLaws.{or-swap, any-intro, any-elim, anyBelow-none, none-below, allBelow-intro, allBelow-at, both-ways, no-true, Within, count-same, Same, same, other, same?, Below, under, over, below}
 
 -- tests that agree below the bound
@@ -168,3 +169,35 @@ count-some (suc n) p h = go (p n) refl h (count-some n p)
     go : (b : Bool) → p n ≡ b → (cond b (suc (countBelow n p)) (countBelow n p) ≡ 0 → ⊥) → ((countBelow n p ≡ 0 → ⊥) → (j : ℕ) × (j < n) × (p j ≡ true)) → (j : ℕ) × (j < suc n) × (p j ≡ true)
     go true e f ih = (n, omega arith, e)
     go false e f ih = let w = ih f in (w .0, omega (arith, w .1), w .2)
+
+-- THE LOWEST, OR 0
+-- none passes, if 0 does not
+pub lowest-zero : (n : ℕ) (p : ℕ → Bool) → p 0 ≡ false → lowestOrZero n p ≡ 0 → anyBelow n p ≡ false
+unfolding lowestOrZero
+lowest-zero n p z = go (anyBelow n p) refl
+  where
+    go : (b : Bool) → anyBelow n p ≡ b → cond b (lowestBelow n p) 0 ≡ 0 → b ≡ false
+    go true h e = absurd (false≢true (sym z ∙ ap p (sym e) ∙ lowest-hit p n h .1))
+    go false h e = refl
+
+pub zero-lowest : (n : ℕ) (p : ℕ → Bool) → anyBelow n p ≡ false → lowestOrZero n p ≡ 0
+unfolding lowestOrZero
+zero-lowest n p e = rw e
+
+-- one that is not 0 passes, and none below it
+pub lowest-some : (n : ℕ) (p : ℕ → Bool) → lowestOrZero n p ≢ 0 → (p (lowestOrZero n p) ≡ true) × ((d : ℕ) → d < lowestOrZero n p → p d ≡ false)
+unfolding lowestOrZero
+lowest-some n p = go (anyBelow n p) refl
+  where
+    go : (b : Bool) → anyBelow n p ≡ b → cond b (lowestBelow n p) 0 ≢ 0 → (p (cond b (lowestBelow n p) 0) ≡ true) × ((d : ℕ) → d < cond b (lowestBelow n p) 0 → p d ≡ false)
+    go true h e = (lowest-hit p n h .1, lowest-below p n)
+    go false h e = absurd (e refl)
+
+-- tests that agree, and a bound past which none passes
+pub lowest-as : (p q : ℕ → Bool) (n m : ℕ) → n ≤ m → ((k : ℕ) → k < m → p k ≡ q k) → ((k : ℕ) → n ≤ k → k < m → q k ≡ false) → lowestOrZero m p ≡ lowestOrZero n q
+unfolding lowestOrZero
+lowest-as p q n m h f g = rw (any-ext p q m f, lowest-ext p q m f, any-bound q n m h g) (go (anyBelow n q) refl)
+  where
+    go : (b : Bool) → anyBelow n q ≡ b → cond b (lowestBelow m q) 0 ≡ cond b (lowestBelow n q) 0
+    go true e = lowest-bound q n m h e
+    go false e = refl

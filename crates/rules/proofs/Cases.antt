@@ -39,7 +39,7 @@ undone e c r p t = refl
 
 -- "1 holds write, 2 wants read: 20; after permit (1, 2, entry, 1): 0; write still 20"
 pub permit-to-read : Answered (two (Lock 1 0 2 ∷ Lock 2 0 1 ∷ Permit 1 2 0 1 ∷ Lock 2 0 1 ∷ Lock 2 0 2 ∷ []))
-    (begun ((0, 0) ∷ (20, 0) ∷ (0, 0) ∷ (0, 0) ∷ (20, 0) ∷ []))
+    (begun ((0, 0) ∷ (20, 1) ∷ (0, 0) ∷ (0, 0) ∷ (20, 1) ∷ []))
 unfolding rules
 permit-to-read e c r p t = refl
 
@@ -112,48 +112,67 @@ permit-twice e c r p t = refl
 -- THE LINES
 -- 2 came before 3: 3 is granted only after 2, though nobody holds the entry any longer
 pub in-order : Answered (two (Initiate 0 ∷ Begin 3 ∷ Lock 1 0 2 ∷ Lock 2 0 2 ∷ Lock 3 0 1 ∷ Abort 1 ∷ Lock 3 0 1 ∷ Lock 2 0 2 ∷ Lock 3 0 1 ∷ Abort 2 ∷ Lock 3 0 1 ∷ []))
-    (begun ((0, 3) ∷ (0, 0) ∷ (0, 0) ∷ (20, 0) ∷ (20, 0) ∷ (0, 1) ∷ (20, 0) ∷ (0, 0) ∷ (20, 0) ∷ (0, 1) ∷ (0, 0) ∷ []))
+    (begun ((0, 3) ∷ (0, 0) ∷ (0, 0) ∷ (20, 1) ∷ (20, 1) ∷ (0, 1) ∷ (20, 2) ∷ (0, 0) ∷ (20, 2) ∷ (0, 1) ∷ (0, 0) ∷ []))
 unfolding rules
 in-order e c r p t = refl
 
 -- who stands in a line gets 12 on other entries, also for what it holds; other calls are as before
 pub another-line : Answered (two (Lock 2 1 2 ∷ Lock 1 0 2 ∷ Lock 2 0 1 ∷ Lock 2 1 1 ∷ Write 2 1 5 ∷ Abort 1 ∷ Lock 2 1 1 ∷ Lock 2 0 1 ∷ Lock 2 1 1 ∷ []))
-    (begun ((0, 0) ∷ (0, 0) ∷ (20, 0) ∷ (12, 0) ∷ (0, 0) ∷ (0, 1) ∷ (12, 0) ∷ (0, 0) ∷ (0, 0) ∷ []))
+    (begun ((0, 0) ∷ (0, 0) ∷ (20, 1) ∷ (12, 0) ∷ (0, 0) ∷ (0, 1) ∷ (12, 0) ∷ (0, 0) ∷ (0, 0) ∷ []))
 unfolding rules
 another-line e c r p t = refl
 
 -- a reader in line to write leaves by asking to read, which is covered; its place is lost
 pub covered-leaves : Answered (two (Lock 1 0 1 ∷ Lock 2 0 1 ∷ Lock 1 0 2 ∷ Lock 2 0 2 ∷ Lock 1 0 1 ∷ Permit 1 2 0 2 ∷ Lock 2 0 2 ∷ []))
-    (begun ((0, 0) ∷ (0, 0) ∷ (20, 0) ∷ (20, 0) ∷ (0, 0) ∷ (0, 0) ∷ (0, 0) ∷ []))
+    (begun ((0, 0) ∷ (0, 0) ∷ (20, 2) ∷ (20, 1) ∷ (0, 0) ∷ (0, 0) ∷ (0, 0) ∷ []))
 unfolding rules
 covered-leaves e c r p t = refl
 
 -- "A change that stops running leaves its line": completed, and ended through another
 pub stopped : Answered (two (Initiate 0 ∷ Begin 3 ∷ Lock 3 0 2 ∷ Lock 1 0 2 ∷ Lock 2 0 1 ∷ Abort 3 ∷ Lock 2 0 1 ∷ Complete 1 ∷ Lock 2 0 1 ∷ []))
-    (begun ((0, 3) ∷ (0, 0) ∷ (0, 0) ∷ (20, 0) ∷ (20, 0) ∷ (0, 1) ∷ (20, 0) ∷ (0, 0) ∷ (0, 0) ∷ []))
+    (begun ((0, 3) ∷ (0, 0) ∷ (0, 0) ∷ (20, 3) ∷ (20, 3) ∷ (0, 1) ∷ (20, 1) ∷ (0, 0) ∷ (0, 0) ∷ []))
 unfolding rules
 stopped e c r p t = refl
 
 pub fallen-out : Answered (two (Initiate 0 ∷ Begin 3 ∷ Lock 3 0 2 ∷ Lock 1 0 2 ∷ Lock 2 0 1 ∷ Depend 2 3 1 ∷ Abort 3 ∷ Lock 2 0 1 ∷ []))
-    (begun ((0, 3) ∷ (0, 0) ∷ (0, 0) ∷ (20, 0) ∷ (20, 0) ∷ (0, 0) ∷ (0, 2) ∷ (0, 0) ∷ []))
+    (begun ((0, 3) ∷ (0, 0) ∷ (0, 0) ∷ (20, 3) ∷ (20, 3) ∷ (0, 0) ∷ (0, 2) ∷ (0, 0) ∷ []))
 unfolding rules
 fallen-out e c r p t = refl
 
 -- 3 waits on entry 1 and is not held back by 2, who waits on entry 0 since before
 pub own-lines : Answered (two (Initiate 0 ∷ Begin 3 ∷ Lock 1 0 2 ∷ Lock 1 1 2 ∷ Lock 2 0 2 ∷ Lock 3 1 2 ∷ Permit 1 3 1 2 ∷ Lock 3 1 2 ∷ []))
-    (begun ((0, 3) ∷ (0, 0) ∷ (0, 0) ∷ (0, 0) ∷ (20, 0) ∷ (20, 0) ∷ (0, 0) ∷ (0, 0) ∷ []))
+    (begun ((0, 3) ∷ (0, 0) ∷ (0, 0) ∷ (0, 0) ∷ (20, 1) ∷ (20, 1) ∷ (0, 0) ∷ (0, 0) ∷ []))
 unfolding rules
 own-lines e c r p t = refl
 
 -- "A repeated call keeps its place", whatever the newer mode; and in the line itself
 pub place-kept : Answered (two (Initiate 0 ∷ Begin 3 ∷ Lock 1 0 2 ∷ Lock 2 0 2 ∷ Lock 3 0 1 ∷ Lock 2 0 1 ∷ Abort 1 ∷ Lock 3 0 1 ∷ Lock 2 0 1 ∷ Lock 3 0 1 ∷ []))
-    (begun ((0, 3) ∷ (0, 0) ∷ (0, 0) ∷ (20, 0) ∷ (20, 0) ∷ (20, 0) ∷ (0, 1) ∷ (20, 0) ∷ (0, 0) ∷ (0, 0) ∷ []))
+    (begun ((0, 3) ∷ (0, 0) ∷ (0, 0) ∷ (20, 1) ∷ (20, 1) ∷ (20, 1) ∷ (0, 1) ∷ (20, 2) ∷ (0, 0) ∷ (0, 0) ∷ []))
 unfolding rules
 place-kept e c r p t = refl
 
 pub newer-mode : enterLine (makeWaiter 2 0 1) (makeWaiter 2 0 2 ∷ makeWaiter 3 0 2 ∷ []) ≡ makeWaiter 2 0 1 ∷ makeWaiter 3 0 2 ∷ []
 unfolding rules
 newer-mode = refl
+
+-- WHO IS IN THE WAY
+-- 3 wants to write where 1 and 2 read: the lowest of them that has not permitted. 1 wants to write too: 2, who reads, before 3, who is first in line; never 1 itself
+pub lowest-holder : Answered (two (Initiate 0 ∷ Begin 3 ∷ Lock 2 0 1 ∷ Lock 1 0 1 ∷ Lock 3 0 2 ∷ Permit 1 3 0 2 ∷ Lock 3 0 2 ∷ Lock 1 0 2 ∷ Permit 2 0 0 2 ∷ Lock 1 0 2 ∷ Lock 3 0 2 ∷ []))
+    (begun ((0, 3) ∷ (0, 0) ∷ (0, 0) ∷ (0, 0) ∷ (20, 1) ∷ (0, 0) ∷ (20, 2) ∷ (20, 2) ∷ (0, 0) ∷ (20, 3) ∷ (0, 0) ∷ []))
+unfolding rules
+lowest-holder e c r p t = refl
+
+-- a holder that has completed is named too
+pub completed-holder : Answered (two (Lock 1 0 2 ∷ Complete 1 ∷ Lock 2 0 1 ∷ []))
+    (begun ((0, 0) ∷ (0, 0) ∷ (20, 1) ∷ []))
+unfolding rules
+completed-holder e c r p t = refl
+
+-- "for delegate a permit either way between the two still counts and its refusal still has 0"
+pub either-way : Answered (two (Initiate 0 ∷ Lock 1 0 2 ∷ Permit 1 2 0 1 ∷ Lock 2 0 1 ∷ Delegate 2 3 0 ∷ Delegate 1 3 0 ∷ []))
+    (begun ((0, 3) ∷ (0, 0) ∷ (0, 0) ∷ (0, 0) ∷ (10, 0) ∷ (0, 0) ∷ []))
+unfolding rules
+either-way e c r p t = refl
 
 -- THE CHECKING ORDER
 -- tables so small that each can be full
@@ -175,7 +194,7 @@ tried =
     ∷ (Permit 3 3 2 4, 3, 0) ∷ (Permit 1 3 2 4, 3, 0) ∷ (Permit 1 1 2 4, 4, 0) ∷ (Permit 1 1 1 4, 5, 0) ∷ (Permit 1 1 1 0, 5, 0) ∷ (Permit 1 1 1 1, 6, 0)
     ∷ (Permit 1 2 1 1, 0, 0) ∷ (Permit 1 0 1 1, 11, 0) ∷ (Permit 1 2 1 2, 0, 0)
     ∷ (Begin 2, 0, 0) ∷ (Initiate 0, 0, 3) ∷ (Initiate 4, 3, 0) ∷ (Initiate 3, 7, 0) ∷ (Initiate 0, 11, 0)
-    ∷ (Begin 3, 0, 0) ∷ (Lock 2 1 1, 0, 0) ∷ (Lock 3 1 1, 20, 0) ∷ (Lock 3 2 3, 4, 0) ∷ (Lock 3 0 3, 5, 0) ∷ (Lock 3 0 1, 12, 0) ∷ (Lock 2 1 2, 20, 0) ∷ (Lock 2 1 1, 0, 0)
+    ∷ (Begin 3, 0, 0) ∷ (Lock 2 1 1, 0, 0) ∷ (Lock 3 1 1, 20, 1) ∷ (Lock 3 2 3, 4, 0) ∷ (Lock 3 0 3, 5, 0) ∷ (Lock 3 0 1, 12, 0) ∷ (Lock 2 1 2, 20, 3) ∷ (Lock 2 1 1, 0, 0)
     ∷ (Delegate 4 4 2, 3, 0) ∷ (Delegate 2 4 2, 3, 0) ∷ (Delegate 2 2 2, 4, 0) ∷ (Delegate 2 2 1, 6, 0) ∷ (Delegate 2 3 1, 10, 0) ∷ (Delegate 2 3 65535, 10, 0)
     ∷ (Depend 4 4 4, 3, 0) ∷ (Depend 4 1 4, 3, 0) ∷ (Depend 4 1 1, 5, 0) ∷ (Depend 0 1 1, 5, 0) ∷ (Depend 2 1 1, 6, 0)
     ∷ (Depend 2 1 2, 0, 0) ∷ (Depend 2 2 1, 9, 0) ∷ (Depend 2 1 3, 11, 0) ∷ (Depend 2 1 2, 0, 0)

@@ -2,23 +2,23 @@
 use mathlib.Core.Path.{_≡_, refl, sym, _∙_, ap, ap₂, fun-ext}
 use mathlib.Core.Logic.{⊎-elim, _≢_}
 use mathlib.Core.Bool.{Bool, true, false, not, cond, _||_, true≢false}
-use mathlib.Core.List.{List, [], _∷_}
 use Prim.Native.Nat.{ℕ}
 use lib.Dec.{ltb, eqb}
 use borrow.Author.Tests.{eqb-true, ne-eqb}
-use Rattle.rules.specs.Base.{all, keep}
+use Rattle.rules.specs.Base.{keep}
 use Rattle.rules.specs.Sets.{Set, putAll}
 use Rattle.rules.specs.Window.{Limits, PermitRecord, Window, withValue, withHeld, withLine, withPermits, withTies, isEnded, live, noChange}
-use Rattle.rules.specs.Locks.{clash, permitted, pairPermitted}
+use Rattle.rules.specs.Locks.{clash, permitted}
 use Rattle.rules.specs.Ties.{groupOf, endSet}
 use Rattle.rules.specs.Sound.{permitSound}
 use Rattle.rules.specs.Effects.{released, permitStays, permitsLeft, endAll, addChange, handOver}
 use Rattle.rules.specs.Events.{Action, isOpening}
 use Rattle.rules.specs.Lists.{Book, enter, strike}
-use Rattle.rules.proofs.BaseLaws.{or-cases, and-left, and-right}
+use Rattle.rules.proofs.BaseLaws.{or-cases, and-right}
 use Rattle.rules.proofs.DemandEnds.{how-ended, Ending, none, same-ending, commit-ending, abort-ending}
 use Rattle.rules.proofs.DemandMoves.{shownStatus, Calm, Move, opened, started, calm, locked, granted, handed, depended, committed, aborted, live-unended, live-not}
 use Rattle.rules.proofs.ListLaws.{keep-same, keep-whole}
+use Rattle.rules.proofs.PairLaws.{pairPermitted}
 use Rattle.rules.proofs.SoundParts.{Sound, permit-parts, held-zero}
 
 unfoldable pub bookOf : Window → Book

@@ -7,13 +7,13 @@ use native.Mathlib.Omega.{arith}
 use lib.Dec.{leb, ltb, eqb, eqb·suc-zero}
 use borrow.Author.Tests.{not-false, leb-true, leb-false}
 use Rattle.rules.specs.Base.{put, put2, anyBelow, outside}
-use Rattle.rules.specs.Window.{Limits, LogRecord, LineRecord, Window, fresh, withValue, withStatus, withHeld, withLog, withPermits, withTies, withLine, isEnded, isLive, noChange, live, running}
 use Rattle.rules.specs.Sets.{only}
+use Rattle.rules.specs.Window.{Limits, LogRecord, LineRecord, Window, fresh, withValue, withStatus, withHeld, withLog, withPermits, withTies, withLine, isEnded, isLive, noChange, live, running}
 use Rattle.rules.specs.Locks.{makePermit, addPermit}
 use Rattle.rules.specs.Ties.{makeTie, addTie, groupOf, endSet}
 use Rattle.rules.specs.Line.{lineLeft}
 use Rattle.rules.specs.Calls.{Call, Open, Initiate, Begin, Complete, Lock, Read, Write, Permit, Delegate, Depend, Commit, Abort, Status, Parent, Value, Outcome, done, unchanged, blocked}
-use Rattle.rules.specs.Effects.{effect, leave, completeChange, covers, lockGranted, wait, lockEntry, writeEntry, entriesNamed, handOver, commitChange, abortChange, addChange, putHeld, commitBlockers, commitGroup, abortAll, endAll}
+use Rattle.rules.specs.Effects.{effect, leave, completeChange, covers, lockGranted, inTheWay, wait, lockEntry, writeEntry, entriesNamed, handOver, commitChange, abortChange, addChange, putHeld, commitBlockers, commitGroup, abortAll, endAll}
 use Rattle.rules.specs.Refusals.{step, settle, checks, firstFailed, _if_}
 use Rattle.rules.specs.Events.{Action, opening, initiating, nothing, locking, permitting, delegating, tying, actionOf}
 use Rattle.rules.proofs.BaseLaws.{and-both, and-left, and-right, Same, same, other, same?}
@@ -141,7 +141,7 @@ module _ (L : Limits) (W : Window) (z : Sound L W) where
 
   lock-moves : (c e m : ℕ) → Moved W (locking c e m) (effect W (Lock c e m))
   unfolding effect lockEntry covers done blocked leave wait putHeld withHeld withLine put2
-  lock-moves c e m = go (leb m (W .held e c)) refl (lockGranted W c e m)
+  lock-moves c e m = go (inTheWay W c e m) (leb m (W .held e c)) refl (lockGranted W c e m)
     where
       keeps : leb m (W .held e c) ≡ true → (x d : ℕ) → W .held x d ≡ put2 (W .held) e c (max (W .held e c) m) x d
       keeps q x d = same-place (same? x e) (same? d c)
@@ -154,10 +154,10 @@ module _ (L : Limits) (W : Window) (z : Sound L W) where
       puts : leb m (W .held e c) ≡ false → (x d : ℕ) → put2 (W .held) e c m x d ≡ put2 (W .held) e c (max (W .held e c) m) x d
       puts q x d = let h : W .held e c < m = leb-false m (W .held e c) q in let r : max (W .held e c) m ≡ m = omega arith in rw r
 
-      go : (b : Bool) → leb m (W .held e c) ≡ b → (g : Bool) → Moved W (locking c e m) (cond b (done 0 (leave W c)) (cond g (done 0 (leave (putHeld W e c m) c)) (blocked 0 (wait W c e m))))
-      go true q g = locked c e m 0 (W .held) (lineLeft (only c) (W .line)) (keeps q)
-      go false q true = locked c e m 0 (put2 (W .held) e c m) (lineLeft (only c) (W .line)) (puts q)
-      go false q false = calm 0 _ (calm-line W _)
+      go : (i : ℕ) (b : Bool) → leb m (W .held e c) ≡ b → (g : Bool) → Moved W (locking c e m) (cond b (done 0 (leave W c)) (cond g (done 0 (leave (putHeld W e c m) c)) (blocked i (wait W c e m))))
+      go i true q g = locked c e m 0 (W .held) (lineLeft (only c) (W .line)) (keeps q)
+      go i false q true = locked c e m 0 (put2 (W .held) e c m) (lineLeft (only c) (W .line)) (puts q)
+      go i false q false = calm i _ (calm-line W _)
 
   commit-moves : (c : ℕ) → noChange W c ≡ false → Moved W nothing (effect W (Commit c))
   unfolding effect commitChange done unchanged commitGroup

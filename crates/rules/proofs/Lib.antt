@@ -4,7 +4,7 @@ pub mod Computing
 pub mod Cases
 pub mod SoundCases
 pub mod ListCases
--- tests, numbers below a bound, walks that ask a test of one number after the other and what one test decides, lists, orders, sets, ties, lines
+-- tests, numbers below a bound, walks that ask a test of one number after the other and what one test decides, lists, orders, sets, ties, lines and the order in them
 pub mod BaseLaws
 pub mod BoundLaws
 pub mod TurnLaws
@@ -13,12 +13,15 @@ pub mod SortLaws
 pub mod SetLaws
 pub mod TieLaws
 pub mod LineLaws
+pub mod LineOrder
 -- least closed sets and acyclic ties, by paths
 pub mod PathLaws
 pub mod SourceLaws
 -- a call turned back changes nothing, a blocked one its place in line at most; figures for any table size
 pub mod RuleLaws
 pub mod SizeLaws
+-- the clashing pairs of a window
+pub mod PairLaws
 -- every call keeps a window sound (SoundStep.step-sound), one file for each kind of effect
 pub mod SoundParts
 pub mod SoundPlain
@@ -29,8 +32,9 @@ pub mod SoundDelegate
 pub mod SoundDepend
 pub mod SoundEnd
 pub mod SoundStep
--- groups, the set that an abort ends and arrows, by paths; demand 2: when a lock is granted, when a change commits, what a withdrawal puts back, what a lock does to the lines
+-- groups, the set that an abort ends and arrows, by paths; demand 2: when a change commits, what a withdrawal puts back, when a lock is granted and whom a blocked one names, what a lock does to the lines
 pub mod Promises
+pub mod LockPromises
 pub mod LineWords
 -- demand 1: the first refusal that applies is the lowest (RefusalLaws), and which one a call gets, in words (RefusalWords.call-refused)
 pub mod TellLaws
@@ -50,7 +54,6 @@ pub mod Demand
 pub mod DemandGroups
 pub mod DemandAlike
 -- what the lines are held to, of the rules (WaitingKept.rules-queued): no later comer is granted first, and the first in line is served
-pub mod TurnOrder
 pub mod WaitingMoves
 pub mod WaitingLaws
 pub mod WaitingKept

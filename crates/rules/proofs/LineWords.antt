@@ -11,7 +11,7 @@ use Rattle.rules.specs.Sets.{only}
 use Rattle.rules.specs.Window.{Limits, LineRecord, Window, withHeld, withLine}
 use Rattle.rules.specs.Line.{makeWaiter, waitsElsewhere, enterLine, staysInLine, lineLeft}
 use Rattle.rules.specs.Calls.{Lock, done, blocked}
-use Rattle.rules.specs.Effects.{effect, leave, covers, putHeld, lockGranted, wait, lockEntry}
+use Rattle.rules.specs.Effects.{effect, leave, covers, putHeld, inTheWay, lockGranted, wait, lockEntry}
 use Rattle.rules.specs.Refusals.{checks, _if_, step}
 use Rattle.rules.specs.Events.{actionOf}
 use Rattle.rules.proofs.BaseLaws.{or-none, Same, same, other, same?}
@@ -53,7 +53,7 @@ module _ (L : Limits) (W : Window) (c e m : ℕ) where
   unfolding effect lockEntry done blocked leave putHeld withHeld withLine lineLeft staysInLine only
   done-leaves a = let u = done-unrefused L W (Lock c e m) a .1 in ap (λ o. o .after .line) u ∙ go (covers (W .held e c) m) (lockGranted W c e m) (ap (λ o. o .answer) (sym u) ∙ a)
     where
-      go : (b d : Bool) → let o = cond b (done 0 (leave W c)) (cond d (done 0 (leave (putHeld W e c m) c)) (blocked 0 (wait W c e m))) in o .answer ≡ 0 → o .after .line ≡ keep (λ r. not (eqb r.change c)) (W .line)
+      go : (b d : Bool) → let o = cond b (done 0 (leave W c)) (cond d (done 0 (leave (putHeld W e c m) c)) (blocked (inTheWay W c e m) (wait W c e m))) in o .answer ≡ 0 → o .after .line ≡ keep (λ r. not (eqb r.change c)) (W .line)
       go true d h = refl
       go false true h = refl
       go false false h = absurd (omega arith)

@@ -12,7 +12,7 @@ use Rattle.rules.specs.Sets.{Set, putAll}
 use Rattle.rules.specs.Window.{Limits, Window, withValue, noChange, live, isEnded}
 use Rattle.rules.specs.Ties.{isArrow, tied, groupOf, endSet}
 use Rattle.rules.specs.Calls.{Call, Open, Initiate, Begin, Complete, Lock, Read, Write, Permit, Delegate, Depend, Commit, Abort, Status, Parent, Value, Outcome, done, unchanged, blocked}
-use Rattle.rules.specs.Effects.{addChange, leave, covers, putHeld, lockGranted, wait, lockEntry, commitBlockers, commitGroup, commitChange, endAll, size, abortChange, abortAll, effect}
+use Rattle.rules.specs.Effects.{addChange, covers, inTheWay, lockGranted, lockEntry, commitBlockers, commitGroup, commitChange, endAll, size, abortChange, abortAll, effect}
 use Rattle.rules.specs.Refusals.{checks, firstFailed, _if_, settle, step}
 use Rattle.rules.proofs.BaseLaws.{or-left, put-same, put-other}
 use Rattle.rules.proofs.BoundLaws.{count-ext, count-bound, lowest-hit, lowest-below}
@@ -189,7 +189,6 @@ pub data Unsaid : Call → Type 0 where
   opens : (n : ℕ) → Unsaid (Open n)
   begins : (c : ℕ) → Unsaid (Begin c)
   completes : (c : ℕ) → Unsaid (Complete c)
-  locks : (c e m : ℕ) → Unsaid (Lock c e m)
   writes : (c e v : ℕ) → Unsaid (Write c e v)
   permits : (g t e o : ℕ) → Unsaid (Permit g t e o)
   delegates : (f t e : ℕ) → Unsaid (Delegate f t e)
@@ -200,18 +199,11 @@ unfolding settle unchanged
 settled-zero zero W o e = e
 settled-zero (suc a) W o e = refl
 
-lock-zero : (b d : Bool) (X Y Z : Window) → cond b (done 0 X) (cond d (done 0 Y) (blocked 0 Z)) .number ≡ 0
-unfolding done blocked
-lock-zero true d X Y Z = refl
-lock-zero false true X Y Z = refl
-lock-zero false false X Y Z = refl
-
 effect-zero : (W : Window) (x : Call) → Unsaid x → effect W x .number ≡ 0
-unfolding effect done lockEntry
+unfolding effect done
 effect-zero W _ (opens n) = refl
 effect-zero W _ (begins c) = refl
 effect-zero W _ (completes c) = refl
-effect-zero W _ (locks c e m) = lock-zero (covers (W .held e c) m) (lockGranted W c e m) (leave W c) (leave (putHeld W e c m) c) (wait W c e m)
 effect-zero W _ (writes c e v) = refl
 effect-zero W _ (permits g t e o) = refl
 effect-zero W _ (delegates f t e) = refl
@@ -220,3 +212,17 @@ effect-zero W _ (depends k l f) = refl
 pub unsaid-number : (L : Limits) (W : Window) (x : Call) → Unsaid x → step L W x .number ≡ 0
 unfolding step
 unsaid-number L W x u = settled-zero (firstFailed (checks L W x)) W (effect W x) (effect-zero W x u)
+
+-- and of a lock that is not blocked
+pub lock-zero : (L : Limits) (W : Window) (c e m : ℕ) → step L W (Lock c e m) .answer ≢ 20 → step L W (Lock c e m) .number ≡ 0
+unfolding step
+lock-zero L W c e m n = go (firstFailed (checks L W (Lock c e m))) n
+  where
+    passed : (b d : Bool) (k : ℕ) (X Y Z : Window) → let o = cond b (done 0 X) (cond d (done 0 Y) (blocked k Z)) in o .answer ≢ 20 → o .number ≡ 0
+    passed true d k X Y Z h = unfold done in refl
+    passed false true k X Y Z h = unfold done in refl
+    passed false false k X Y Z h = absurd (h (unfold blocked in refl))
+
+    go : (a : ℕ) → settle a W (effect W (Lock c e m)) .answer ≢ 20 → settle a W (effect W (Lock c e m)) .number ≡ 0
+    go zero h = unfold settle effect lockEntry in passed (covers (W .held e c) m) (lockGranted W c e m) (inTheWay W c e m) _ _ _ h
+    go (suc a) h = unfold settle unchanged in refl

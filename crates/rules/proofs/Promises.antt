@@ -1,29 +1,26 @@
 -- What the rules say of groups, of the set an abort ends and of arrows, by paths; that an existing tie is 0 again; and what demand 2 says of them:
--- when a lock is granted, when a change commits, what a withdrawal puts back. Assumes nothing.
+-- when a change commits, what a withdrawal puts back. Assumes nothing.
 use mathlib.Core.Path.{_≡_, refl, sym, _∙_, ap}
 use mathlib.Core.Logic.{_⊎_, inl, inr, ⊎-elim, _↔_, _≢_}
-use mathlib.Core.Bool.{Bool, true, false, not, cond, _&&_, false≢true, true≢false}
+use mathlib.Core.Bool.{Bool, true, false, not, cond, _&&_, true≢false}
 use mathlib.Core.List.{List, [], _∷_, List·Memᴰ}
 use Prim.Native.Nat.{ℕ, suc}
 use native.Mathlib.Omega.{arith}
 use lib.Dec.{eqb}
 use lib.ListN.{length}
-use borrow.Author.Tests.{not-true, not-false, eqb-false, eqb-true, eq-eqb}
+use borrow.Author.Tests.{not-true, not-false, eqb-false, eqb-true}
 use Rattle.rules.specs.Base.{put, exceeds, anyBelow, any}
 use Rattle.rules.specs.Sets.{Set, putAll}
 use Rattle.rules.specs.Window.{Limits, LogRecord, TieRecord, Window, tieKey, withValue, live, isEnded}
-use Rattle.rules.specs.Locks.{clash, permitted}
 use Rattle.rules.specs.Ties.{makeTie, addTie, acyclic, isArrow, tied, grouped, falling, groupOf, endSet}
-use Rattle.rules.specs.Line.{firstInLine, mayPass}
-use Rattle.rules.specs.Calls.{Lock, Commit, Abort, done, unchanged, blocked}
-use Rattle.rules.specs.Effects.{covers, lockBlockers, grantable, lockGranted, wait, lockEntry, commitBlockers, commitGroup, commitChange, undo, endAll, abortAll, abortChange, effect, leadsTo, leadersOf}
+use Rattle.rules.specs.Calls.{Commit, Abort, done, unchanged}
+use Rattle.rules.specs.Effects.{commitBlockers, commitGroup, commitChange, undo, endAll, abortAll, abortChange, effect, leadsTo, leadersOf}
 use Rattle.rules.specs.Refusals.{checks, firstFailed, _if_, settle, step}
-use Rattle.rules.proofs.BaseLaws.{or-left, or-right, or-cases, or-none, and-both, and-left, and-right, none-below, anyBelow-none}
+use Rattle.rules.proofs.BaseLaws.{or-right, or-cases, or-none, and-both, and-left, and-right, none-below, anyBelow-none}
 use Rattle.rules.proofs.DemandMoves.{live-status, not-ended}
 use Rattle.rules.proofs.ListLaws.{any-find, any-weaken}
 use Rattle.rules.proofs.PathLaws.{Way, reach-ways, Arrows, grouped-bounded, falling-bounded, acyclic-paths}
 use Rattle.rules.proofs.SortLaws.{insert-standing}
-use Rattle.rules.proofs.SoundLock.{grant}
 use Rattle.rules.proofs.SoundParts.{Sound, live-below, live-change, ends-below, ends-live}
 use Rattle.rules.proofs.SoundStep.{group-live}
 use Rattle.rules.proofs.TieLaws.{tied-ends, stands-tied}
@@ -62,47 +59,6 @@ zero-of false e = absurd (omega arith)
 of-zero : (b : Bool) → b ≡ true → zeroOr20 b ≡ 0
 unfolding zeroOr20
 of-zero b e = rw e
-
--- "a lock not already covered is granted exactly when every clashing holder permits it and no other change is first in line"
-module _ (L : Limits) (W : Window) (z : Sound L W) (c e m : ℕ) (passed : firstFailed (checks L W (Lock c e m)) ≡ 0) (short : covers (W .held e c) m ≡ false) where
-  lock-answer : step L W (Lock c e m) .answer ≡ zeroOr20 (lockGranted W c e m)
-  unfolding zeroOr20 step settle effect lockEntry done blocked
-  lock-answer = rw (passed, short) (go (lockGranted W c e m) _)
-    where
-      go : (b : Bool) (X : Window) → cond b (done 0 X) (blocked 0 (wait W c e m)) .answer ≡ zeroOr20 b
-      go true X = refl
-      go false X = refl
-
-  unblocked : ((d : ℕ) → d ≢ c → clash (W .held e d) m ≡ true → permitted W.permits d c e m ≡ true) → grantable W c e m ≡ true
-  unfolding grantable lockBlockers
-  unblocked f = ap not (none-below (suc W.given) (λ d. not (eqb d c) && clash (W .held e d) m && not (permitted W.permits d c e m)) (λ d h q. go d q))
-    where
-      go : (d : ℕ) → not (eqb d c) && clash (W .held e d) m && not (permitted W.permits d c e m) ≡ true → ⊥
-      go d q =
-          let u = and-left (not (eqb d c) && clash (W .held e d) m) _ q in
-          let p = f d (eqb-false d c (not-true _ (and-left (not (eqb d c)) _ u))) (and-right (not (eqb d c)) _ u) in
-          false≢true (rw p at (and-right (not (eqb d c) && clash (W .held e d) m) _ q))
-
-  -- nobody, or the change itself, is first in the entry's line
-  first-free : mayPass W.line c e ≡ true → (firstInLine W.line e ≡ 0) ⊎ (firstInLine W.line e ≡ c)
-  unfolding mayPass
-  first-free h = ⊎-elim (λ q. inl (eqb-true (firstInLine W.line e) 0 q)) (λ q. inr (eqb-true (firstInLine W.line e) c q)) (or-cases (eqb (firstInLine W.line e) 0) _ h)
-
-  free-first : (firstInLine W.line e ≡ 0) ⊎ (firstInLine W.line e ≡ c) → mayPass W.line c e ≡ true
-  unfolding mayPass
-  free-first (inl q) = or-left (eqb (firstInLine W.line e) 0) _ (eq-eqb (firstInLine W.line e) 0 q)
-  free-first (inr q) = or-right (eqb (firstInLine W.line e) 0) _ (eq-eqb (firstInLine W.line e) c q)
-
-  pub lock-granted : step L W (Lock c e m) .answer ≡ 0
-      ↔ ((d : ℕ) → d ≢ c → clash (W .held e d) m ≡ true → permitted W.permits d c e m ≡ true) × ((firstInLine W.line e ≡ 0) ⊎ (firstInLine W.line e ≡ c))
-  unfolding lockGranted
-  lock-granted = (
-    λ a. let g = zero-of (lockGranted W c e m) (sym lock-answer ∙ a) in (
-      λ d n h. ⊎-elim (λ q. absurd (false≢true (rw h at q))) (λ q. q) (grant L W z c e m (and-left (grantable W c e m) _ g) d n),
-      first-free (and-right (grantable W c e m) _ g),
-    ),
-    λ f. lock-answer ∙ of-zero (lockGranted W c e m) (and-both (grantable W c e m) _ (unblocked (f .0)) (free-first (f .1))),
-  )
 
 -- the leader of an arrow to a member blocks a commit
 pub leader-blocks : (W : Window) (g : Set) (d f : ℕ) → g f ≡ true → tied W.ties isArrow d f ≡ true → commitBlockers W g d ≡ true

@@ -10,7 +10,7 @@ use lib.ListN.{length}
 use borrow.Author.Tests.{not-true, not-false, eqb-true, eqb-false, eq-eqb, ne-eqb, ltb-true, lt-ltb}
 use Rattle.rules.specs.Base.{outside, all, insert}
 use Rattle.rules.specs.Window.{Limits, LineRecord, Window, tieKey, withTies, noChange, noEntry, live, running}
-use Rattle.rules.specs.Locks.{makePermit, addPermit, pairPermitted, clashesPermitted}
+use Rattle.rules.specs.Locks.{makePermit, addPermit, clashesPermitted}
 use Rattle.rules.specs.Ties.{makeTie, addTie, acyclic}
 use Rattle.rules.specs.Line.{waitsElsewhere}
 use Rattle.rules.specs.Sound.{tieSound}
@@ -19,6 +19,7 @@ use Rattle.rules.specs.Effects.{every, entriesNamed, handOver, effect, l
 use Rattle.rules.specs.Refusals.{firstFailed, _if_, checks, settle, step}
 use Rattle.rules.proofs.BaseLaws.{and-both, and-left, and-right, no-true, allBelow-fails}
 use Rattle.rules.proofs.ListLaws.{any-find, any-member}
+use Rattle.rules.proofs.PairLaws.{pairPermitted, by-pairs}
 use Rattle.rules.proofs.PathLaws.{Arrows, cyclic-paths}
 use Rattle.rules.proofs.SaidLaws.{NoRefusal, Turned, merge, merged, merged-first, proper, Said, said-next, said-none, AnswerOf, turned}
 use Rattle.rules.proofs.SortLaws.{all-insert}
@@ -168,9 +169,9 @@ module _ (L : Limits) (W : Window) (z : Sound L W) where
   -- 10 in words, where both changes are live
   tells-clash : (f t e : ℕ) → not (live W f && live W t) ≡ false
       → Tells (not (clashesPermitted (handOver W f t (entriesNamed e)))) ((x : ℕ) × (a : ℕ) × (b : ℕ) × (pairPermitted (handOver W f t (entriesNamed e)) x a b ≡ false))
-  unfolding handOver live clashesPermitted
+  unfolding handOver live
   tells-clash f t e l = let to = and-right (live W f) (live W t) (not-false _ l) in let X = handOver W f t (entriesNamed e) in (
-    λ h. let x = allBelow-fails W.entries _ (not-true _ h) in let a = allBelow-fails (suc W.given) _ (x .1) in let b = allBelow-fails (suc W.given) _ (a .1) in (x .0, a .0, b .0, b .1),
+    λ h. let x = allBelow-fails W.entries _ (sym (by-pairs X) ∙ not-true _ h) in let a = allBelow-fails (suc W.given) _ (x .1) in let b = allBelow-fails (suc W.given) _ (a .1) in (x .0, a .0, b .0, b .1),
     λ m. ap not (no-true _ (λ h. true≢false (sym (fits-all X (hand-held L W f t (entriesNamed e) z to) h (m .0) (m .1) (m .2)) ∙ m .3))),
   )
 

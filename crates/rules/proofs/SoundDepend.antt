@@ -10,10 +10,10 @@ use borrow.Author.Tests.{lt-ltb, ne-eqb, eqb-false}
 use Rattle.rules.specs.Base.{exceeds, outside}
 use Rattle.rules.specs.Sets.{Set}
 use Rattle.rules.specs.Window.{Limits, TieRecord, Window, tieKey, withTies, live, running}
-use Rattle.rules.specs.Locks.{pairPermitted}
 use Rattle.rules.specs.Ties.{acyclic, addTie, makeTie, isGroup}
 use Rattle.rules.specs.Sound.{tieSound}
 use Rattle.rules.proofs.BaseLaws.{Below, under, over as beyond, below, Same, same, other, same?}
+use Rattle.rules.proofs.PairLaws.{pairPermitted}
 use Rattle.rules.proofs.SortLaws.{all-insert, insert-rising}
 use Rattle.rules.proofs.SoundParts.{Sound}
 

@@ -8,13 +8,14 @@ use borrow.Author.Tests.{not-true, eqb-true}
 use Rattle.rules.specs.Base.{outside}
 use Rattle.rules.specs.Sets.{Set, putAll}
 use Rattle.rules.specs.Window.{Limits, LogRecord, PermitRecord, TieRecord, LineRecord, Window, permitKey, tieKey, withPermits, live, running, noChange}
-use Rattle.rules.specs.Locks.{pairPermitted, permitted, contains, clash}
+use Rattle.rules.specs.Locks.{permitted, contains, clash}
 use Rattle.rules.specs.Line.{staysInLine, lineLeft}
 use Rattle.rules.specs.Sound.{statusSound, heldSound, recordSound, permitSound, tieSound, waiterSound}
 use Rattle.rules.specs.Effects.{released, isUnowned, unowned, permitStays, permitsLeft, tieStays, tiesLeft, endAll}
 use Rattle.rules.proofs.BaseLaws.{or-cases, and-left, and-right, no-true, or-none}
 use Rattle.rules.proofs.LineLaws.{distinct-keep}
 use Rattle.rules.proofs.ListLaws.{all-keep, any-keep-up, fewer}
+use Rattle.rules.proofs.PairLaws.{pairPermitted}
 use Rattle.rules.proofs.PathLaws.{acyclic-keep}
 use Rattle.rules.proofs.SortLaws.{rising-keep}
 use Rattle.rules.proofs.SoundParts.{Sound, clash-left, clash-right, live-zero, live-change, fits-on, ends-below}

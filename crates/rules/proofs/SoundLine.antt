@@ -10,13 +10,13 @@ use borrow.Author.Tests.{not-true, eqb-true, eqb-false, lt-ltb}
 use Rattle.rules.specs.Base.{put, all, distinct, outside}
 use Rattle.rules.specs.Sets.{only}
 use Rattle.rules.specs.Window.{Limits, LineRecord, Window, withStatus, withLine, live, running, noChange}
-use Rattle.rules.specs.Locks.{pairPermitted}
 use Rattle.rules.specs.Line.{makeWaiter, lineLeft, staysInLine}
 use Rattle.rules.specs.Sound.{statusSound, waiterSound}
 use Rattle.rules.specs.Effects.{leave, wait}
 use Rattle.rules.proofs.BaseLaws.{and-both, or-none, over-false, within-of}
 use Rattle.rules.proofs.LineLaws.{waiter-parts, distinct-keep, distinct-most, enter-all, enter-distinct}
 use Rattle.rules.proofs.ListLaws.{all-member, all-keep, all-weaken}
+use Rattle.rules.proofs.PairLaws.{pairPermitted}
 use Rattle.rules.proofs.SoundParts.{Sound, numbered}
 
 module _ (L : Limits) (W : Window) (k : Sound L W) where

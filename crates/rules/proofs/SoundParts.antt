@@ -11,11 +11,12 @@ use borrow.Author.Tests.{eqb-true, leb-true, ltb-true, lt-ltb, le-ltb, ltb-false
 use Rattle.rules.specs.Base.{allBelow, all, rising, distinct, exceeds, outside}
 use Rattle.rules.specs.Sets.{Set}
 use Rattle.rules.specs.Window.{Limits, LogRecord, PermitRecord, TieRecord, Window, permitKey, tieKey, withPermits, isLive, live, running, noChange}
-use Rattle.rules.specs.Locks.{clash, clashesPermitted, permitted, pairPermitted}
+use Rattle.rules.specs.Locks.{clash, clashesPermitted, permitted}
 use Rattle.rules.specs.Ties.{isGroup, acyclic}
 use Rattle.rules.specs.Sound.{sound, parts, valueSound, statusSound, parentSound, heldSound, recordSound, permitSound, tieSound, waiterSound}
 use Rattle.rules.proofs.BaseLaws.{Below, under, over as beyond, below, and-left, and-right, and-both, or-left, or-right, or-cases, or-map, allBelow-at, allBelow-intro, within-of, or-none, and-four, and-five}
 use Rattle.rules.proofs.ListLaws.{all-weaken}
+use Rattle.rules.proofs.PairLaws.{pairPermitted, by-pairs}
 
 pub record Sound (L : Limits) (W : Window) : Type 0 where
   pub some : ltb 0 W.entries ≡ true
@@ -115,6 +116,11 @@ given-live W c h l = rw (lt-ltb c (suc (W .given)) (omega (arith, numbered W c h
 pub live-at : (W : Window) (c s : ℕ) → noChange W c ≡ false → eqb (W .status c) s ≡ true → isLive s ≡ true → live W c ≡ true
 live-at W c s h e l = given-live W c h (rw (eqb-true (W .status c) s e) l)
 
+-- change 0 is nobody
+nobody : (W : Window) → statusSound W.given W.status 0 ≡ true → live W 0 ≡ false
+unfolding live statusSound outside
+nobody W s = let h : W .status 0 ≡ 0 = eqb-true (W .status 0) 0 s in rw (h, and-false)
+
 -- a lock is 2 at most, and only who lives holds one, on an entry that there is
 module _ (W : Window) (helds : (e c : ℕ) → heldSound W.entries (live W) W.held e c ≡ true) where
   pub held-most : (e c : ℕ) → W .held e c ≤ 2
@@ -131,6 +137,9 @@ module _ (W : Window) (helds : (e c : ℕ) → heldSound W.entries (live W) W.he
   pub held-no-change : (e c : ℕ) → W .given < c → W .held e c ≡ 0
   held-no-change e c h = held-zero e c (λ q. let l = live-below W c (and-right (ltb e W.entries) (live W c) q) in omega arith)
 
+  pub held-nobody : statusSound W.given W.status 0 ≡ true → (e : ℕ) → W .held e 0 ≡ 0
+  held-nobody s e = held-zero e 0 (λ q. false≢true (sym (nobody W s) ∙ and-right (ltb e W.entries) (live W 0) q))
+
   -- a pair of which one holds nothing fits
   fits-left : (e a b : ℕ) → W .held e a ≡ 0 → pairPermitted W e a b ≡ true
   unfolding pairPermitted
@@ -141,14 +150,13 @@ module _ (W : Window) (helds : (e c : ℕ) → heldSound W.entries (live W) W.he
   fits-right e a b h = or-left _ _ (or-left _ _ (or-right (eqb a b) _ (rw (h, clash-right))))
 
   pub fits-all : clashesPermitted W ≡ true → (e a b : ℕ) → pairPermitted W e a b ≡ true
-  unfolding clashesPermitted
-  fits-all k e a b = go (below e (W .entries)) (below a (suc (W .given))) (below b (suc (W .given)))
+  fits-all f e a b = go (below e (W .entries)) (below a (suc (W .given))) (below b (suc (W .given)))
     where
       go : {x y z : Bool} → Below e (W .entries) x → Below a (suc (W .given)) y → Below b (suc (W .given)) z → pairPermitted W e a b ≡ true
       go (beyond h) p q = fits-left e a b (held-no-entry e a h)
       go (under h) (beyond p) q = fits-left e a b (held-no-change e a p)
       go (under h) (under p) (beyond q) = fits-right e a b (held-no-change e b q)
-      go (under h) (under p) (under q) = allBelow-at (suc (W .given)) _ (allBelow-at (suc (W .given)) _ (allBelow-at (W .entries) _ k e h) a p) b q
+      go (under h) (under p) (under q) = allBelow-at (suc (W .given)) _ (allBelow-at (suc (W .given)) _ (allBelow-at (W .entries) _ (sym (by-pairs W) ∙ f) e h) a p) b q
 
 -- a pair fits on where its permits stay
 pub fits-on : (W : Window) (ps : List PermitRecord) (e a b : ℕ) → (permitted W.permits a b e (W .held e b) ≡ true → permitted ps a b e (W .held e b) ≡ true)
@@ -157,8 +165,7 @@ unfolding pairPermitted withPermits
 fits-on W ps e a b f g = or-map (eqb a b || not (clash (W .held e a) (W .held e b)) || permitted W.permits a b e (W .held e b)) _ _ _ (or-map (eqb a b || not (clash (W .held e a) (W .held e b))) _ _ _ (λ z. z) f) g
 
 pub fit-locks : (W : Window) → ((e a b : ℕ) → pairPermitted W e a b ≡ true) → clashesPermitted W ≡ true
-unfolding clashesPermitted
-fit-locks W f = allBelow-intro (W .entries) _ (λ e h. allBelow-intro (suc (W .given)) _ (λ a p. allBelow-intro (suc (W .given)) _ (λ b q. f e a b)))
+fit-locks W f = by-pairs W ∙ allBelow-intro (W .entries) _ (λ e h. allBelow-intro (suc (W .given)) _ (λ a p. allBelow-intro (suc (W .given)) _ (λ b q. f e a b)))
 
 -- an entry that there is not has value 0
 pub no-value : (m : ℕ) (value : ℕ → ℕ) (e : ℕ) → valueSound m value e ≡ true → m ≤ e → value e ≡ 0
@@ -273,10 +280,8 @@ module _ (L : Limits) (W : Window) where
         held-change = λ e c h. held-no-change W (k .helds) e c (omega arith);
       }
 
-  -- change 0 is nobody
   pub live-zero : Sound L W → live W 0 ≡ false
-  unfolding live statusSound outside
-  live-zero k = let h : W .status 0 ≡ 0 = eqb-true (W .status 0) 0 (k .statuses 0) in rw (h, and-false)
+  live-zero k = nobody W (k .statuses 0)
 
   -- a change has one of the five statuses; one that has not ended lives
   pub status-range : Sound L W → (c : ℕ) → noChange W c ≡ false → (1 ≤ W .status c) × (W .status c ≤ 5)

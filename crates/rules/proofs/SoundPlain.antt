@@ -10,13 +10,14 @@ use borrow.Author.Tests.{eqb-true, ne-eqb, lt-ltb, le-ltb, ltb-true}
 use Rattle.rules.specs.Base.{put, exceeds, all, rising, distinct, outside}
 use Rattle.rules.specs.Sets.{Set}
 use Rattle.rules.specs.Window.{Limits, LogRecord, PermitRecord, TieRecord, Window, fresh, withValue, withStatus, withLog, live, running, noChange}
-use Rattle.rules.specs.Locks.{clash, pairPermitted}
+use Rattle.rules.specs.Locks.{clash}
 use Rattle.rules.specs.Ties.{acyclic}
 use Rattle.rules.specs.Sound.{valueSound, statusSound, parentSound, heldSound, recordSound, permitSound, tieSound, waiterSound}
 use Rattle.rules.specs.Effects.{undo, addChange}
 use Rattle.rules.proofs.BaseLaws.{both-ways, Same, same, other, same?, or-map, and-left, and-right, and-map}
 use Rattle.rules.proofs.LineLaws.{waiter-more}
 use Rattle.rules.proofs.ListLaws.{all-weaken, all-append, length-append-one}
+use Rattle.rules.proofs.PairLaws.{pairPermitted}
 use Rattle.rules.proofs.PathLaws.{acyclic-more}
 use Rattle.rules.proofs.SoundParts.{Sound, status-none, live-below, ends-below, record-parts, permit-parts, tie-parts}
 

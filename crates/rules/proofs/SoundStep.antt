@@ -10,10 +10,9 @@ use Rattle.rules.specs.Base.{put, exceeds, all, anyBelow, outside}
 use Rattle.rules.specs.Window.{Limits, Window, fresh, withValue, withStatus, withLine, live, running, noChange, noEntry}
 use Rattle.rules.specs.Locks.{makePermit}
 use Rattle.rules.specs.Ties.{grouped, falling, makeTie, groupOf, endSet}
-use Rattle.rules.specs.Line.{mayPass}
 use Rattle.rules.specs.Sound.{sound, recordSound, permitSound}
 use Rattle.rules.specs.Calls.{Call, Open, Initiate, Begin, Complete, Lock, Read, Write, Permit, Delegate, Depend, Commit, Abort, Status, Parent, Value, arguments, fits, Outcome, done, unchanged, blocked}
-use Rattle.rules.specs.Effects.{effect, leave, completeChange, covers, putHeld, lockGranted, lockEntry, writeEntry, entriesNamed, commitChange, abortChange, grantable, commitBlockers, commitGroup, abortAll, undo, addRecord}
+use Rattle.rules.specs.Effects.{effect, leave, completeChange, covers, putHeld, lockGranted, lockEntry, writeEntry, entriesNamed, commitChange, abortChange, commitBlockers, commitGroup, abortAll, undo, addRecord}
 use Rattle.rules.specs.Refusals.{Check, firstFailed, _if_, checks, step, settle}
 use Rattle.rules.proofs.BaseLaws.{and-left, and-right, or-none}
 use Rattle.rules.proofs.LineLaws.{waiter-more}
@@ -24,7 +23,7 @@ use Rattle.rules.proofs.SoundDelegate.{hand-sound}
 use Rattle.rules.proofs.SoundDepend.{make-sound, depend-sound}
 use Rattle.rules.proofs.SoundEnd.{end-sound}
 use Rattle.rules.proofs.SoundLine.{leave-sound, wait-sound, run-begin, complete-line}
-use Rattle.rules.proofs.SoundLock.{lock-sound}
+use Rattle.rules.proofs.SoundLock.{granted-free, lock-sound}
 use Rattle.rules.proofs.SoundParts.{Blank, Sound, sound-parts, parts-sound, sound-blank, value-most, inside-of, live-at, live-of, ends-live}
 use Rattle.rules.proofs.SoundPermit.{permit-sound}
 use Rattle.rules.proofs.SoundPlain.{fresh-sound, value-put, value-sound, undo-sound, log-sound, status-sound, start-sound}
@@ -82,9 +81,9 @@ module _ (L : Limits) (W : Window) (k : Sound L W) where
   completes c p = status-sound L (leave W c) c 3 (p .0) (ap (outside 1 3) (eqb-true (W .status c) 2 (not-false _ (p .1 .0)))) refl (complete-line L W c k) (leave-sound L W k c)
 
   locks : (c e m : ℕ) → Passed (checks L W (Lock c e m)) → Sound L (effect W (Lock c e m) .after)
-  unfolding checks _if_ effect lockEntry lockGranted covers done blocked running outside
-  locks c e m p = either L (leb m (W .held e c)) _ _ (λ h. leave-sound L W k c) (λ short. either L (grantable W c e m && mayPass W.line c e) _ _
-      (λ free. leave-sound L (putHeld W e c m) (lock-sound L W c e m k (le-leb m 2 (inside-of 1 2 m (p .1 .1 .0) .1)) (entry-of W e (p .1 .0)) (live-at W c 2 (p .0) (not-false _ (p .1 .1 .1 .0)) refl) short (and-left (grantable W c e m) _ free)) c)
+  unfolding checks _if_ effect lockEntry covers done blocked running outside
+  locks c e m p = either L (leb m (W .held e c)) _ _ (λ h. leave-sound L W k c) (λ short. either L (lockGranted W c e m) _ _
+      (λ free. leave-sound L (putHeld W e c m) (lock-sound L W c e m k (le-leb m 2 (inside-of 1 2 m (p .1 .1 .0) .1)) (entry-of W e (p .1 .0)) (live-at W c 2 (p .0) (not-false _ (p .1 .1 .1 .0)) refl) short (granted-free W c e m free)) c)
       (λ h. wait-sound L W k c e m (not-false _ (p .1 .1 .1 .0)) (entry-of W e (p .1 .0)) (p .1 .1 .0)))
 
   writes : (c e v : ℕ) → fits (Write c e v) ≡ true → Passed (checks L W (Write c e v)) → Sound L (effect W (Write c e v) .after)

@@ -21,12 +21,12 @@ use Rattle.rules.proofs.BaseLaws.{and-left, and-right, Same, same, othe
 use Rattle.rules.proofs.Demand.{Inv, call-inv, first-inv}
 use Rattle.rules.proofs.DemandBook.{bookOf}
 use Rattle.rules.proofs.DemandMoves.{shownStatus, status-shown}
-use Rattle.rules.proofs.Promises.{lock-granted}
+use Rattle.rules.proofs.LockPromises.{lock-granted}
 use Rattle.rules.proofs.RuleLaws.{is-open, done-unrefused}
 use Rattle.rules.proofs.SoundParts.{Sound}
 use Rattle.rules.proofs.SoundLine.{running-given, running-change, in-line}
 use Rattle.rules.proofs.SoundStep.{step-sound, opened-sound, opened-fresh}
-use Rattle.rules.proofs.TurnOrder.{first-before, stands-record, one-line}
+use Rattle.rules.proofs.LineOrder.{first-before, stands-record, one-line}
 use Rattle.rules.proofs.WaitingLaws.{since, Queue, since-some, queue-fresh, queue-next}
 use Rattle.rules.proofs.WaitingMoves.{shift}
 

@@ -22,7 +22,7 @@ use Rattle.rules.proofs.LineLaws.{enter-all}
 use Rattle.rules.proofs.ListLaws.{all-member, all-members, any-member, keep-member}
 use Rattle.rules.proofs.SoundLine.{in-line}
 use Rattle.rules.proofs.SoundParts.{Sound}
-use Rattle.rules.proofs.TurnOrder.{inOrder, order-keep, order-same, order-enter, standsIn, stands-record, record-stands, not-elsewhere, keep-stands, enter-self, enter-others}
+use Rattle.rules.proofs.LineOrder.{inOrder, order-keep, order-same, order-enter, standsIn, stands-record, record-stands, not-elsewhere, keep-stands, enter-self, enter-others}
 use Rattle.rules.proofs.WaitingMoves.{Shift, opens, goes, leaves, enters}
 
 -- since when the change of a record waits on its entry

@@ -13,7 +13,7 @@ use Rattle.rules.specs.Ties.{groupOf, endSet}
 use Rattle.rules.specs.Line.{makeWaiter, waitsElsewhere, enterLine, staysInLine, lineLeft}
 use Rattle.rules.specs.Sound.{waiterSound}
 use Rattle.rules.specs.Calls.{Call, Open, Initiate, Begin, Complete, Lock, Read, Write, Permit, Delegate, Depend, Commit, Abort, Status, Parent, Value, Outcome, done, unchanged, blocked}
-use Rattle.rules.specs.Effects.{effect, addChange, leave, completeChange, covers, lockGranted, wait, putHeld, lockEntry, writeEntry, handOver, endAll, commitChange, commitBlockers, commitGroup, abortChange, abortAll}
+use Rattle.rules.specs.Effects.{effect, addChange, leave, completeChange, covers, lockGranted, inTheWay, wait, putHeld, lockEntry, writeEntry, handOver, endAll, commitChange, commitBlockers, commitGroup, abortChange, abortAll}
 use Rattle.rules.specs.Refusals.{step, settle, checks, firstFailed, _if_}
 use Rattle.rules.specs.Events.{actionOf, isOpening, isLocking}
 use Rattle.rules.proofs.LineLaws.{waiter-parts}
@@ -76,12 +76,12 @@ module _ (L : Limits) (W : Window) (z : Sound L W) where
 
   lock-shifts : (c e m : ℕ) → Passed (checks L W (Lock c e m)) → Shifts W (Lock c e m) (effect W (Lock c e m))
   unfolding checks _if_ effect lockEntry done blocked leave wait putHeld withHeld withLine
-  lock-shifts c e m p = go (covers (W .held e c) m) (lockGranted W c e m)
+  lock-shifts c e m p = go (inTheWay W c e m) (covers (W .held e c) m) (lockGranted W c e m)
     where
-      go : (a b : Bool) → Shifts W (Lock c e m) (cond a (done 0 (leave W c)) (cond b (done 0 (leave (putHeld W e c m) c)) (blocked 0 (wait W c e m))))
-      go true b = leaves c e m refl refl (p .1 .1 .1 .1 .0) refl refl
-      go false true = leaves c e m refl refl (p .1 .1 .1 .1 .0) refl refl
-      go false false = enters c e m refl refl (p .1 .1 .1 .1 .0) (not-false _ (p .1 .1 .1 .0)) refl refl
+      go : (i : ℕ) (a b : Bool) → Shifts W (Lock c e m) (cond a (done 0 (leave W c)) (cond b (done 0 (leave (putHeld W e c m) c)) (blocked i (wait W c e m))))
+      go i true b = leaves c e m refl refl (p .1 .1 .1 .1 .0) refl refl
+      go i false true = leaves c e m refl refl (p .1 .1 .1 .1 .0) refl refl
+      go i false false = enters c e m refl refl (p .1 .1 .1 .1 .0) (not-false _ (p .1 .1 .1 .0)) refl refl
 
   commit-shifts : (c : ℕ) → Shifts W (Commit c) (effect W (Commit c))
   unfolding effect commitChange commitGroup done unchanged actionOf isLocking

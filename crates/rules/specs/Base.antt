@@ -40,6 +40,10 @@ unfoldable pub lowestBelow : ℕ → (ℕ → Bool) → ℕ
 lowestBelow zero p = zero
 lowestBelow (suc n) p = cond (anyBelow n p) (lowestBelow n p) (cond (p n) n (suc n))
 
+-- the same, with 0 where none does
+unfoldable pub lowestOrZero : ℕ → (ℕ → Bool) → ℕ
+lowestOrZero n p = cond (anyBelow n p) (lowestBelow n p) 0
+
 -- f i, f (i + 1), … : k of them
 unfoldable pub table {ℓ} : {A : Type ℓ} → ℕ → ℕ → (ℕ → A) → List A
 table zero i f = []

@@ -6,9 +6,9 @@ use lib.Dec.{leb, eqb}
 use Rattle.rules.specs.Base.{put, put2, anyBelow, countBelow, lowestBelow, any, keep}
 use Rattle.rules.specs.Sets.{Set, only, putAll}
 use Rattle.rules.specs.Window.{LogRecord, PermitRecord, TieRecord, Window, fresh, withValue, withStatus, withHeld, withLog, withPermits, withTies, withLine}
-use Rattle.rules.specs.Locks.{clash, permitted, makePermit, addPermit}
+use Rattle.rules.specs.Locks.{permitted, blockerOf, makePermit, addPermit}
 use Rattle.rules.specs.Ties.{isArrow, makeTie, addTie, groupOf, endSet}
-use Rattle.rules.specs.Line.{makeWaiter, mayPass, enterLine, lineLeft}
+use Rattle.rules.specs.Line.{makeWaiter, otherFirst, enterLine, lineLeft}
 use Rattle.rules.specs.Calls.{Call, Open, Initiate, Begin, Complete, Lock, Read, Write, Permit, Delegate, Depend, Commit, Abort, Status, Parent, Value, Outcome, done, unchanged, blocked}
 
 -- INITIATE
@@ -40,21 +40,22 @@ completeChange W c = withStatus (leave W c) (put W.status c 3)
 unfoldable pub covers : ℕ → ℕ → Bool
 covers held mode = leb mode held
 
--- the other holders that keep a lock from being granted: those whose lock clashes with the mode and that have no permit for it
-unfoldable pub lockBlockers : Window → ℕ → ℕ → ℕ → Set
-lockBlockers W c e m d = not (eqb d c) && clash (W .held e d) m && not (permitted W.permits d c e m)
-
--- "granted if each other holder whose lock clashes with the mode has a permit, to this change or to anybody, that contains the mode"
-unfoldable pub grantable : Window → ℕ → ℕ → ℕ → Bool
-grantable W c e m = not (anyBelow (suc W.given) (lockBlockers W c e m))
+-- "granted if each other holder whose lock clashes with the mode has a permit, to this change or to anybody, that contains the mode":
+-- the lowest holder that has none
+unfoldable pub lockBlocker : Window → ℕ → ℕ → ℕ → ℕ
+lockBlocker W c e m = blockerOf W (λ d. permitted W.permits d c e m) c e m
 
 -- a lock on an entry, in the place of the one held
 unfoldable pub putHeld : Window → ℕ → ℕ → ℕ → Window
 putHeld W e c m = withHeld W (put2 W.held e c m)
 
+-- who keeps a lock from being granted, 0 where nobody does: "A blocked lock reports it as second number; where there is none, it reports the first in line"
+unfoldable pub inTheWay : Window → ℕ → ℕ → ℕ → ℕ
+inTheWay W c e m = cond (eqb (lockBlocker W c e m) 0) (otherFirst W.line c e) (lockBlocker W c e m)
+
 -- "a lock not already covered is granted exactly when every clashing holder permits it and no other change is first in line"
 unfoldable pub lockGranted : Window → ℕ → ℕ → ℕ → Bool
-lockGranted W c e m = grantable W c e m && mayPass W.line c e
+lockGranted W c e m = eqb (inTheWay W c e m) 0
 
 -- "A lock call that would be blocked puts its change at the end of that entry's line, with its mode"
 unfoldable pub wait : Window → ℕ → ℕ → ℕ → Window
@@ -63,7 +64,7 @@ wait W c e m = withLine W (enterLine (makeWaiter c e m) W.line)
 -- "0 if a lock held already covers the mode. Otherwise granted if … Otherwise 20, and the change stands in line";
 -- "a grant leaves the line", and a mode already covered "takes the change out of that entry's line"
 unfoldable pub lockEntry : Window → ℕ → ℕ → ℕ → Outcome
-lockEntry W c e m = cond (covers (W .held e c) m) (done 0 (leave W c)) (cond (lockGranted W c e m) (done 0 (leave (putHeld W e c m) c)) (blocked 0 (wait W c e m)))
+lockEntry W c e m = cond (covers (W .held e c) m) (done 0 (leave W c)) (cond (lockGranted W c e m) (done 0 (leave (putHeld W e c m) c)) (blocked (inTheWay W c e m) (wait W c e m)))
 
 -- WRITE
 -- "adds a log record": at the end

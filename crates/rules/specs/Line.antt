@@ -1,5 +1,5 @@
 -- docs/RULES.md, "The lines". Assumes nothing.
-use mathlib.Core.Bool.{Bool, not, cond, _&&_, _||_}
+use mathlib.Core.Bool.{Bool, not, cond, _&&_}
 use mathlib.Core.List.{List, [], _∷_}
 use Prim.Native.Nat.{ℕ}
 use lib.Dec.{eqb}
@@ -20,9 +20,10 @@ unfoldable pub firstInLine : List LineRecord → ℕ → ℕ
 firstInLine [] e = 0
 firstInLine (r ∷ l) e = cond (eqb r.entry e) r.change (firstInLine l e)
 
--- "Only the first in line, or anyone when the line is empty, can be granted": "no other change is first in line"
-unfoldable pub mayPass : List LineRecord → ℕ → ℕ → Bool
-mayPass l c e = eqb (firstInLine l e) 0 || eqb (firstInLine l e) c
+-- the other change than c that is first in line; 0 where there is none.
+-- "Only the first in line, or anyone when the line is empty, can be granted"
+unfoldable pub otherFirst : List LineRecord → ℕ → ℕ → ℕ
+otherFirst l c e = cond (eqb (firstInLine l e) c) 0 (firstInLine l e)
 
 -- "puts its change at the end of that entry's line, with its mode"; "A repeated call keeps its place and takes the newer mode".
 -- Only a change that stands in no other entry's line enters one

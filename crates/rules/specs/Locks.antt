@@ -3,7 +3,8 @@ use mathlib.Core.Bool.{Bool, not, cond, _&&_, _||_}
 use mathlib.Core.List.{List}
 use Prim.Native.Nat.{ℕ, suc}
 use lib.Dec.{ltb, eqb}
-use Rattle.rules.specs.Base.{allBelow, any, insert}
+use Rattle.rules.specs.Base.{lowestOrZero, allBelow, any, insert}
+use Rattle.rules.specs.Sets.{Set}
 use Rattle.rules.specs.Window.{PermitRecord, Window, permitKey}
 
 -- "Two changes' locks on one entry clash when both are held and at least one is write" (lock modes conflict)
@@ -18,13 +19,26 @@ contains ops mode = eqb ops mode || eqb ops 3
 unfoldable pub permitted : List PermitRecord → ℕ → ℕ → ℕ → ℕ → Bool
 permitted ps giver taker entry mode = any (λ p. eqb p.giver giver && (eqb p.taker taker || eqb p.taker 0) && eqb p.entry entry && contains p.ops mode) ps
 
--- two changes on an entry: a "clashing pair has a permit from one of the two to the other, or to anybody, that contains the taker's held mode"
-unfoldable pub pairPermitted : Window → ℕ → ℕ → ℕ → Bool
-pairPermitted W e a b = eqb a b || not (clash (W .held e a) (W .held e b)) || permitted W.permits a b e (W .held e b) || permitted W.permits b a e (W .held e a)
+-- the holders of an entry whose locks clash with a mode
+unfoldable pub clashing : Window → ℕ → ℕ → Set
+clashing W e m d = clash (W .held e d) m
 
--- "each clashing pair", on every entry
+-- those of them that are in the way of c: the others that have not permitted
+unfoldable pub blocking : Set → Set → ℕ → Set
+blocking clashes permits c d = not (eqb d c) && clashes d && not (permits d)
+
+-- "The test for a clash gives the lowest numbered holder that clashes and has not permitted", 0 where there is none. Who has permitted is given:
+-- a lock and a delegate ask for different permits
+unfoldable pub blockerOf : Window → Set → ℕ → ℕ → ℕ → ℕ
+blockerOf W permits c e m = lowestOrZero (suc W.given) (blocking (clashing W e m) permits c)
+
+-- of two changes, "a permit from one of the two to the other, or to anybody, that contains the taker's held mode"
+unfoldable pub eitherPermits : Window → ℕ → ℕ → ℕ → Bool
+eitherPermits W e a b = permitted W.permits a b e (W .held e b) || permitted W.permits b a e (W .held e a)
+
+-- "each clashing pair", on every entry: nobody is in the way of a lock that is held (pair by pair in proofs/PairLaws)
 unfoldable pub clashesPermitted : Window → Bool
-clashesPermitted W = allBelow W.entries (λ e. allBelow (suc W.given) (λ a. allBelow (suc W.given) (λ b. pairPermitted W e a b)))
+clashesPermitted W = allBelow W.entries (λ e. allBelow (suc W.given) (λ c. eqb (blockerOf W (λ d. eitherPermits W e d c) c e (W .held e c)) 0))
 
 -- a permit as the call names it
 unfoldable pub makePermit : ℕ → ℕ → ℕ → ℕ → PermitRecord

@@ -12,7 +12,7 @@ use Rattle.rules.specs.Sound.{heldSound, tieSound}
 use Rattle.rules.specs.Locks.{clashesPermitted}
 use Rattle.rules.specs.Ties.{acyclic}
 use Rattle.rules.proofs.BaseLaws.{and-both, over-false, within-of}
-use Rattle.rules.proofs.SoundParts.{Sound, ends-below, held-most, held-no-change, fits-all, fit-locks}
+use Rattle.rules.proofs.SoundParts.{Sound, ends-below, held-most, held-no-change, held-nobody, fits-all, fit-locks}
 use Rattle.layout.specs.Codec.{headAt, headSize, changesAt, changesSize, windowSize, figures, headSection, lay, encode, decode}
 use Rattle.layout.specs.Memory.{soundBytes}
 use Rattle.layout.specs.Records.{endsBelow}
@@ -103,6 +103,7 @@ module _ (bs : List ℕ) (h : HeadSound (part bs headAt headSize)) (c : ChangesS
       modes = held-most gathered helds;
       given = omega (arith, h .given-most);
       none-above = held-no-change gathered helds;
+      nobody = held-nobody gathered helds (c .statuses 0);
       in-order = k .permits .order;
     };
     tie-bytes = k .ties .bytes;

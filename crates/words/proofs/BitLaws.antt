@@ -13,7 +13,7 @@ use lib.Seq.{getD-set-same, getD-set-other}
 use Rattle.rules.proofs.BaseLaws.{eqb-iff}
 use Rattle.layout.specs.Codec.{unpack}
 use Rattle.cells.proofs.Digits.{unpack-zero, unpack-one, unpack-or, unpack-and, unpack-not}
-use Rattle.words.specs.Members.{wordsHave, FourWords}
+use Rattle.words.specs.Members.{wordsHave}
 
 -- two lists of four words joined word by word: P of the two old digits
 pub words-joined : (f : ℕ → ℕ → ℕ) (P : Bool → Bool → Bool) → P false false ≡ false → (a b : List ℕ) → length a ≡ 4 → length b ≡ 4
@@ -73,10 +73,6 @@ remove-word ws c h = word-changed (λ p b. not p && b) (λ b. refl) ws c _ h (λ
     word-minus (getD ws (c / 64) 0) ((1 * 2 ^ (c % 64)) % 2 ^ 64) (omega arith) j l ∙ and-comm (unpack (getD ws (c / 64) 0) j) _
     ∙ ap (λ (t : Bool). not t && unpack (getD ws (c / 64) 0) j) (bit-here c (c / 64) j refl l))
 
--- `a & !b`
-abbrev and-not : ℕ → ℕ → ℕ
-and-not a b = bitAnd a (2 ^ 64 - 1 - b)
-
 -- word i joined with that of other words
 abbrev with-word : (ℕ → ℕ → ℕ) → List ℕ → ℕ → List ℕ → List ℕ
 with-word f os i ws = set ws i (f (getD ws i 0) (getD os i 0))
@@ -92,10 +88,10 @@ one-by-one f os (a ∷ b ∷ c ∷ []) e = absurd (omega arith)
 one-by-one f os (a ∷ b ∷ c ∷ d ∷ []) e = refl
 one-by-one f os (a ∷ b ∷ c ∷ d ∷ g ∷ ws) e = absurd (omega arith)
 
--- by `& !`: the words without the members of others
-pub remove-words : (ws os : List ℕ) → length ws ≡ 4 → FourWords os → (out : List ℕ)
-    → out ≡ with-word and-not os 3 (with-word and-not os 2 (with-word and-not os 1 (with-word and-not os 0 ws)))
-    → (length out ≡ 4) × ((k : ℕ) → wordsHave out k ≡ wordsHave ws k && not (wordsHave os k))
-remove-words ws os l w out e =
-    rw (e ∙ one-by-one and-not os ws l)
-    (refl, words-joined and-not (λ p q. p && not q) refl ws os l (w .four) (λ i j h. word-minus (getD ws i 0) (getD os i 0) (w .fit i) j h))
+-- by `|`: the words with the members of others
+pub insert-words : (ws os : List ℕ) → length ws ≡ 4 → length os ≡ 4 → (out : List ℕ)
+    → out ≡ with-word bitOr os 3 (with-word bitOr os 2 (with-word bitOr os 1 (with-word bitOr os 0 ws)))
+    → (length out ≡ 4) × ((k : ℕ) → wordsHave out k ≡ wordsHave ws k || wordsHave os k)
+insert-words ws os l m out e =
+    rw (e ∙ one-by-one bitOr os ws l)
+    (refl, words-joined bitOr _||_ refl ws os l m (λ i j h. unpack-or (getD ws i 0) (getD os i 0) j))

@@ -6,7 +6,7 @@ ghost use lib.Count.{trailingZeros};
 ghost use lib.Dec.{eqb};
 ghost use lib.ListN.{length};
 ghost use Rattle.layout.specs.Codec.{unpack};
-ghost use Rattle.words.specs.Members.{wordsHave, FourWords};
+ghost use Rattle.words.specs.Members.{wordsHave};
 
 // Whether c is a member of the set of these words.
 pub fn among(words: &[u64; 4], c: u8) -> bool
@@ -26,6 +26,19 @@ pub fn insert(words: &mut [u64; 4], c: u8)
     words[i] = words[i] | (1 << (c % 64));
 }
 
+// The members of the set of other words become members of the set of these.
+pub fn insert_all(words: &mut [u64; 4], others: &[u64; 4])
+    requires { ⌜ length (now words) ≡ 4 ⌝ }
+    requires { ⌜ length (now others) ≡ 4 ⌝ }
+    ensures { λ _. ⌜ length (now (words .exit)) ≡ 4 ⌝ }
+    ensures { λ _. ⌜ ((k : ℕ) → wordsHave (now (words .exit)) k ≡ wordsHave (now (words .entry)) k || wordsHave (now (others .entry)) k) ⌝ }
+{
+    words[0] = words[0] | others[0];
+    words[1] = words[1] | others[1];
+    words[2] = words[2] | others[2];
+    words[3] = words[3] | others[3];
+}
+
 // c is a member of the set of these words no more.
 pub fn remove(words: &mut [u64; 4], c: u8)
     requires { ⌜ length (now words) ≡ 4 ⌝ }
@@ -34,19 +47,6 @@ pub fn remove(words: &mut [u64; 4], c: u8)
 {
     let i = (c / 64) as usize;
     words[i] = words[i] & !(1 << (c % 64));
-}
-
-// The members of the set of other words are members of the set of these no more.
-pub fn remove_all(words: &mut [u64; 4], others: &[u64; 4])
-    requires { ⌜ length (now words) ≡ 4 ⌝ }
-    requires { ⌜ FourWords (now others) ⌝ }
-    ensures { λ _. ⌜ length (now (words .exit)) ≡ 4 ⌝ }
-    ensures { λ _. ⌜ ((k : ℕ) → wordsHave (now (words .exit)) k ≡ wordsHave (now (words .entry)) k && not (wordsHave (now (others .entry)) k)) ⌝ }
-{
-    words[0] = words[0] & !others[0];
-    words[1] = words[1] & !others[1];
-    words[2] = words[2] & !others[2];
-    words[3] = words[3] & !others[3];
 }
 
 // A word without its lowest bit.

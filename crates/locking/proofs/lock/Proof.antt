@@ -5,7 +5,6 @@ use Rattle.layout.specs.Codec.{decode}
 use Rattle.locking.proofs.ArgumentLaws.{lock-named, lock-known}
 use Rattle.locking.proofs.OutcomeLaws.{lock-covered, lock-blocked, lock-taken}
 use borrow.Author.Needs.{needs}
-use borrow.Author.Tests.{not-true, not-false}
 use Rattle.locking.proofs.lock.Statement.{statement}
 use Rattle.locking.proofs.lock.Tie as tie
 
@@ -17,7 +16,7 @@ returns c = let s = c .before .before .before .before .before .before .before .b
 
 returns-2 : tie.Need-returns-2
 returns-2 c = let s = c .before .before .before .before .before .before .before .before .before .before .before .before in
-    lock-blocked (decode (s .args .w .now)) (s .args .change) (s .args .entry) (s .args .mode) _ (c .before .before .before .before .before .before .before .before .before .held .ensures) _ _ (c .before .before .before .before .before .before .before .before .if1 .left) _ (c .before .before .before .before .before .before .granted .ensures) (not-true _ (c .before .before .before .before .before .if2 .taken)) (c .before .before .before .enter-line .ensures) (c .blocked .ensures)
+    lock-blocked (decode (s .args .w .now)) (s .args .change) (s .args .entry) (s .args .mode) _ (c .before .before .before .before .before .before .before .before .before .held .ensures) _ _ (c .before .before .before .before .before .before .before .before .if1 .left) _ (c .before .before .before .before .before .before .in-the-way .ensures) (c .before .before .before .before .before .if2 .taken) (c .before .before .before .enter-line .ensures) (c .blocked .ensures)
 
 leave-line-requires-2 : tie.Need-leave-line-requires-2
 leave-line-requires-2 c κs = let s = c .before .before .before .before .before .before .before .before in (s .pre .0, (s .pre .1 .0, lock-named (s .args .w .now) (s .pre .1 .0) (s .args .change) (s .args .entry) (s .args .mode) (s .pre .1 .1) .0))
@@ -33,7 +32,7 @@ cast-grant-3 c = let s = c .before .before .before .before .before .before .befo
 
 returns-3 : tie.Need-returns-3
 returns-3 c = let s = c .before .before .before .before .before .before .before .before .before .before .before .before .before .before .before .before in
-    lock-taken (decode (s .args .w .now)) (s .args .change) (s .args .entry) (s .args .mode) _ (c .before .before .before .before .before .before .before .before .before .before .before .before .before .held .ensures) (c .done2 .result) _ (c .before .before .before .before .before .before .before .before .before .before .before .before .if1 .left) _ (c .before .before .before .before .before .before .before .before .before .before .granted .ensures) (not-false _ (c .before .before .before .before .before .before .before .before .before .if2 .left)) (c .before .before .before .before .before .before .before .leave-line2 .ensures) _ (c .before .before .before .grant .ensures) (c .done2 .ensures)
+    lock-taken (decode (s .args .w .now)) (s .args .change) (s .args .entry) (s .args .mode) _ (c .before .before .before .before .before .before .before .before .before .before .before .before .before .held .ensures) (c .done2 .result) _ (c .before .before .before .before .before .before .before .before .before .before .before .before .if1 .left) _ (c .before .before .before .before .before .before .before .before .before .before .in-the-way .ensures) (c .before .before .before .before .before .before .before .before .before .if2 .left) (c .before .before .before .before .before .before .before .leave-line2 .ensures) _ (c .before .before .before .grant .ensures) (c .done2 .ensures)
 
 pub lock-spec : {M : Type 1} → statement M
 lock-spec =

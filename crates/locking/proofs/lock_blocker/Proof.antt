@@ -1,12 +1,12 @@
--- `locking::grantable` meets its contract. Assumes nothing.
+-- `locking::lock_blocker` meets its contract: of those that clash, the lowest that has given no permit. Assumes nothing.
 use native.Mathlib.Nat.{lt-of-le-of-lt}
 use lib.Dec.{lit≤}
 use Rattle.sets.specs.Members.{members}
 use Rattle.locking.proofs.ArgumentLaws.{lock-known}
-use Rattle.locking.proofs.LockLaws.{grantable-read}
+use Rattle.locking.proofs.LockLaws.{blocker-known}
 use borrow.Author.Needs.{needs}
-use Rattle.locking.proofs.grantable.Statement.{statement}
-use Rattle.locking.proofs.grantable.Tie as tie
+use Rattle.locking.proofs.lock_blocker.Statement.{statement}
+use Rattle.locking.proofs.lock_blocker.Tie as tie
 
 permits-requires : tie.Need-permits-requires
 permits-requires c κs = (c .before .pre .0, c .before .pre .1 .0)
@@ -24,13 +24,12 @@ givers-requires : tie.Need-givers-requires
 givers-requires c κs = (c .givers-arg .given .2, c .before .before .before .permits .ensures .1)
 
 returns : tie.Need-returns
-returns c = let s = c .before .before .before .before .before .before .before .before .before in
-    grantable-read (s .args .w .now) (s .pre .1 .0) (s .args .change) (s .args .entry) (s .args .mode) _ (lock-known (s .args .w .now) (s .pre .1 .0) (s .args .change) (s .args .entry) (s .args .mode) (s .pre .1 .1) .2) (c .before .before .before .before .before .before .before .permits .ensures .0)
-    (members (c .before .before .before .before .before .clashing .result)) (members (c .before .before .before .givers .result)) (members (c .before .before .without .result)) (members (c .before .minus .result)) _
-    (c .before .before .before .before .before .clashing .ensures) (c .before .before .before .givers .ensures) (c .before .before .without .ensures) (c .before .minus .ensures) (c .is-empty .ensures)
+returns c = let s = c .before .before .before .before .before .before .before in
+    blocker-known (s .args .w .now) (s .pre .1 .0) (s .args .change) (s .args .entry) (s .args .mode) _ (lock-known (s .args .w .now) (s .pre .1 .0) (s .args .change) (s .args .entry) (s .args .mode) (s .pre .1 .1) .2) (c .before .before .before .before .before .permits .ensures .0)
+    (members (c .before .before .before .clashing .result)) (members (c .before .givers .result)) (c .blocker .result) (c .before .before .before .clashing .ensures) (c .before .givers .ensures) (c .blocker .ensures)
 
-pub grantable-spec : {M : Type 1} → statement M
-grantable-spec =
+pub lock-blocker-spec : {M : Type 1} → statement M
+lock-blocker-spec =
     tie.close
     (tie.spec
     permits-requires
@@ -45,7 +44,5 @@ grantable-spec =
     (λ c. lit≤ tt)
     (λ c. search needs)
     givers-requires
-    (λ c κs. tt)
-    (λ c κs. tt)
     (λ c κs. tt)
     returns)
