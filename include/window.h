@@ -39,7 +39,7 @@ extern "C" {
 #endif
 
 /* Rises when this interface gains or changes something. */
-#define WINDOW_VERSION 2
+#define WINDOW_VERSION 3
 
 /* The bytes of a window, whatever it holds. */
 #define WINDOW_SIZE 37952
@@ -149,7 +149,8 @@ WINDOW_MUST_USE window_reply window_complete(uint8_t *window, size_t length, uin
  * Answers: WINDOW_NO_CHANGE, WINDOW_NO_ENTRY, WINDOW_BAD_OPTION (the mode), WINDOW_BAD_STATUS,
  * WINDOW_IN_LINE (whatever it holds on this entry),
  * WINDOW_BLOCKED (another change holds a lock that clashes and has not permitted the mode to this one or to anybody,
- * or another change is first in the entry's line).
+ * or another change is first in the entry's line; number: the lowest such holder or, where there is none, the first in
+ * line).
  *
  * A blocked lock puts its change at the end of the entry's line, with its mode; asked for again it keeps its place and
  * takes the newer mode. Where somebody stands in line only the first is granted, so ask again: nobody who came later

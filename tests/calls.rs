@@ -13,6 +13,7 @@ mod trial;
 mod tries;
 mod windows;
 
+use demand::Turns;
 use model::SIZE;
 use perform::Call::{self, *};
 use perform::{Reply, NAMES};
@@ -41,14 +42,13 @@ const REACHABLE: [&[u32]; 15] = [
 ];
 
 /// How often each call was answered how, in the order of NAMES; how many lists ended in walks; the most that stood in
-/// line; how often one was granted while others waited, and how often the first in line had to get 0.
+/// line; how often what is held of locks and lines was put to the test.
 #[derive(Default)]
 struct Tally {
     answers: [[usize; 22]; 15],
     walked: usize,
     longest: usize,
-    granted: usize,
-    served: usize,
+    turns: Turns,
 }
 
 impl Tally {
@@ -234,8 +234,7 @@ fn list(r: &mut Random, kind: &Kind, first: &[Call], length: usize, tally: &mut 
         let call = random::call(r, kind, trial.now());
         tally.make(&mut trial, call);
     }
-    let (granted, served) = trial.story().unwrap().turns();
-    (tally.granted, tally.served) = (tally.granted + granted, tally.served + served);
+    tally.turns.add(trial.story().unwrap().turns());
     for _ in 0..4 {
         damaged(r, kind, &trial, tally);
     }
@@ -291,9 +290,9 @@ fn random_lists(r: &mut Random, calls: usize, tally: &mut Tally) {
         }
     }
     println!("{made} random calls, {} lists ended in walks", tally.walked);
-    let Tally { longest, granted, served, .. } = *tally;
-    println!("at most {longest} in line, {granted} granted while others waited, {served} first in line and free");
-    assert!(longest > 20 && granted > 100 && served > 100, "too few stood in line");
+    let Tally { longest, turns, .. } = *tally;
+    println!("at most {longest} in line; of locks and lines {turns:?}");
+    assert!(longest > 20 && turns.least() > 100, "too few stood in line");
 }
 
 /// Who stands in line after calls on a window with three in line: who completes or ends leaves, and the others close up

@@ -5,6 +5,21 @@ use crate::perform::{Call, Reply, EVERY_ENTRY};
 use std::collections::{BTreeMap, BTreeSet};
 use Call::*;
 
+/// How often what is held of locks and lines was put to the test.
+#[derive(Clone, Copy, Default, Debug)]
+pub struct Turns {
+    /// One was granted while others waited.
+    pub granted: usize,
+    /// The first in line had to get 0.
+    pub served: usize,
+    /// A blocked lock had to name a holder above one that clashes and has permitted.
+    pub above: usize,
+    /// A blocked lock had to name a holder, and not the other change that was first in line.
+    pub held: usize,
+    /// A blocked lock had to name the first in line.
+    pub behind: usize,
+}
+
 /// What the calls since the last open answered 0 say. Changes and entries are numbers as the calls name them.
 #[derive(Clone, Default)]
 pub struct Story {
@@ -25,8 +40,7 @@ pub struct Story {
     writes: Vec<(u32, u32, u32)>,
     /// (entry, change) to the call since which the change waits there.
     waits: BTreeMap<(u32, u32), usize>,
-    /// How often one was granted while others waited, and how often the first in line had to get 0.
-    turns: (usize, usize),
+    turns: Turns,
 }
 
 fn must(holds: bool, words: impl Fn() -> String) -> Result<(), String> {
@@ -37,11 +51,26 @@ fn must(holds: bool, words: impl Fn() -> String) -> Result<(), String> {
     }
 }
 
+impl Turns {
+    pub fn add(&mut self, more: Turns) {
+        self.granted += more.granted;
+        self.served += more.served;
+        self.above += more.above;
+        self.held += more.held;
+        self.behind += more.behind;
+    }
+
+    pub fn least(&self) -> usize {
+        [self.granted, self.served, self.above, self.held, self.behind].into_iter().min().unwrap()
+    }
+}
+
 impl Story {
     /// Takes in a call and its reply, then the window after it, and judges the whole.
     pub fn tell(&mut self, call: Call, (answer, number): Reply, after: &Window) -> Result<(), String> {
         self.calls += 1;
         self.judge_turn(call, answer)?;
+        self.judge_blocked(call, (answer, number))?;
         if answer == 0 {
             self.enter(call);
         }
@@ -131,7 +160,7 @@ impl Story {
             (Commit(_) | Abort(_), 0) => fresh.len() as u32,
             (Initiate(_), 0) => self.status.len() as u32,
             (Status(c), 0) => self.status[c as usize - 1],
-            (Read(..) | Value(_) | Parent(_), 0) | (Commit(_), 20) => return Ok(()),
+            (Read(..) | Value(_) | Parent(_), 0) | (Commit(_) | Lock(..), 20) => return Ok(()),
             _ => 0,
         };
         must(number == due, || format!("the second number is {number}, not {due}"))
@@ -209,12 +238,28 @@ impl Story {
         let mut holders = self.locks.range(here).filter(|((_, d), held)| *d != c && (**held == 2 || mode == 2));
         let clear = holders.all(|((_, d), _)| self.contains(e, *d, c, mode));
         let served = since.is_some() && first && clear && (1..=2).contains(&mode);
-        self.turns.0 += usize::from(answer == 0 && !covered && !others.is_empty());
-        self.turns.1 += usize::from(served);
+        self.turns.granted += usize::from(answer == 0 && !covered && !others.is_empty());
+        self.turns.served += usize::from(served);
         must(!served || answer == 0, || format!("{c} is first in the line of entry {e} and not granted"))
     }
 
-    pub fn turns(&self) -> (usize, usize) {
+    /// A blocked lock names the lowest holder that clashes and has not permitted; where there is none, the first in
+    /// line.
+    fn judge_blocked(&mut self, call: Call, (answer, number): Reply) -> Result<(), String> {
+        let (Lock(c, e, mode), 20) = (call, answer) else { return Ok(()) };
+        let here = (e, 0)..=(e, u32::MAX);
+        let clashing = |((_, d), held): &(&(u32, u32), &u32)| *d != c && (**held == 2 || mode == 2);
+        let holders: Vec<u32> = self.locks.range(here.clone()).filter(clashing).map(|((_, d), _)| *d).collect();
+        let holder = holders.iter().copied().find(|d| !self.contains(e, *d, c, mode));
+        let first = self.waits.range(here).min_by_key(|(_, since)| **since).map(|((_, d), _)| *d);
+        self.turns.above += usize::from(holder.is_some_and(|d| holders[0] < d));
+        self.turns.held += usize::from(holder.is_some() && first.is_some_and(|d| d != c && Some(d) != holder));
+        self.turns.behind += usize::from(holder.is_none());
+        let due = holder.or(first);
+        must(due == Some(number), || format!("the lock of {c} on {e} names {number}, not {due:?}"))
+    }
+
+    pub fn turns(&self) -> Turns {
         self.turns
     }
 

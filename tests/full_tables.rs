@@ -69,9 +69,9 @@ fn full_permits() -> Vec<Line> {
             (Permit(2, 1, 0, 1), 11, 0),
             (Lock(1, 0, 2), 0, 0),
             (Lock(2, 0, 1), 0, 0),
-            (Lock(3, 0, 2), 20, 0),
+            (Lock(3, 0, 2), 20, 1),
             (Permit(1, 3, 0, 2), 0, 0),
-            (Lock(3, 0, 2), 20, 0),
+            (Lock(3, 0, 2), 20, 2),
             (Permit(2, 3, 0, 2), 11, 0),
             (Permit(1, 5, 255, 3), 0, 0),
             // The 256 permits from 1 to 2 are dropped, 1's write lock meets 2's read lock.

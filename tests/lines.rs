@@ -16,6 +16,7 @@ pub fn lines() -> Vec<Try> {
         ("who stops running leaves the line", stopped_leaves()),
         ("a delegate leaves lines alone", delegate_leaves_lines()),
         ("an idle first in line holds back, a permit does not pass it", idle_first()),
+        ("a blocked lock names who is in the way", named()),
     ]
 }
 
@@ -25,17 +26,17 @@ fn first_served() -> Vec<Line> {
         4,
         &[
             (Lock(1, 0, 2), 0, 0),
-            (Lock(2, 0, 2), 20, 0),
-            (Lock(3, 0, 1), 20, 0),
-            (Lock(4, 0, 1), 20, 0),
+            (Lock(2, 0, 2), 20, 1),
+            (Lock(3, 0, 1), 20, 1),
+            (Lock(4, 0, 1), 20, 1),
             (Abort(1), 0, 1),
-            (Lock(4, 0, 1), 20, 0),
-            (Lock(3, 0, 1), 20, 0),
+            (Lock(4, 0, 1), 20, 2),
+            (Lock(3, 0, 1), 20, 2),
             (Lock(2, 0, 2), 0, 0),
-            (Lock(3, 0, 1), 20, 0),
+            (Lock(3, 0, 1), 20, 2),
             (Complete(2), 0, 0),
             (Commit(2), 0, 1),
-            (Lock(4, 0, 1), 20, 0),
+            (Lock(4, 0, 1), 20, 3),
             (Lock(3, 0, 1), 0, 0),
             (Lock(4, 0, 1), 0, 0),
         ],
@@ -49,16 +50,16 @@ fn place_kept() -> Vec<Line> {
         3,
         &[
             (Lock(1, 0, 1), 0, 0),
-            (Lock(2, 0, 2), 20, 0),
-            (Lock(3, 0, 2), 20, 0),
-            (Lock(2, 0, 2), 20, 0),
-            (Lock(3, 0, 1), 20, 0),
+            (Lock(2, 0, 2), 20, 1),
+            (Lock(3, 0, 2), 20, 1),
+            (Lock(2, 0, 2), 20, 1),
+            (Lock(3, 0, 1), 20, 2),
             (Lock(2, 0, 1), 0, 0),
             (Lock(3, 0, 1), 0, 0),
-            (Lock(3, 0, 2), 20, 0),
-            (Lock(2, 0, 2), 20, 0),
+            (Lock(3, 0, 2), 20, 1),
+            (Lock(2, 0, 2), 20, 1),
             (Abort(1), 0, 1),
-            (Lock(2, 0, 2), 20, 0),
+            (Lock(2, 0, 2), 20, 3),
             (Complete(2), 0, 0),
             (Commit(2), 0, 1),
             (Lock(3, 0, 2), 0, 0),
@@ -74,11 +75,11 @@ fn covered_leaves() -> Vec<Line> {
         &[
             (Lock(1, 0, 1), 0, 0),
             (Lock(2, 0, 1), 0, 0),
-            (Lock(2, 0, 2), 20, 0),
-            (Lock(3, 0, 1), 20, 0),
+            (Lock(2, 0, 2), 20, 1),
+            (Lock(3, 0, 1), 20, 2),
             (Lock(2, 0, 1), 0, 0),
             (Lock(3, 0, 1), 0, 0),
-            (Lock(2, 0, 2), 20, 0),
+            (Lock(2, 0, 2), 20, 1),
         ],
     )
 }
@@ -90,13 +91,13 @@ fn upgrade_waits() -> Vec<Line> {
         2,
         &[
             (Lock(1, 0, 1), 0, 0),
-            (Lock(2, 0, 2), 20, 0),
-            (Lock(1, 0, 2), 20, 0),
+            (Lock(2, 0, 2), 20, 1),
+            (Lock(1, 0, 2), 20, 2),
             (Lock(1, 0, 1), 0, 0),
-            (Lock(1, 0, 2), 20, 0),
+            (Lock(1, 0, 2), 20, 2),
             (Permit(1, 2, 0, 2), 0, 0),
             (Lock(2, 0, 2), 0, 0),
-            (Lock(1, 0, 2), 20, 0),
+            (Lock(1, 0, 2), 20, 2),
             (Permit(2, 1, 0, 2), 0, 0),
             (Lock(1, 0, 2), 0, 0),
         ],
@@ -111,7 +112,7 @@ fn another_line() -> Vec<Line> {
         &[
             (Lock(1, 0, 2), 0, 0),
             (Lock(2, 1, 2), 0, 0),
-            (Lock(2, 0, 1), 20, 0),
+            (Lock(2, 0, 1), 20, 1),
             (Lock(2, 1, 1), 12, 0),
             (Lock(2, 1, 2), 12, 0),
             (Lock(2, 2, 1), 12, 0),
@@ -119,11 +120,11 @@ fn another_line() -> Vec<Line> {
             (Lock(2, 2, 3), 5, 0),
             (Read(2, 1), 0, 0),
             (Write(2, 1, 5), 0, 0),
-            (Lock(2, 0, 2), 20, 0),
+            (Lock(2, 0, 2), 20, 1),
             (Lock(3, 2, 2), 0, 0),
             (Abort(1), 0, 1),
             (Lock(2, 0, 1), 0, 0),
-            (Lock(2, 2, 1), 20, 0),
+            (Lock(2, 2, 1), 20, 3),
             (Lock(2, 0, 1), 12, 0),
             (Complete(2), 0, 0),
             (Lock(2, 0, 1), 7, 0),
@@ -139,16 +140,16 @@ fn own_lines() -> Vec<Line> {
         &[
             (Lock(1, 0, 2), 0, 0),
             (Lock(2, 1, 2), 0, 0),
-            (Lock(3, 0, 2), 20, 0),
-            (Lock(4, 1, 1), 20, 0),
-            (Lock(5, 1, 1), 20, 0),
+            (Lock(3, 0, 2), 20, 1),
+            (Lock(4, 1, 1), 20, 2),
+            (Lock(5, 1, 1), 20, 2),
             (Abort(2), 0, 1),
-            (Lock(5, 1, 1), 20, 0),
+            (Lock(5, 1, 1), 20, 4),
             (Lock(4, 1, 1), 0, 0),
             (Lock(5, 1, 1), 0, 0),
-            (Lock(4, 0, 1), 20, 0),
+            (Lock(4, 0, 1), 20, 1),
             (Abort(1), 0, 1),
-            (Lock(4, 0, 1), 20, 0),
+            (Lock(4, 0, 1), 20, 3),
             (Lock(3, 0, 2), 0, 0),
         ],
     )
@@ -157,10 +158,11 @@ fn own_lines() -> Vec<Line> {
 /// 2 to 255 wait behind 1 and are served in the order in which they came, from the highest down.
 fn everybody() -> Vec<Line> {
     let mut lines = vec![(Lock(1, 0, 2), 0, 0)];
-    lines.extend((2..=255).rev().map(|c| (Lock(c, 0, 2), 20, 0)));
+    lines.extend((2..=255).rev().map(|c| (Lock(c, 0, 2), 20, 1)));
     lines.push((Abort(1), 0, 1));
     for c in (2..=255).rev() {
-        lines.extend([(Lock(2, 0, 2), if c == 2 { 0 } else { 20 }, 0), (Lock(c, 0, 2), 0, 0), (Abort(c), 0, 1)]);
+        let (answer, first) = if c == 2 { (0, 0) } else { (20, c) };
+        lines.extend([(Lock(2, 0, 2), answer, first), (Lock(c, 0, 2), 0, 0), (Abort(c), 0, 1)]);
     }
     runs(1, 255, &lines)
 }
@@ -172,12 +174,12 @@ fn stopped_leaves() -> Vec<Line> {
         5,
         &[
             (Lock(1, 0, 1), 0, 0),
-            (Lock(2, 0, 2), 20, 0),
-            (Lock(3, 0, 2), 20, 0),
-            (Lock(4, 0, 2), 20, 0),
-            (Lock(5, 0, 1), 20, 0),
+            (Lock(2, 0, 2), 20, 1),
+            (Lock(3, 0, 2), 20, 1),
+            (Lock(4, 0, 2), 20, 1),
+            (Lock(5, 0, 1), 20, 2),
             (Complete(2), 0, 0),
-            (Lock(5, 0, 1), 20, 0),
+            (Lock(5, 0, 1), 20, 3),
             (Depend(3, 1, 4), 0, 0),
             (Depend(2, 1, 3), 0, 0),
             (Abort(1), 0, 3),
@@ -193,13 +195,13 @@ fn delegate_leaves_lines() -> Vec<Line> {
         4,
         &[
             (Lock(1, 0, 2), 0, 0),
-            (Lock(2, 0, 2), 20, 0),
-            (Lock(3, 0, 1), 20, 0),
+            (Lock(2, 0, 2), 20, 1),
+            (Lock(3, 0, 1), 20, 1),
             (Delegate(1, 2, 0), 0, 0),
-            (Lock(3, 0, 1), 20, 0),
+            (Lock(3, 0, 1), 20, 2),
             (Delegate(2, 4, EVERY_ENTRY), 0, 0),
             (Lock(2, 1, 1), 12, 0),
-            (Lock(3, 0, 1), 20, 0),
+            (Lock(3, 0, 1), 20, 4),
             (Delegate(4, 2, 0), 0, 0),
             (Lock(2, 0, 2), 0, 0),
             (Lock(2, 1, 1), 0, 0),
@@ -216,13 +218,52 @@ fn idle_first() -> Vec<Line> {
         &[
             (Lock(1, 0, 2), 0, 0),
             (Permit(1, 3, 0, 3), 0, 0),
-            (Lock(2, 0, 1), 20, 0),
-            (Lock(3, 0, 1), 20, 0),
-            (Lock(3, 0, 2), 20, 0),
+            (Lock(2, 0, 1), 20, 1),
+            (Lock(3, 0, 1), 20, 2),
+            (Lock(3, 0, 2), 20, 2),
             (Permit(1, 2, 0, 1), 0, 0),
-            (Lock(3, 0, 2), 20, 0),
+            (Lock(3, 0, 2), 20, 2),
             (Lock(2, 0, 1), 0, 0),
             (Lock(3, 0, 1), 0, 0),
+        ],
+    )
+}
+
+/// The lowest holder that clashes and has not permitted, running or not; where there is none, the first in line. Never
+/// the caller; and a refused delegate names nobody.
+fn named() -> Vec<Line> {
+    runs(
+        2,
+        6,
+        &[
+            (Lock(4, 0, 1), 0, 0),
+            (Lock(2, 0, 1), 0, 0),
+            (Lock(5, 0, 1), 0, 0),
+            (Lock(3, 0, 2), 20, 2),
+            (Permit(2, 3, 0, 2), 0, 0),
+            (Lock(3, 0, 2), 20, 4),
+            // On another entry, for another mode, the other way: 4 has not permitted.
+            (Permit(4, 3, 1, 2), 0, 0),
+            (Permit(4, 3, 0, 1), 0, 0),
+            (Permit(3, 4, 0, 3), 0, 0),
+            (Lock(3, 0, 2), 20, 4),
+            (Permit(4, 0, 0, 2), 0, 0),
+            (Lock(3, 0, 2), 20, 5),
+            (Complete(5), 0, 0),
+            (Lock(3, 0, 2), 20, 5),
+            // 2 reads itself, and 3 is first in line: 5 is named.
+            (Lock(2, 0, 2), 20, 5),
+            (Permit(5, 0, 0, 2), 0, 0),
+            (Lock(2, 0, 2), 20, 3),
+            (Lock(6, 0, 1), 20, 3),
+            (Lock(3, 0, 2), 0, 0),
+            // 2 is first in line: 3, who writes, is named.
+            (Lock(6, 0, 1), 20, 3),
+            // 1 would write where 2 reads.
+            (Delegate(3, 1, 0), 10, 0),
+            (Permit(1, 2, 0, 1), 0, 0),
+            (Delegate(3, 1, 0), 0, 0),
+            (Lock(6, 0, 1), 20, 1),
         ],
     )
 }

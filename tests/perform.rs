@@ -254,15 +254,16 @@ fn effect(w: &mut Window, call: Call) -> Reply {
 
 /// 0 if a lock held already covers the mode. Otherwise granted if each other holder whose lock clashes with the mode
 /// has a permit, to this change or to anybody, that contains the mode, and no other change is first in the entry's
-/// line. Otherwise 20, and a place in line. Who gets 0 leaves the line.
+/// line. Otherwise 20 and a place in line, with the lowest holder that has no such permit or, where there is none, the
+/// first in line. Who gets 0 leaves the line.
 fn lock(w: &mut Window, c: u8, e: u8, mode: u8) -> Reply {
     if w.held(e, c) < mode {
-        let others: Vec<u8> =
-            w.locks.iter().filter(|l| l.0 == e && l.1 != c && (l.2 == 2 || mode == 2)).map(|l| l.1).collect();
-        let first = w.line.iter().find(|p| p.entry == e).map_or(c, |p| p.change);
-        if first != c || !others.iter().all(|holder| w.permitted(*holder, c, e, mode)) {
+        let clashing = w.locks.iter().filter(|l| l.0 == e && l.1 != c && (l.2 == 2 || mode == 2)).map(|l| l.1);
+        let holder = clashing.filter(|holder| !w.permitted(*holder, c, e, mode)).min();
+        let first = w.line.iter().find(|p| p.entry == e).map(|p| p.change).filter(|first| *first != c);
+        if let Some(blocker) = holder.or(first) {
             wait(w, c, e, mode);
-            return (20, 0);
+            return (20, blocker as u32);
         }
         raise_lock(w, e, c, mode);
     }

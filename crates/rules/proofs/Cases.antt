@@ -168,7 +168,7 @@ pub completed-holder : Answered (two (Lock 1 0 2 ∷ Complete 1 ∷ Lock 2 0 1 �
 unfolding rules
 completed-holder e c r p t = refl
 
--- "for delegate a permit either way between the two still counts and its refusal still has 0"
+-- "for delegate a permit either way between the two counts and its refusal has 0"
 pub either-way : Answered (two (Initiate 0 ∷ Lock 1 0 2 ∷ Permit 1 2 0 1 ∷ Lock 2 0 1 ∷ Delegate 2 3 0 ∷ Delegate 1 3 0 ∷ []))
     (begun ((0, 3) ∷ (0, 0) ∷ (0, 0) ∷ (0, 0) ∷ (10, 0) ∷ (0, 0) ∷ []))
 unfolding rules
