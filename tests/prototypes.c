@@ -38,7 +38,7 @@ static void work(void)
     GIVES(write_(LENT, 1, 5, 7), WINDOW_DONE, 0);
     GIVES(read_(LENT, 1, 5), WINDOW_DONE, 7);
     GIVES(begin(LENT, 2), WINDOW_DONE, 0);
-    GIVES(lock(LENT, 2, 5, WINDOW_MODE_READ), WINDOW_BLOCKED, 0);
+    GIVES(lock(LENT, 2, 5, WINDOW_MODE_READ), WINDOW_BLOCKED, 1);
     GIVES(permit(LENT, 1, 2, 5, WINDOW_MODE_READ), WINDOW_DONE, 0);
     GIVES(lock(LENT, 2, 5, WINDOW_MODE_READ), WINDOW_DONE, 0);
 }

@@ -1,28 +1,23 @@
 -- The lowest of those who are in the way of a change, from the sets of code. Assumes nothing.
-use mathlib.Core.Path.{_≡_, sym, _∙_, ap}
+use mathlib.Core.Path.{_≡_, sym, _∙_, ap, fun-ext}
 use mathlib.Core.Bool.{Bool, true, false, not, cond, _&&_, and-assoc}
 use Prim.Native.Nat.{ℕ}
-use native.Mathlib.Omega.{arith}
 use lib.Dec.{eqb}
 use borrow.Author.Tests.{not-true, not-false}
 use Rattle.rules.specs.Base.{anyBelow, lowestBelow, lowestOrZero}
 use Rattle.rules.specs.Sets.{Set}
 use Rattle.rules.specs.Locks.{blocking}
-use Rattle.rules.proofs.BoundLaws.{zero-lowest, lowest-as}
-
--- tests that agree have one lowest
-pub lowest-same : (p q : ℕ → Bool) → ((k : ℕ) → p k ≡ q k) → lowestOrZero 256 p ≡ lowestOrZero 256 q
-lowest-same p q h = lowest-as p q 256 256 (omega arith) (λ k l. h k) (λ k l m. absurd (omega arith))
+use Rattle.rules.proofs.BoundLaws.{zero-lowest}
 
 -- the clashing without those that permit, and then without c
 module _ (clashes permits left rest : Set) (c : ℕ) (minus : (k : ℕ) → left k ≡ clashes k && not (permits k)) (without : (k : ℕ) → rest k ≡ not (eqb k c) && left k) where
-  in-way : (k : ℕ) → rest k ≡ blocking clashes permits c k
+  in-way : lowestOrZero 256 rest ≡ lowestOrZero 256 (blocking clashes permits c)
   unfolding blocking
-  in-way k = without k ∙ rw (minus k) (sym (and-assoc (not (eqb k c)) (clashes k) (not (permits k))))
+  in-way = ap (lowestOrZero 256) (fun-ext (λ k. without k ∙ rw (minus k) (sym (and-assoc (not (eqb k c)) (clashes k) (not (permits k))))))
 
   pub nobody-left : (none : Bool) → none ≡ not (anyBelow 256 rest) → none ≡ true → 0 ≡ lowestOrZero 256 (blocking clashes permits c)
-  nobody-left none e f = sym (zero-lowest 256 rest (not-true _ (sym e ∙ f))) ∙ lowest-same rest (blocking clashes permits c) in-way
+  nobody-left none e f = sym (zero-lowest 256 rest (not-true _ (sym e ∙ f))) ∙ in-way
 
   pub lowest-left : (none : Bool) (r : ℕ) → none ≡ not (anyBelow 256 rest) → none ≡ false → r ≡ lowestBelow 256 rest → r ≡ lowestOrZero 256 (blocking clashes permits c)
   unfolding lowestOrZero
-  lowest-left none r e f g = g ∙ ap (λ b. cond b (lowestBelow 256 rest) 0) (sym (not-false (anyBelow 256 rest) (sym e ∙ f))) ∙ lowest-same rest (blocking clashes permits c) in-way
+  lowest-left none r e f g = g ∙ ap (λ b. cond b (lowestBelow 256 rest) 0) (sym (not-false (anyBelow 256 rest) (sym e ∙ f))) ∙ in-way

@@ -17,10 +17,11 @@ containsHeld operations reads writes = reads && contains operations 1 || writes 
 unfoldable pub beside : Set → Set → ℕ → ℕ → PermitRecord → Bool
 beside r x a b p = eqb p.giver a && ((eqb p.taker b || eqb p.taker 0) && containsHeld p.ops (r b) (x b)) || eqb p.giver b && ((eqb p.taker a || eqb p.taker 0) && contains p.ops 2)
 
--- b holds the entry, and is another than a
+-- b holds the entry
 unfoldable pub holder : Set → Set → Set
 holder r x b = r b || x b
 
+-- and is another than a
 unfoldable pub otherHolder : Set → Set → ℕ → Set
 otherHolder r x a b = not (eqb b a) && holder r x b
 
@@ -32,6 +33,6 @@ standsBeside n t r x a b = anyOf n t (beside r x a b)
 unfoldable pub writerBlocker : ℕ → (ℕ → PermitRecord) → Set → Set → ℕ → ℕ
 writerBlocker n t r x a = lowestOrZero 256 (blocking (holder r x) (standsBeside n t r x a) a)
 
--- nobody is in the way of a writer
+-- nobody is in the way of any writer
 unfoldable pub entryFits : ℕ → (ℕ → PermitRecord) → Set → Set → Bool
 entryFits n t r x = allBelow 256 (λ a. not (x a) || eqb (writerBlocker n t r x a) 0)

@@ -1,5 +1,6 @@
 // The test for a clash: who is in the way of a change, by who has permitted; and whether a permit's operations contain a mode.
 use sets::ChangeSet;
+use words::remove;
 ghost use mathlib.Core.Path.{_≡_};
 ghost use Rattle.rules.specs.Base.{lowestOrZero};
 ghost use Rattle.rules.specs.Locks.{contains, blocking};
@@ -24,7 +25,9 @@ pub fn contains_held(operations: u8, reads: bool, writes: bool) -> bool
 pub fn blocker(clashing: ChangeSet, permitting: ChangeSet, change: u8) -> u32
     ensures { λ r. ⌜ r ≡ lowestOrZero 256 (blocking (members clashing) (members permitting) change) ⌝ }
 {
-    let left = clashing.minus(permitting).without(change);
+    let mut words = clashing.minus(permitting).words;
+    remove(&mut words, change);
+    let left = ChangeSet { words };
     if left.is_empty() {
         return 0;
     }

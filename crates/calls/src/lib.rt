@@ -71,7 +71,7 @@ pub fn complete(memory: &mut [u8], change: u32) -> Reply
     steps::complete(&mut memory[0..Window::SIZE], change)
 }
 
-// A lock on an entry, to read (1) or to write (2).
+// A lock on an entry, to read (1) or to write (2); where it is blocked the second number says who is in the way.
 pub fn lock(memory: &mut [u8], change: u32, entry: u32, mode: u32) -> Reply
     ensures { λ r. ⌜ Gives (perform (now (memory .entry)) (Lock change entry mode)) r (now (memory .exit)) ⌝ }
 {

@@ -1,26 +1,26 @@
 -- What the code finds of an entry is what the rules say of its clashing pairs. Assumes nothing.
 use mathlib.Core.Path.{_≡_, refl, sym, _∙_, ap, ap₂, fun-ext}
 use mathlib.Core.Logic.{_≢_}
-use mathlib.Core.Bool.{Bool, true, false, not, _&&_, _||_, and-false, or-false, or-comm, false≢true}
+use mathlib.Core.Bool.{Bool, true, false, not, _&&_, _||_, or-false, or-comm}
 use mathlib.Core.List.{List}
 use Prim.Native.Nat.{ℕ, suc, _+_, _-_, _*_, _≤_, _<_}
 use native.Mathlib.Decide.{decLt}
 use native.Mathlib.Omega.{arith}
 use lib.Dec.{ltb, eqb}
 use lib.ListN.{length, getD, take, drop}
-use borrow.Author.Tests.{eqb-true, eq-eqb, ne-eqb, eqb-false, not-true, not-false, lt-ltb, ltb-true, leb-true, leb-false}
-use Rattle.rules.specs.Base.{allBelow, anyBelow, lowestOrZero, any, rising}
+use borrow.Author.Tests.{eqb-true, eq-eqb, ne-eqb, eqb-false, not-true, lt-ltb, ltb-true, leb-true, leb-false}
+use Rattle.rules.specs.Base.{anyBelow, lowestOrZero, any, rising}
 use Rattle.rules.specs.Sets.{Set}
 use Rattle.rules.specs.Window.{PermitRecord, Window, permitKey}
-use Rattle.rules.specs.Locks.{clash, contains, permitted, blocking, clashesPermitted}
-use Rattle.rules.proofs.BaseLaws.{both-ways, none-below, anyBelow-none, and-both, and-left, and-right, any-intro, any-elim, allBelow-intro, allBelow-at, Below, under, over, below, Same, same, other, same?, eqb-same}
+use Rattle.rules.specs.Locks.{clash, contains, permitted, blocking}
+use Rattle.rules.proofs.BaseLaws.{both-ways, and-both, and-left, and-right, any-intro, any-elim, allBelow-intro, allBelow-at, Below, under, over, below, Same, same, other, same?, eqb-same}
 use Rattle.rules.proofs.ListLaws.{any-at, any-place}
 use Rattle.layout.specs.Codec.{noPermit, lockSection, permitSection}
 use Rattle.layout.specs.Records.{permitAt}
 use Rattle.layout.proofs.CodecLaws.{each-mode}
 use Rattle.layout.proofs.ReadLaws.{permit-read}
-use Rattle.rules.proofs.BoundLaws.{any-or, all-ext, lowest-zero, zero-lowest}
-use Rattle.rules.proofs.PairLaws.{blocking-parts, pairPermitted, by-pairs}
+use Rattle.rules.proofs.BoundLaws.{any-or, all-ext}
+use Rattle.rules.proofs.PairLaws.{nobody-blocks, others-permit, pairPermitted, entryPermitted}
 use Rattle.locks.specs.Held.{Modes, inMode, holding}
 use Rattle.locks.proofs.RowLaws.{row-holders}
 use Rattle.beside.specs.Permits.{anyOf, FirstOf}
@@ -122,26 +122,15 @@ pub entry-found : (bs : List ℕ) (from to : ℕ) {r x r′ x′ : Set} {found :
 entry-found bs from to {r} {x} hr hx e = e ∙ ap₂ (entryFits (to - from) _) (fun-ext hr) (fun-ext hx) ∙ entry-same (to - from) _ (permitFrom bs from) r x (λ j h. part-permit bs from (to * 4 - from * 4) j (omega arith))
 
 -- CLASHING PAIRS
--- the rules, entry by entry
-unfoldable pub entryPermitted : Window → ℕ → Bool
-entryPermitted W e = allBelow (suc W.given) (λ a. allBelow (suc W.given) (λ b. pairPermitted W e a b))
-
-pub by-entries : (W : Window) → clashesPermitted W ≡ allBelow W.entries (entryPermitted W)
-unfolding entryPermitted
-by-entries = by-pairs
-
 -- nobody is in the way of a writer where permits let every other holder stand beside it, and back where change 0 holds nothing
 module _ (n : ℕ) (t : ℕ → PermitRecord) (r x : Set) (a : ℕ) where
   others-fit : ((b : ℕ) → b < 256 → otherHolder r x a b ≡ true → standsBeside n t r x a b ≡ true) → eqb (writerBlocker n t r x a) 0 ≡ true
   unfolding writerBlocker otherHolder
-  others-fit f = eq-eqb _ 0 (zero-lowest 256 (blocking (holder r x) (standsBeside n t r x a) a) (none-below 256 (blocking (holder r x) (standsBeside n t r x a) a) (λ b h q.
-      let p = blocking-parts (holder r x) (standsBeside n t r x a) a b q in
-      false≢true (sym (p .2) ∙ f b h (rw (ne-eqb b a (p .0)) (p .1))))))
+  others-fit f = eq-eqb _ 0 (nobody-blocks 256 (holder r x) (standsBeside n t r x a) a (λ b h o q. f b h (rw (ne-eqb b a o) q)))
 
   fit-others : holder r x 0 ≡ false → eqb (writerBlocker n t r x a) 0 ≡ true → (b : ℕ) → b < 256 → otherHolder r x a b ≡ true → standsBeside n t r x a b ≡ true
-  unfolding writerBlocker otherHolder blocking
-  fit-others z f b h o = not-false _ (rw o at (anyBelow-none 256 (blocking (holder r x) (standsBeside n t r x a) a)
-      (lowest-zero 256 (blocking (holder r x) (standsBeside n t r x a) a) (rw (z, and-false (not (eqb 0 a)))) (eqb-true _ 0 f)) b h))
+  unfolding writerBlocker otherHolder
+  fit-others z f b h o = others-permit 256 (holder r x) (standsBeside n t r x a) a z (eqb-true _ 0 f) b h (eqb-false b a (not-true (eqb b a) (and-left (not (eqb b a)) _ o))) (and-right (not (eqb b a)) _ o)
 
 -- two modes that clash: one is write, and the other is held
 pair-cases : (m k : ℕ) (u v : Bool) → (m ≡ 2 → 0 < k → u || v ≡ true) → (k ≡ 2 → 0 < m → u || v ≡ true) → not (clash m k) || u || v ≡ true

@@ -1,7 +1,7 @@
 -- Those whom permits let stand beside a writer, noted one permit after the other. Assumes nothing.
-use mathlib.Core.Path.{_≡_, refl, sym, _∙_}
+use mathlib.Core.Path.{_≡_, refl, sym, _∙_, ap, fun-ext}
 use mathlib.Core.Logic.{_≢_}
-use mathlib.Core.Bool.{Bool, true, false, not, _&&_, _||_, and-true, and-false, or-false, or-true, or-assoc}
+use mathlib.Core.Bool.{Bool, false, not, _&&_, _||_, or-false, or-true, or-assoc}
 use Prim.Native.Nat.{ℕ, _+_}
 use native.Mathlib.Numerals.{add-one}
 use lib.Dec.{eqb}
@@ -13,15 +13,6 @@ use Rattle.rules.specs.Locks.{contains, makePermit, blocking}
 use Rattle.rules.proofs.BaseLaws.{Same, same, other, same?, eqb-same}
 use Rattle.beside.specs.Permits.{anyOf}
 use Rattle.beside.specs.Beside.{containsHeld, beside, holder, standsBeside, writerBlocker}
-use Rattle.beside.proofs.BlockerLaws.{lowest-same}
-
--- a set noted where a test passed
-pub note-passed : (s m s′ test : Bool) → test ≡ true → s′ ≡ s || m → s′ ≡ s || m && test
-note-passed s m s′ test t e = e ∙ rw (t, and-true m)
-
--- nothing where it failed
-pub nothing-noted : (s m test : Bool) → test ≡ false → s ≡ s || m && test
-nothing-noted s m test t = rw (t, and-false m, or-false s)
 
 -- one permit g, t, e, o, beside the writer a: another change k is noted just where the permit lets it stand there
 module _ (r x : Set) (a k g t e o : ℕ) (s s′ : Bool) where
@@ -60,8 +51,8 @@ module _ (t : ℕ → PermitRecord) (p : PermitRecord → Bool) where
 -- one writer at once: `noted` are those whom the permits let stand beside it, with whom was noted before, and that was nobody
 pub blocker-noted : (n : ℕ) (t : ℕ → PermitRecord) (r x : Set) (a : ℕ) (holders before noted : Set) (found : ℕ) → ((k : ℕ) → holders k ≡ r k || x k) → ((k : ℕ) → before k ≡ false)
     → ((k : ℕ) → k ≢ a → noted k ≡ before k || anyOf n t (beside r x a k)) → found ≡ lowestOrZero 256 (blocking holders noted a) → found ≡ writerBlocker n t r x a
-unfolding writerBlocker
-blocker-noted n t r x a holders before noted found eh eb en e = e ∙ lowest-same (blocking holders noted a) (blocking (holder r x) (standsBeside n t r x a) a) (λ k. unfold blocking holder standsBeside in go k (same? k a))
+unfolding writerBlocker blocking holder standsBeside
+blocker-noted n t r x a holders before noted found eh eb en e = e ∙ ap (lowestOrZero 256) (fun-ext (λ k. go k (same? k a)))
   where
     go : (k : ℕ) {i : Bool} → Same k a i → not i && holders k && not (noted k) ≡ not i && (r k || x k) && not (anyOf n t (beside r x a k))
     go k (same q) = refl

@@ -114,7 +114,7 @@ fn writer_blocker(
     blocker(holders, ChangeSet { words: noted }, writer)
 }
 
-// Whether nobody is in the way of a writer: one pass over the permits for each of them.
+// Whether nobody is in the way of any writer: one pass over the permits for each of them.
 pub fn few_permitted(permits: &[u8], count: usize, readers: ChangeSet, writers: ChangeSet) -> bool
     requires { ⌜ 4 * count ≤ length (now permits) ⌝ }
     ensures { λ r. ⌜ r ≡ entryFits count (permitAt (now (permits .entry))) (members readers) (members writers) ⌝ }

@@ -22,7 +22,8 @@ ghost use Rattle.layout.specs.Codec.{windowSize, decode, encode};
 ghost use Rattle.layout.specs.Memory.{soundBytes};
 ghost use Rattle.replies.specs.Gives.{Gives, written};
 
-// The lowest other holder whose lock clashes with the mode and that has no permit for the change that contains the mode; 0 where there is none.
+// The lowest other holder whose lock clashes with the mode and that has given no permit, to the change or to anybody, that contains it; 0
+// where there is none.
 fn lock_blocker(w: &[u8], change: u32, entry: u32, mode: u32) -> u32
     requires { ⌜ length (now w) ≡ windowSize ⌝ }
     requires { ⌜ soundBytes (now w) ≡ true ⌝ }

@@ -1,5 +1,5 @@
 -- Whom the permits of an entry let stand beside a writer: those to anybody and those that name the two. Assumes nothing.
-use mathlib.Core.Path.{_≡_, refl, sym, _∙_, ap, ap₂}
+use mathlib.Core.Path.{_≡_, refl, sym, _∙_, ap, ap₂, fun-ext}
 use mathlib.Core.Bool.{Bool, true, false, not, _&&_, _||_, and-true, and-false, or-false, or-assoc, or-comm, or-true, and-or-distrib-right, false≢true}
 use Prim.Native.Nat.{ℕ}
 use lib.Dec.{eqb}
@@ -14,7 +14,6 @@ use Rattle.rules.proofs.PairLaws.{blocking-parts}
 use Rattle.beside.specs.Permits.{anyOf}
 use Rattle.beside.specs.Beside.{containsHeld, beside, holder, otherHolder, standsBeside, writerBlocker, entryFits}
 use Rattle.beside.proofs.PlaceLaws.{any-same}
-use Rattle.beside.proofs.BlockerLaws.{lowest-same}
 use Rattle.many_permits.specs.Named.{involves, permitsAnybody, names, unserved, isNamed, blockerLeft, writersFit}
 
 -- whom a permit g, t, o names beside the writer a
@@ -100,8 +99,8 @@ module _ (n : ℕ) (t : ℕ → PermitRecord) (r x u v : Set) (a : ℕ) (left : 
 
   -- the lowest of those that are not named either
   pub lowest-unnamed : (named : Set) → ((k : ℕ) → named k ≡ anyOf n t (names r x a k)) → (found : ℕ) → found ≡ lowestOrZero 256 (blocking left named a) → found ≡ blockerLeft n t r x u v a
-  unfolding blockerLeft
-  lowest-unnamed named h found e = e ∙ lowest-same (blocking left named a) (blocking (unserved r x u v a) (isNamed n t r x a) a) (λ k. unfold blocking isNamed in rw (known k, h k))
+  unfolding blockerLeft blocking isNamed
+  lowest-unnamed named h found e = e ∙ ap (lowestOrZero 256) (fun-ext (λ k. rw (known k, h k)))
 
 -- the writers looked at with the permits to anybody set apart, and at once
 pub writers-entry : (n : ℕ) (t : ℕ → PermitRecord) (r x u v : Set) → ((k : ℕ) → u k ≡ anyOf n t (permitsAnybody 1 k)) → ((k : ℕ) → v k ≡ anyOf n t (permitsAnybody 2 k))
@@ -115,6 +114,5 @@ writers-entry n t r x u v hu hv found e = e ∙ all-ext _ _ 256 (λ a ha. ap (λ
     cell false h false m = rw (and-true h)
 
     at : (a : ℕ) → blockerLeft n t r x u v a ≡ writerBlocker n t r x a
-    at a = unfold blockerLeft writerBlocker in lowest-same (blocking (unserved r x u v a) (isNamed n t r x a) a) (blocking (holder r x) (standsBeside n t r x a) a) (λ b.
-        unfold blocking unserved otherHolder isNamed standsBeside in rw (split-any r x a b n t, hu a, hv a, hv b)
-        (cell (eqb b a) (holder r x b) (anyOf n t (permitsAnybody 2 b) || r b && anyOf n t (permitsAnybody 1 a) || x b && anyOf n t (permitsAnybody 2 a)) (anyOf n t (names r x a b))))
+    at a = unfold blockerLeft writerBlocker blocking unserved otherHolder isNamed standsBeside in ap (lowestOrZero 256) (fun-ext (λ b. rw (split-any r x a b n t, hu a, hv a, hv b)
+        (cell (eqb b a) (holder r x b) (anyOf n t (permitsAnybody 2 b) || r b && anyOf n t (permitsAnybody 1 a) || x b && anyOf n t (permitsAnybody 2 a)) (anyOf n t (names r x a b)))))

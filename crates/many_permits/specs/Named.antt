@@ -36,6 +36,6 @@ isNamed n t r x a b = anyOf n t (names r x a b)
 unfoldable pub blockerLeft : ℕ → (ℕ → PermitRecord) → Set → Set → Set → Set → ℕ → ℕ
 blockerLeft n t r x u v a = lowestOrZero 256 (blocking (unserved r x u v a) (isNamed n t r x a) a)
 
--- nobody is in the way of a writer
+-- nobody is in the way of any writer
 unfoldable pub writersFit : ℕ → (ℕ → PermitRecord) → Set → Set → Set → Set → Bool
 writersFit n t r x u v = allBelow 256 (λ a. not (x a) || eqb (blockerLeft n t r x u v a) 0)

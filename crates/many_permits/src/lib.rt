@@ -178,7 +178,7 @@ fn writer_blocker(
     blocker(left, named, writer)
 }
 
-// Whether nobody is in the way of a writer.
+// Whether nobody is in the way of any writer.
 fn writers_permitted(
     permits: &[u8],
     count: usize,

@@ -172,13 +172,13 @@ count-some (suc n) p h = go (p n) refl h (count-some n p)
 
 -- THE LOWEST, OR 0
 -- none passes, if 0 does not
-pub lowest-zero : (n : ℕ) (p : ℕ → Bool) → p 0 ≡ false → lowestOrZero n p ≡ 0 → anyBelow n p ≡ false
+pub lowest-zero : (n : ℕ) (p : ℕ → Bool) → p 0 ≡ false → lowestOrZero n p ≡ 0 → (k : ℕ) → k < n → p k ≡ false
 unfolding lowestOrZero
 lowest-zero n p z = go (anyBelow n p) refl
   where
-    go : (b : Bool) → anyBelow n p ≡ b → cond b (lowestBelow n p) 0 ≡ 0 → b ≡ false
+    go : (b : Bool) → anyBelow n p ≡ b → cond b (lowestBelow n p) 0 ≡ 0 → (k : ℕ) → k < n → p k ≡ false
     go true h e = absurd (false≢true (sym z ∙ ap p (sym e) ∙ lowest-hit p n h .1))
-    go false h e = refl
+    go false h e = anyBelow-none n p h
 
 pub zero-lowest : (n : ℕ) (p : ℕ → Bool) → anyBelow n p ≡ false → lowestOrZero n p ≡ 0
 unfolding lowestOrZero

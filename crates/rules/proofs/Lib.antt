@@ -20,7 +20,7 @@ pub mod SourceLaws
 -- a call turned back changes nothing, a blocked one its place in line at most; figures for any table size
 pub mod RuleLaws
 pub mod SizeLaws
--- the clashing pairs of a window
+-- the test for a clash, and the clashing pairs of a window
 pub mod PairLaws
 -- every call keeps a window sound (SoundStep.step-sound), one file for each kind of effect
 pub mod SoundParts

@@ -12,9 +12,9 @@ use Rattle.rules.specs.Line.{firstInLine, otherFirst}
 use Rattle.rules.specs.Calls.{Lock, done, blocked}
 use Rattle.rules.specs.Effects.{covers, leave, putHeld, lockBlocker, lockGranted, inTheWay, wait, lockEntry, effect}
 use Rattle.rules.specs.Refusals.{checks, firstFailed, settle, step}
-use Rattle.rules.proofs.BaseLaws.{none-below, Same, same, other, same?}
-use Rattle.rules.proofs.BoundLaws.{zero-lowest, lowest-some}
-use Rattle.rules.proofs.PairLaws.{blocking-parts}
+use Rattle.rules.proofs.BaseLaws.{Same, same, other, same?}
+use Rattle.rules.proofs.BoundLaws.{lowest-some}
+use Rattle.rules.proofs.PairLaws.{blocking-parts, nobody-blocks}
 use Rattle.rules.proofs.RuleLaws.{unrefused-by}
 use Rattle.rules.proofs.SoundLock.{grant}
 use Rattle.rules.proofs.SoundParts.{Sound}
@@ -54,8 +54,8 @@ other-some f c = go (same? f c)
 
 module _ (L : Limits) (W : Window) (z : Sound L W) (c e m : ℕ) where
   free-of-holders : AllPermit W c e m → lockBlocker W c e m ≡ 0
-  unfolding lockBlocker blockerOf
-  free-of-holders f = zero-lowest (suc W.given) _ (none-below (suc W.given) _ (λ d h q. let b = way-parts W c e m d q in false≢true (sym (b .2) ∙ f d (b .0) (b .1))))
+  unfolding lockBlocker blockerOf clashing
+  free-of-holders f = nobody-blocks (suc W.given) (clashing W e m) (λ x. permitted W.permits x c e m) c (λ d h. f d)
 
   pub blocker-none : lockBlocker W c e m ≡ 0 ↔ AllPermit W c e m
   blocker-none = (λ q d n h. ⊎-elim (λ f. absurd (false≢true (rw h at f))) (λ f. f) (grant L W z c e m q d n), free-of-holders)
@@ -112,7 +112,7 @@ module _ (L : Limits) (W : Window) (z : Sound L W) (c e m : ℕ) (passed : first
   pub lock-granted : step L W (Lock c e m) .answer ≡ 0 ↔ AllPermit W c e m × NoOtherFirst W c e
   lock-granted = (λ a. way-none L W z c e m .0 (lock-shown .0 a), λ f. lock-shown .1 (way-none L W z c e m .1 f))
 
--- what a lock answered 20 gives, and one that is not
+-- what a lock answered 20 gives
 module _ (W : Window) (c e m : ℕ) where
   effect-blocked : effect W (Lock c e m) .answer ≡ 20 → (effect W (Lock c e m) .number ≡ inTheWay W c e m) × (inTheWay W c e m ≢ 0)
   unfolding effect lockEntry lockGranted done blocked

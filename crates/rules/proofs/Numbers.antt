@@ -1,5 +1,5 @@
 -- Demand 2 of the second numbers, in words of the window: which changes a commit ends, how many an end has ended, who is in the way of a
--- commit, which number a new change gets, what the calls that look at the window say, and whose number is always 0. Assumes nothing.
+-- commit, which number a new change gets, what the calls that look at the window say, and whose number is always 0 or 0 unless blocked. Assumes nothing.
 use mathlib.Core.Path.{_≡_, refl, sym, _∙_, ap}
 use mathlib.Core.Logic.{_⊎_, ⊎-elim, _≢_}
 use mathlib.Core.Bool.{Bool, true, false, not, cond, _&&_, false≢true}
@@ -101,15 +101,15 @@ module _ (L : Limits) (W : Window) (z : Sound L W) where
 
 -- WHO IS IN THE WAY
 -- of the commit of a change: a member of its group that is not completed, or the leader of a wait or fall tie to a member
-pub data InTheWay (W : Window) (c d : ℕ) : Type 0 where
-  uncompleted : groupOf W c d ≡ true → W .status d ≢ 3 → InTheWay W c d
-  leads : (f : ℕ) → groupOf W c f ≡ true → tied W.ties isArrow d f ≡ true → InTheWay W c d
+pub data BlocksCommit (W : Window) (c d : ℕ) : Type 0 where
+  uncompleted : groupOf W c d ≡ true → W .status d ≢ 3 → BlocksCommit W c d
+  leads : (f : ℕ) → groupOf W c f ≡ true → tied W.ties isArrow d f ≡ true → BlocksCommit W c d
 
 -- the set that the rules take
-way-of : (W : Window) (c d : ℕ) → commitBlockers W (groupOf W c) d ≡ true → InTheWay W c d
+way-of : (W : Window) (c d : ℕ) → commitBlockers W (groupOf W c) d ≡ true → BlocksCommit W c d
 way-of W c d e = ⊎-elim (λ m. uncompleted (m .0) (m .1)) (λ m. leads (m .0) (m .2) (m .1)) (blocks W (groupOf W c) d e)
 
-of-way : (W : Window) (c d : ℕ) → InTheWay W c d → commitBlockers W (groupOf W c) d ≡ true
+of-way : (W : Window) (c d : ℕ) → BlocksCommit W c d → commitBlockers W (groupOf W c) d ≡ true
 unfolding commitBlockers
 of-way W c d (uncompleted g n) = or-left (groupOf W c d && not (eqb (W .status d) 3)) _ (rw (g, ne-eqb (W .status d) 3 n))
 of-way W c d (leads f g t) = leader-blocks W (groupOf W c) d f g t
@@ -135,7 +135,7 @@ end-blocked W false false false o e = refl
 
 -- "its second number is the lowest change number in that set": it is in the way, and nothing below it is
 pub blocked-number : (L : Limits) (W : Window) (c : ℕ) → step L W (Commit c) .answer ≡ 20
-    → InTheWay W c (step L W (Commit c) .number) × ((d : ℕ) → d < step L W (Commit c) .number → InTheWay W c d → ⊥)
+    → BlocksCommit W c (step L W (Commit c) .number) × ((d : ℕ) → d < step L W (Commit c) .number → BlocksCommit W c d → ⊥)
 unfolding step checks firstFailed _if_ effect commitChange
 blocked-number L W c e =
     let s = commitBlockers W (groupOf W c) in

@@ -2,16 +2,16 @@
 -- when each two have a permit. Assumes nothing.
 use mathlib.Core.Path.{_≡_, refl, sym, _∙_, ap}
 use mathlib.Core.Logic.{_≢_}
-use mathlib.Core.Bool.{Bool, true, false, not, _&&_, _||_, and-comm, or-comm}
+use mathlib.Core.Bool.{Bool, true, false, not, _&&_, _||_, and-comm, and-false, or-comm, false≢true}
 use Prim.Native.Nat.{ℕ, suc, _<_}
 use native.Mathlib.Omega.{arith}
 use lib.Dec.{ltb, eqb}
-use borrow.Author.Tests.{not-true, not-false, eqb-true, eqb-false, eq-eqb}
-use Rattle.rules.specs.Base.{allBelow}
+use borrow.Author.Tests.{not-true, not-false, eqb-true, eqb-false, eq-eqb, ne-eqb}
+use Rattle.rules.specs.Base.{allBelow, lowestOrZero}
 use Rattle.rules.specs.Sets.{Set}
 use Rattle.rules.specs.Window.{Window}
 use Rattle.rules.specs.Locks.{clash, permitted, clashing, blocking, blockerOf, eitherPermits, clashesPermitted}
-use Rattle.rules.proofs.BaseLaws.{and-left, and-right, both-ways, never, eqb-sym, allBelow-intro, allBelow-at, none-below, anyBelow-none}
+use Rattle.rules.proofs.BaseLaws.{and-left, and-right, both-ways, eqb-sym, allBelow-intro, allBelow-at, none-below}
 use Rattle.rules.proofs.BoundLaws.{all-ext, lowest-zero, zero-lowest}
 
 pub clash-swap : (a b : ℕ) → clash a b ≡ clash b a
@@ -25,9 +25,22 @@ blocking-parts clashes permits c d q =
     let u = and-left (not (eqb d c) && clashes d) _ q in
     (eqb-false d c (not-true _ (and-left (not (eqb d c)) _ u)), and-right (not (eqb d c)) _ u, not-true _ (and-right (not (eqb d c) && clashes d) _ q))
 
+-- nobody is in the way where every other that clashes has permitted
+pub nobody-blocks : (n : ℕ) (clashes permits : Set) (c : ℕ) → ((d : ℕ) → d < n → d ≢ c → clashes d ≡ true → permits d ≡ true) → lowestOrZero n (blocking clashes permits c) ≡ 0
+nobody-blocks n clashes permits c f = zero-lowest n (blocking clashes permits c) (none-below n (blocking clashes permits c) (λ d h q. let p = blocking-parts clashes permits c d q in false≢true (sym (p .2) ∙ f d h (p .0) (p .1))))
+
+-- and back, where 0 does not clash
+pub others-permit : (n : ℕ) (clashes permits : Set) (c : ℕ) → clashes 0 ≡ false → lowestOrZero n (blocking clashes permits c) ≡ 0 → (d : ℕ) → d < n → d ≢ c → clashes d ≡ true → permits d ≡ true
+unfolding blocking
+others-permit n clashes permits c z e d h o q = not-false _ (rw (ne-eqb d c o, q) at (lowest-zero n (blocking clashes permits c) (rw (z, and-false (not (eqb 0 c)))) e d h))
+
 -- two changes on an entry: a "clashing pair has a permit from one of the two to the other, or to anybody, that contains the taker's held mode"
 unfoldable pub pairPermitted : Window → ℕ → ℕ → ℕ → Bool
 pairPermitted W e a b = eqb a b || not (clash (W .held e a) (W .held e b)) || permitted W.permits a b e (W .held e b) || permitted W.permits b a e (W .held e a)
+
+-- each two
+unfoldable pub entryPermitted : Window → ℕ → Bool
+entryPermitted W e = allBelow (suc W.given) (λ a. allBelow (suc W.given) (λ b. pairPermitted W e a b))
 
 module _ (W : Window) (e : ℕ) where
   -- who is in the way of a lock that is held
@@ -63,25 +76,22 @@ module _ (W : Window) (e : ℕ) where
   -- where change 0 is not in the way nobody is
   unblocked : (b : ℕ) → free b ≡ true → pairPermitted W e 0 b ≡ true → (a : ℕ) → a < suc (W .given) → pairPermitted W e a b ≡ true
   unfolding free blockerOf
-  unblocked b f z a h = not-false _ (sym (pair-blocks a b) ∙ anyBelow-none (suc (W .given)) (InWay b) (lowest-zero (suc (W .given)) (InWay b) (pair-blocks 0 b ∙ ap not z) (eqb-true _ 0 f)) a h)
+  unblocked b f z a h = not-false _ (sym (pair-blocks a b) ∙ lowest-zero (suc (W .given)) (InWay b) (pair-blocks 0 b ∙ ap not z) (eqb-true _ 0 f) a h)
 
   -- and where each two have a permit nobody is
   permitted-free : (b : ℕ) → ((a : ℕ) → a < suc (W .given) → pairPermitted W e a b ≡ true) → free b ≡ true
-  unfolding free blockerOf
-  permitted-free b f = eq-eqb _ 0 (zero-lowest (suc (W .given)) (InWay b) (none-below (suc (W .given)) (InWay b) (λ a h q. never (pairPermitted W e a b) (f a h) (sym (pair-blocks a b) ∙ q))))
+  unfolding free blockerOf clashing pairPermitted eitherPermits
+  permitted-free b f = eq-eqb _ 0 (nobody-blocks (suc (W .given)) (clashing W e (W .held e b)) (λ d. eitherPermits W e d b) b (λ a h n q. rw (ne-eqb a b n, q) at (f a h)))
 
-  pairs : Bool
-  pairs = allBelow (suc W.given) (λ a. allBelow (suc W.given) (λ b. pairPermitted W e a b))
-
-  -- of one entry. Change 0 has no number of its own to be found by, but where it is in the way of b, then b is in its way
-  entry-pairs : allBelow (suc W.given) free ≡ pairs
-  unfolding pairs
+  -- of one entry. A number of 0 says nobody, so the test does not show change 0 in the way of b; but then b is in the way of 0
+  entry-pairs : allBelow (suc W.given) free ≡ entryPermitted W e
+  unfolding entryPermitted
   entry-pairs = both-ways _ _
       (λ h. allBelow-intro (suc (W .given)) _ (λ a p. allBelow-intro (suc (W .given)) _ (λ b q. unblocked b (allBelow-at (suc (W .given)) free h b q)
       (pair-swap 0 b ∙ unblocked 0 (allBelow-at (suc (W .given)) free h 0 (omega arith)) self b q) a p)))
       (λ h. allBelow-intro (suc (W .given)) free (λ b q. permitted-free b (λ a p. allBelow-at (suc (W .given)) _ (allBelow-at (suc (W .given)) (λ y. allBelow (suc W.given) (λ x. pairPermitted W e y x)) h a p) b q)))
 
 -- on every entry
-pub by-pairs : (W : Window) → clashesPermitted W ≡ allBelow W.entries (λ e. allBelow (suc W.given) (λ a. allBelow (suc W.given) (λ b. pairPermitted W e a b)))
-unfolding clashesPermitted free pairs
+pub by-pairs : (W : Window) → clashesPermitted W ≡ allBelow W.entries (entryPermitted W)
+unfolding clashesPermitted free
 by-pairs W = all-ext _ _ W.entries (λ e h. entry-pairs W e)

@@ -19,7 +19,7 @@ use Rattle.rules.specs.Effects.{every, entriesNamed, handOver, effect, l
 use Rattle.rules.specs.Refusals.{firstFailed, _if_, checks, settle, step}
 use Rattle.rules.proofs.BaseLaws.{and-both, and-left, and-right, no-true, allBelow-fails}
 use Rattle.rules.proofs.ListLaws.{any-find, any-member}
-use Rattle.rules.proofs.PairLaws.{pairPermitted, by-pairs}
+use Rattle.rules.proofs.PairLaws.{pairPermitted, entryPermitted, by-pairs}
 use Rattle.rules.proofs.PathLaws.{Arrows, cyclic-paths}
 use Rattle.rules.proofs.SaidLaws.{NoRefusal, Turned, merge, merged, merged-first, proper, Said, said-next, said-none, AnswerOf, turned}
 use Rattle.rules.proofs.SortLaws.{all-insert}
@@ -169,7 +169,7 @@ module _ (L : Limits) (W : Window) (z : Sound L W) where
   -- 10 in words, where both changes are live
   tells-clash : (f t e : ℕ) → not (live W f && live W t) ≡ false
       → Tells (not (clashesPermitted (handOver W f t (entriesNamed e)))) ((x : ℕ) × (a : ℕ) × (b : ℕ) × (pairPermitted (handOver W f t (entriesNamed e)) x a b ≡ false))
-  unfolding handOver live
+  unfolding handOver live entryPermitted
   tells-clash f t e l = let to = and-right (live W f) (live W t) (not-false _ l) in let X = handOver W f t (entriesNamed e) in (
     λ h. let x = allBelow-fails W.entries _ (sym (by-pairs X) ∙ not-true _ h) in let a = allBelow-fails (suc W.given) _ (x .1) in let b = allBelow-fails (suc W.given) _ (a .1) in (x .0, a .0, b .0, b .1),
     λ m. ap not (no-true _ (λ h. true≢false (sym (fits-all X (hand-held L W f t (entriesNamed e) z to) h (m .0) (m .1) (m .2)) ∙ m .3))),

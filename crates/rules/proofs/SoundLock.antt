@@ -1,37 +1,20 @@
 -- A lock that is granted keeps a window sound. Assumes nothing.
 use mathlib.Core.Path.{_≡_, refl, sym, _∙_}
 use mathlib.Core.Logic.{_⊎_, inl, inr, ⊎-elim, _≢_}
-use mathlib.Core.Bool.{Bool, true, false, not, cond, _&&_, _||_, false≢true, and-false, or-true}
-use Prim.Native.Nat.{ℕ, suc, _<_}
+use mathlib.Core.Bool.{Bool, true, false, not, cond, _&&_, _||_, false≢true, or-true}
+use Prim.Native.Nat.{ℕ, suc}
 use lib.Dec.{leb, ltb, eqb}
-use borrow.Author.Tests.{ne-eqb, eqb-true}
-use Rattle.rules.specs.Base.{lowestOrZero, put2}
-use Rattle.rules.specs.Sets.{Set}
+use borrow.Author.Tests.{eqb-true}
+use Rattle.rules.specs.Base.{put2}
 use Rattle.rules.specs.Window.{Limits, LogRecord, Window, withHeld, live, running}
-use Rattle.rules.specs.Locks.{clash, permitted, clashing, blocking, blockerOf}
+use Rattle.rules.specs.Locks.{clash, permitted, clashing, blockerOf}
 use Rattle.rules.specs.Line.{otherFirst}
 use Rattle.rules.specs.Sound.{heldSound, recordSound}
 use Rattle.rules.specs.Effects.{lockBlocker, inTheWay, lockGranted, putHeld}
-use Rattle.rules.proofs.BaseLaws.{and-right, anyBelow-none, Below, under, over as beyond, below, Same, same, other, same?, eqb-same, or-left, or-right}
-use Rattle.rules.proofs.BoundLaws.{lowest-zero, lowest-as}
+use Rattle.rules.proofs.BaseLaws.{Below, under, over as beyond, below, Same, same, other, same?, eqb-same, or-left, or-right}
 use Rattle.rules.proofs.ListLaws.{all-weaken}
-use Rattle.rules.proofs.PairLaws.{pairPermitted, clash-swap}
+use Rattle.rules.proofs.PairLaws.{pairPermitted, clash-swap, others-permit}
 use Rattle.rules.proofs.SoundParts.{Sound, held-nobody, clash-left, held-no-change, record-parts}
-
-no-blocker : (a b : Bool) → a && not b ≡ false → (not a ≡ true) ⊎ (b ≡ true)
-no-blocker true true e = inr refl
-no-blocker true false e = absurd (false≢true (sym e))
-no-blocker false b e = inl refl
-
--- change 0 holds nothing, so it is in nobody's way
-zero-free : (L : Limits) (W : Window) → Sound L W → (permits : Set) (c e m : ℕ) → blocking (clashing W e m) permits c 0 ≡ false
-unfolding blocking clashing
-zero-free L W k permits c e m = rw (held-nobody W (k .helds) (k .statuses 0) e, clash-left, and-false (not (eqb 0 c)))
-
--- a set that has the holders in the way, below any bound past the numbers given, has the same lowest
-pub blocker-read : (L : Limits) (W : Window) → Sound L W → (permits : Set) (c e m n : ℕ) → W .given < n → (s : Set) → ((d : ℕ) → d < n → s d ≡ blocking (clashing W e m) permits c d) → lowestOrZero n s ≡ blockerOf W permits c e m
-unfolding blockerOf
-blocker-read L W k permits c e m n h s f = lowest-as s (blocking (clashing W e m) permits c) (suc (W .given)) n h f (λ d a b. unfold blocking clashing in rw (held-no-change W (k .helds) e d a, clash-left, and-false (not (eqb d c))))
 
 -- no holder is in the way of a lock that is granted
 pub granted-free : (W : Window) (c e m : ℕ) → lockGranted W c e m ≡ true → lockBlocker W c e m ≡ 0
@@ -45,13 +28,16 @@ granted-free W c e m g = go (same? (lockBlocker W c e m) 0) (eqb-true _ 0 g)
 -- what a lock in whose way no holder is knows of each other holder
 module _ (L : Limits) (W : Window) (k : Sound L W) (c e m : ℕ) (free : lockBlocker W c e m ≡ 0) where
   pub grant : (d : ℕ) → d ≢ c → (not (clash (W .held e d) m) ≡ true) ⊎ (permitted W.permits d c e m ≡ true)
-  unfolding lockBlocker blockerOf clashing blocking
-  grant d n = go (below d (suc (W .given)))
+  unfolding lockBlocker blockerOf clashing
+  grant d n = go (clash (W .held e d) m) refl (below d (suc (W .given)))
     where
-      go : {b : Bool} → Below d (suc (W .given)) b → (not (clash (W .held e d) m) ≡ true) ⊎ (permitted W.permits d c e m ≡ true)
-      go (under h) = no-blocker (clash (W .held e d) m) (permitted W.permits d c e m)
-          (rw (ne-eqb d c n) at (anyBelow-none (suc (W .given)) (blocking (clashing W e m) (λ x. permitted W.permits x c e m) c) (lowest-zero (suc (W .given)) _ (zero-free L W k (λ x. permitted W.permits x c e m) c e m) free) d h))
-      go (beyond h) = inl (rw (held-no-change W (k .helds) e d h, clash-left))
+      nobody : clash (W .held e 0) m ≡ false
+      nobody = rw (held-nobody W (k .helds) (k .statuses 0) e) (clash-left m)
+
+      go : (b : Bool) → clash (W .held e d) m ≡ b → {x : Bool} → Below d (suc (W .given)) x → (not b ≡ true) ⊎ (permitted W.permits d c e m ≡ true)
+      go false q h = inl refl
+      go true q (under h) = inr (others-permit (suc (W .given)) (clashing W e m) (λ x. permitted W.permits x c e m) c nobody free d h n q)
+      go true q (beyond h) = absurd (false≢true (sym (clash-left m) ∙ rw (held-no-change W (k .helds) e d h) at q))
 
 module _ (L : Limits) (W : Window) (c e m : ℕ) (k : Sound L W)
     (mode : leb m 2 ≡ true) (entry : ltb e W.entries ≡ true) (lives : live W c ≡ true) (short : leb m (W .held e c) ≡ false) (free : lockBlocker W c e m ≡ 0) where

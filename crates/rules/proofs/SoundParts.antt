@@ -16,7 +16,7 @@ use Rattle.rules.specs.Ties.{isGroup, acyclic}
 use Rattle.rules.specs.Sound.{sound, parts, valueSound, statusSound, parentSound, heldSound, recordSound, permitSound, tieSound, waiterSound}
 use Rattle.rules.proofs.BaseLaws.{Below, under, over as beyond, below, and-left, and-right, and-both, or-left, or-right, or-cases, or-map, allBelow-at, allBelow-intro, within-of, or-none, and-four, and-five}
 use Rattle.rules.proofs.ListLaws.{all-weaken}
-use Rattle.rules.proofs.PairLaws.{pairPermitted, by-pairs}
+use Rattle.rules.proofs.PairLaws.{pairPermitted, entryPermitted, by-pairs}
 
 pub record Sound (L : Limits) (W : Window) : Type 0 where
   pub some : ltb 0 W.entries ≡ true
@@ -150,6 +150,7 @@ module _ (W : Window) (helds : (e c : ℕ) → heldSound W.entries (live W) W.he
   fits-right e a b h = or-left _ _ (or-left _ _ (or-right (eqb a b) _ (rw (h, clash-right))))
 
   pub fits-all : clashesPermitted W ≡ true → (e a b : ℕ) → pairPermitted W e a b ≡ true
+  unfolding entryPermitted
   fits-all f e a b = go (below e (W .entries)) (below a (suc (W .given))) (below b (suc (W .given)))
     where
       go : {x y z : Bool} → Below e (W .entries) x → Below a (suc (W .given)) y → Below b (suc (W .given)) z → pairPermitted W e a b ≡ true
@@ -165,6 +166,7 @@ unfolding pairPermitted withPermits
 fits-on W ps e a b f g = or-map (eqb a b || not (clash (W .held e a) (W .held e b)) || permitted W.permits a b e (W .held e b)) _ _ _ (or-map (eqb a b || not (clash (W .held e a) (W .held e b))) _ _ _ (λ z. z) f) g
 
 pub fit-locks : (W : Window) → ((e a b : ℕ) → pairPermitted W e a b ≡ true) → clashesPermitted W ≡ true
+unfolding entryPermitted
 fit-locks W f = by-pairs W ∙ allBelow-intro (W .entries) _ (λ e h. allBelow-intro (suc (W .given)) _ (λ a p. allBelow-intro (suc (W .given)) _ (λ b q. f e a b)))
 
 -- an entry that there is not has value 0

@@ -45,10 +45,6 @@ covers held mode = leb mode held
 unfoldable pub lockBlocker : Window → ℕ → ℕ → ℕ → ℕ
 lockBlocker W c e m = blockerOf W (λ d. permitted W.permits d c e m) c e m
 
--- a lock on an entry, in the place of the one held
-unfoldable pub putHeld : Window → ℕ → ℕ → ℕ → Window
-putHeld W e c m = withHeld W (put2 W.held e c m)
-
 -- who keeps a lock from being granted, 0 where nobody does: "A blocked lock reports it as second number; where there is none, it reports the first in line"
 unfoldable pub inTheWay : Window → ℕ → ℕ → ℕ → ℕ
 inTheWay W c e m = cond (eqb (lockBlocker W c e m) 0) (otherFirst W.line c e) (lockBlocker W c e m)
@@ -56,6 +52,10 @@ inTheWay W c e m = cond (eqb (lockBlocker W c e m) 0) (otherFirst W.line c e) (l
 -- "a lock not already covered is granted exactly when every clashing holder permits it and no other change is first in line"
 unfoldable pub lockGranted : Window → ℕ → ℕ → ℕ → Bool
 lockGranted W c e m = eqb (inTheWay W c e m) 0
+
+-- a lock on an entry, in the place of the one held
+unfoldable pub putHeld : Window → ℕ → ℕ → ℕ → Window
+putHeld W e c m = withHeld W (put2 W.held e c m)
 
 -- "A lock call that would be blocked puts its change at the end of that entry's line, with its mode"
 unfoldable pub wait : Window → ℕ → ℕ → ℕ → Window

@@ -1,4 +1,4 @@
--- docs/RULES.md, "Locks" and "Permits": which locks clash, who permits whom, and the permits kept in order. Assumes nothing.
+-- docs/RULES.md, "Locks", "Permits" and "Who is in the way": which locks clash, who permits whom, who is in the way of a lock, and the permits kept in order. Assumes nothing.
 use mathlib.Core.Bool.{Bool, not, cond, _&&_, _||_}
 use mathlib.Core.List.{List}
 use Prim.Native.Nat.{ℕ, suc}

@@ -37,7 +37,7 @@ pub extern "C" fn window_complete(window: &mut [u8], change: u32) -> Reply
     calls::complete(window, change)
 }
 
-// A lock on an entry, to read (1) or to write (2).
+// A lock on an entry, to read (1) or to write (2); where it is blocked the second number says who is in the way.
 #[no_mangle]
 pub extern "C" fn window_lock(window: &mut [u8], change: u32, entry: u32, mode: u32) -> Reply
     ensures { λ r. ⌜ Gives (perform (now (window .entry)) (Lock change entry mode)) r (now (window .exit)) ⌝ }

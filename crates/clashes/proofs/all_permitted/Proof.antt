@@ -8,9 +8,10 @@ use borrow.Author.Needs.{needs}
 use Rattle.rules.specs.Base.{allBelow}
 use Rattle.rules.specs.Window.{Window}
 use Rattle.layout.specs.Records.{permitAt}
+use Rattle.rules.proofs.PairLaws.{entryPermitted, by-pairs}
 use Rattle.rules.proofs.TurnLaws.{none-yet, turn-failed, turn-passed, turns-done}
 use Rattle.clashes.specs.LocksAndPermits.{LocksAndPermits}
-use Rattle.clashes.proofs.ClashLaws.{entryPermitted, by-entries, lower-last, turn-quiet, turn-found}
+use Rattle.clashes.proofs.ClashLaws.{lower-last, turn-quiet, turn-found}
 use Rattle.clashes.proofs.all_permitted.Statement.{statement}
 use Rattle.clashes.proofs.all_permitted.Tie as tie
 
@@ -34,7 +35,7 @@ returns c W h =
     turn-failed (W .entries) (entryPermitted W) (l .entry) (one .result) (rw (h .entry-count) (omega arith))
     (turn-found (a .locks .now) (a .permits .now) (a .entries) (a .count) W h (l .entry) (one .result) (l .next) (from .result) (to .result) (omega arith) (l .inv .2) (from .ensures) (to .ensures) (one .ensures))
     (c .if2 .taken)
-    ∙ sym (by-entries W)
+    ∙ sym (by-pairs W)
 
 loop-again : tie.Need-loop-again Inv-loop μ-loop
 loop-again c =
@@ -62,7 +63,7 @@ loop-again c =
 returns-2 : tie.Need-returns-2 Inv-loop μ-loop
 returns-2 c W h =
     let l = c .before .loop in
-    turns-done (W .entries) (entryPermitted W) (l .entry) (l .inv .3 W h) (rw (h .entry-count) (omega arith)) ∙ sym (by-entries W)
+    turns-done (W .entries) (entryPermitted W) (l .entry) (l .inv .3 W h) (rw (h .entry-count) (omega arith)) ∙ sym (by-pairs W)
 
 pub all-permitted-spec : {M : Type 1} → statement M
 all-permitted-spec =
