@@ -292,7 +292,7 @@ fn random_lists(r: &mut Random, calls: usize, tally: &mut Tally) {
     println!("{made} random calls, {} lists ended in walks", tally.walked);
     let Tally { longest, turns, .. } = *tally;
     println!("at most {longest} in line; of locks and lines {turns:?}");
-    assert!(longest > 20 && turns.least() > 100, "too few stood in line");
+    assert!(longest > 20 && turns.least() > 100, "something was put to the test too seldom");
 }
 
 /// Who stands in line after calls on a window with three in line: who completes or ends leaves, and the others close up
