@@ -1,6 +1,6 @@
 // The test for a clash: who is in the way of a change, by who has permitted; and whether a permit's operations contain a mode.
 use sets::ChangeSet;
-use words::remove;
+use words::insert;
 ghost use mathlib.Core.Path.{_≡_};
 ghost use Rattle.rules.specs.Base.{lowestOrZero};
 ghost use Rattle.rules.specs.Locks.{contains, blocking};
@@ -21,13 +21,14 @@ pub fn contains_held(operations: u8, reads: bool, writes: bool) -> bool
     (reads & contains(operations, 1)) | (writes & contains(operations, 2))
 }
 
-// The lowest of those whose locks clash with a change's that is another and has not permitted; 0 where there is none.
+// The lowest of those whose locks clash with a change's that is another and has not permitted; 0 where there is none. A change permits
+// itself.
 pub fn blocker(clashing: ChangeSet, permitting: ChangeSet, change: u8) -> u32
     ensures { λ r. ⌜ r ≡ lowestOrZero 256 (blocking (members clashing) (members permitting) change) ⌝ }
 {
-    let mut words = clashing.minus(permitting).words;
-    remove(&mut words, change);
-    let left = ChangeSet { words };
+    let mut words = permitting.words;
+    insert(&mut words, change);
+    let left = clashing.minus(ChangeSet { words });
     if left.is_empty() {
         return 0;
     }

@@ -10,19 +10,19 @@ returns : tie.Need-returns
 unfolding members
 returns c =
     let a = c .before .before .before .before .before .before .args in
-    let left = c .before .before .before .before .before .minus in
-    let rest = c .before .before .remove in
+    let with = c .before .before .before .insert in
+    let rest = c .before .before .minus in
     let none = c .before .is-empty in
-    nobody-left (members (a .clashing)) (members (a .permitting)) (members (left .result)) (wordsHave (rest .last .0)) (a .change) (left .ensures) (rest .ensures .1) (none .result) (none .ensures) (c .if1 .taken)
+    nobody-left (members (a .clashing)) (members (a .permitting)) (wordsHave (with .last .0)) (members (rest .result)) (a .change) (with .ensures .1) (rest .ensures) (none .result) (none .ensures) (c .if1 .taken)
 
 returns-2 : tie.Need-returns-2
 unfolding members
 returns-2 c =
     let a = c .before .before .before .before .before .before .before .args in
-    let left = c .before .before .before .before .before .before .minus in
-    let rest = c .before .before .before .remove in
+    let with = c .before .before .before .before .insert in
+    let rest = c .before .before .before .minus in
     let none = c .before .before .is-empty in
-    lowest-left (members (a .clashing)) (members (a .permitting)) (members (left .result)) (wordsHave (rest .last .0)) (a .change) (left .ensures) (rest .ensures .1) (none .result) (c .lowest .result)
+    lowest-left (members (a .clashing)) (members (a .permitting)) (wordsHave (with .last .0)) (members (rest .result)) (a .change) (with .ensures .1) (rest .ensures) (none .result) (c .lowest .result)
     (none .ensures) (c .before .if1 .left) (c .lowest .ensures)
 
 pub blocker-spec : {M : Type 1} → statement M
