@@ -61,9 +61,9 @@ pub delegated : Answered (two (Lock 1 0 2 ∷ Write 1 0 7 ∷ Delegate 1 2 65535
 unfolding rules
 delegated e c r p t = refl
 
--- "1 writes 7, permits 2 to write, 2 locks and writes 9; abort 1: value 0; abort 2: value 7"
+-- "1 writes 7, permits 2 to write, 2 locks and writes 9; abort 1: value 0; abort 2": by A3 of document 02, "value 0 after both aborts"
 pub two-writers : Answered (two (Lock 1 0 2 ∷ Write 1 0 7 ∷ Permit 1 2 0 2 ∷ Lock 2 0 2 ∷ Write 2 0 9 ∷ Abort 1 ∷ Value 0 ∷ Abort 2 ∷ Value 0 ∷ []))
-    (begun ((0, 0) ∷ (0, 0) ∷ (0, 0) ∷ (0, 0) ∷ (0, 0) ∷ (0, 1) ∷ (0, 0) ∷ (0, 1) ∷ (0, 7) ∷ []))
+    (begun ((0, 0) ∷ (0, 0) ∷ (0, 0) ∷ (0, 0) ∷ (0, 0) ∷ (0, 1) ∷ (0, 0) ∷ (0, 1) ∷ (0, 0) ∷ []))
 unfolding rules
 two-writers e c r p t = refl
 
@@ -91,6 +91,24 @@ pub fallen : Answered (two (Initiate 0 ∷ Depend 2 1 2 ∷ Depend 1 1 3 ∷ Abo
     (begun ((0, 3) ∷ (0, 0) ∷ (0, 0) ∷ (0, 2) ∷ (0, 5) ∷ (0, 1) ∷ (0, 0) ∷ (21, 0) ∷ []))
 unfolding rules
 fallen e c r p t = refl
+
+-- a withdrawal strikes no record before the oldest of its own
+pub earlier-stays : Answered (two (Lock 1 0 2 ∷ Write 1 0 7 ∷ Permit 1 2 0 2 ∷ Lock 2 0 2 ∷ Write 2 0 9 ∷ Abort 2 ∷ Value 0 ∷ Abort 1 ∷ Value 0 ∷ []))
+    (begun ((0, 0) ∷ (0, 0) ∷ (0, 0) ∷ (0, 0) ∷ (0, 0) ∷ (0, 1) ∷ (0, 7) ∷ (0, 1) ∷ (0, 0) ∷ []))
+unfolding rules
+earlier-stays e c r p t = refl
+
+-- nor one on another entry
+pub entries-apart : Answered (two (Lock 1 0 2 ∷ Write 1 0 7 ∷ Lock 2 1 2 ∷ Write 2 1 9 ∷ Abort 1 ∷ Value 1 ∷ Abort 2 ∷ Value 1 ∷ []))
+    (begun ((0, 0) ∷ (0, 0) ∷ (0, 0) ∷ (0, 0) ∷ (0, 1) ∷ (0, 9) ∷ (0, 1) ∷ (0, 0) ∷ []))
+unfolding rules
+entries-apart e c r p t = refl
+
+-- the partner lives on with its lock: what it writes then is its own, and is withdrawn with it
+pub partner-goes-on : Answered (two (Lock 1 0 2 ∷ Write 1 0 7 ∷ Permit 1 2 0 2 ∷ Lock 2 0 2 ∷ Write 2 0 9 ∷ Abort 1 ∷ Status 2 ∷ Write 2 0 8 ∷ Value 0 ∷ Abort 2 ∷ Value 0 ∷ []))
+    (begun ((0, 0) ∷ (0, 0) ∷ (0, 0) ∷ (0, 0) ∷ (0, 0) ∷ (0, 1) ∷ (0, 2) ∷ (0, 0) ∷ (0, 8) ∷ (0, 1) ∷ (0, 0) ∷ []))
+unfolding rules
+partner-goes-on e c r p t = refl
 
 -- a hand-over, a tie and the first entry together: the withdrawal gives entry 0 its old value back
 pub tied-and-delegated : Answered (two (Lock 1 0 2 ∷ Write 1 0 7 ∷ Lock 1 1 2 ∷ Write 1 1 8 ∷ Delegate 1 2 0 ∷ Depend 3 1 2 ∷ Abort 1 ∷ Value 0 ∷ Value 1 ∷ []))

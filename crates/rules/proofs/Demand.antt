@@ -6,10 +6,10 @@ use mathlib.Core.List.{List, [], _∷_, _++_}
 use Prim.Native.Nat.{ℕ, suc, _≤_, _<_}
 use native.Mathlib.Omega.{arith}
 use Rattle.rules.specs.Base.{anyBelow, all, outside}
-use Rattle.rules.specs.Window.{Limits, Window, fresh, withHeld, withLine, withPermits, withTies, withValue, isLive, noChange, live}
+use Rattle.rules.specs.Window.{Limits, Window, fresh, withHeld, withLine, withPermits, withTies, withValue, isLive, noChange, live, withLog}
 use Rattle.rules.specs.Ties.{grouped, groupOf}
 use Rattle.rules.specs.Calls.{Call, Open, fits}
-use Rattle.rules.specs.Effects.{endAll, addChange, handOver}
+use Rattle.rules.specs.Effects.{endAll, addChange, handOver, withdraw}
 use Rattle.rules.specs.Refusals.{step}
 use Rattle.rules.specs.Events.{Event, Action, opening, initiating, nothing, locking, permitting, delegating, tying, actionOf, action, isOpening, isTying, highestAfter}
 use Rattle.rules.specs.Lists.{status, remember, event, history, tieMade, enter, strike, book, highest, isGrouped, firstOfGroup, liveGroups, walks, Demand3After, Demand3}
@@ -51,10 +51,10 @@ opening-fresh W (granted g t x o k) e = absurd (false≢true e)
 opening-fresh W (handed g t x k) e = absurd (false≢true e)
 opening-fresh W (depended j m g k a b) e = absurd (false≢true e)
 opening-fresh W (committed c k a b) e = absurd (false≢true e)
-opening-fresh W (aborted c k v a) e = absurd (false≢true e)
+opening-fresh W (aborted c k a) e = absurd (false≢true e)
 
 given-next : (W : Window) {d : Action} {k : ℕ} {X : Window} → Move W d k X → isOpening d ≡ false → highestAfter d k (W .given) ≡ X .given
-unfolding isOpening highestAfter addChange withHeld withLine withPermits withTies withValue handOver endAll
+unfolding isOpening highestAfter addChange withHeld withLine withPermits withTies withValue handOver endAll withdraw withLog
 given-next W (opened n k) e = absurd (true≢false e)
 given-next W (started p) e = omega arith
 given-next W (calm k X q) e = sym (q .given)
@@ -63,7 +63,7 @@ given-next W (granted g t x o k) e = refl
 given-next W (handed g t x k) e = refl
 given-next W (depended j m g k a b) e = refl
 given-next W (committed c k a b) e = refl
-given-next W (aborted c k v a) e = refl
+given-next W (aborted c k a) e = refl
 
 module _ (L : Limits) where
   -- an open answered 0

@@ -7,11 +7,11 @@ use lib.Dec.{ltb, eqb}
 use borrow.Author.Tests.{eqb-true, ne-eqb}
 use Rattle.rules.specs.Base.{keep}
 use Rattle.rules.specs.Sets.{Set, putAll}
-use Rattle.rules.specs.Window.{Limits, PermitRecord, Window, withValue, withHeld, withLine, withPermits, withTies, isEnded, live, noChange}
+use Rattle.rules.specs.Window.{Limits, PermitRecord, Window, withValue, withHeld, withLine, withPermits, withTies, isEnded, live, noChange, withLog}
 use Rattle.rules.specs.Locks.{clash, permitted}
 use Rattle.rules.specs.Ties.{groupOf, endSet}
 use Rattle.rules.specs.Sound.{permitSound}
-use Rattle.rules.specs.Effects.{released, permitStays, permitsLeft, endAll, addChange, handOver}
+use Rattle.rules.specs.Effects.{released, permitStays, permitsLeft, endAll, addChange, handOver, withdraw}
 use Rattle.rules.specs.Events.{Action, isOpening}
 use Rattle.rules.specs.Lists.{Book, enter, strike}
 use Rattle.rules.proofs.BaseLaws.{or-cases, and-right}
@@ -78,7 +78,7 @@ module _ (L : Limits) (W : Window) (z : Sound L W) where
   calm-book X q = λ i. record { held = sym (q .held) i; permits = sym (q .permits) i }
 
   pub book-next : {d : Action} {n : ℕ} {X : Window} → Move W d n X → Sound L X → (st : ℕ → ℕ) → ((c : ℕ) → st c ≡ shownStatus X c) → isOpening d ≡ false → strike st (enter d (bookOf W)) ≡ bookOf X
-  unfolding bookOf enter addChange withHeld withLine withPermits withTies handOver isOpening endAll withValue
+  unfolding bookOf enter addChange withHeld withLine withPermits withTies handOver isOpening endAll withdraw withValue withLog
   book-next (opened n j) y st sh o = absurd (true≢false o)
   book-next (started p) y st sh o = strike-same L (addChange W p) y st sh
   book-next (calm j X q) y st sh o = ap (strike st) (calm-book X q) ∙ strike-same L X y st sh
@@ -87,7 +87,7 @@ module _ (L : Limits) (W : Window) (z : Sound L W) where
   book-next (handed f t e j) y st sh o = strike-same L _ y st sh
   book-next (depended i l f j a b) y st sh o = strike-same L _ y st sh
   book-next (committed c j l b) y st sh o = strike-ended L W _ (groupOf W c) 4 (commit-ending L W z c l b) z st sh
-  book-next (aborted c j v l) y st sh o = strike-ended L W _ (endSet W c) 5 (abort-ending L W z c v l) z st sh
+  book-next (aborted c j l) y st sh o = strike-ended L W _ (endSet W c) 5 (abort-ending L W z c l) z st sh
 
   pub clash-permitted : (e a b : ℕ) → a ≢ b → clash (W .held e a) (W .held e b) ≡ true → permitted (W .permits) a b e (W .held e b) || permitted (W .permits) b a e (W .held e a) ≡ true
   unfolding pairPermitted

@@ -9,9 +9,9 @@ use lib.Dec.{eqb}
 use borrow.Author.Tests.{eqb-true}
 use Rattle.rules.specs.Base.{put, anyBelow, outside}
 use Rattle.rules.specs.Sets.{Set, putAll, reach}
-use Rattle.rules.specs.Window.{Limits, TieRecord, Window, tieKey, withValue, withHeld, withLine, withPermits, withTies, isEnded, live, noChange}
+use Rattle.rules.specs.Window.{Limits, TieRecord, Window, tieKey, withValue, withHeld, withLine, withPermits, withTies, isEnded, live, noChange, withLog}
 use Rattle.rules.specs.Ties.{isGroup, isFall, isArrow, tied, grouped, falling, makeTie, addTie, groupOf, endSet}
-use Rattle.rules.specs.Effects.{commitBlockers, tieStays, tiesLeft, endAll, addChange, handOver}
+use Rattle.rules.specs.Effects.{commitBlockers, tieStays, tiesLeft, endAll, addChange, handOver, withdraw}
 use Rattle.rules.specs.Events.{Action, isTying, isOpening}
 use Rattle.rules.proofs.BaseLaws.{or-left, or-right, or-map, and-left, and-right, eqb-same, Same, same, other, same?, Below, under, over, below}
 use Rattle.rules.proofs.DemandMoves.{shownStatus, Calm, Move, opened, started, calm, locked, granted, handed, depended, committed, aborted}
@@ -120,9 +120,9 @@ module _ (L : Limits) (W : Window) (z : Sound L W) where
       not-aborted : _≡_ {A = ℕ} 4 5 → ⊥
       not-aborted q = omega arith
 
-  pub abort-ending : (c : ℕ) (v : ℕ → ℕ) → live W c ≡ true → Ending W (endAll 5 (endSet W c) (withValue W v)) (endSet W c) 5
-  unfolding endSet endAll putAll withValue shownStatus live noChange falling isFall
-  abort-ending c v lc = record {
+  pub abort-ending : (c : ℕ) → live W c ≡ true → Ending W (endAll 5 (endSet W c) (withdraw (endSet W c) W)) (endSet W c) 5
+  unfolding endSet endAll putAll withdraw withValue withLog shownStatus live noChange falling isFall
+  abort-ending c lc = record {
     way = inr refl;
     ends = end-ends 5 g inside;
     stays = λ d e h. end-stays 5 g d e;
@@ -186,7 +186,7 @@ module _ (L : Limits) (W : Window) (z : Sound L W) where
   endingOf (handed f t e k) o = (none, 4, same-ending _ refl refl (λ i a b t. t))
   endingOf (depended i l f k a b) o = (none, 4, same-ending _ refl refl (tie-old (makeTie i l f) (W .ties)))
   endingOf (committed c k l b) o = (groupOf W c, 4, commit-ending c l b)
-  endingOf (aborted c k v l) o = (endSet W c, 5, abort-ending c v l)
+  endingOf (aborted c k l) o = (endSet W c, 5, abort-ending c l)
 
 -- a tie just made stands
 pub record New (X : Window) (i l f : ℕ) : Type 0 where
@@ -224,4 +224,4 @@ fresh-tie W (handed g t x k) i l f e = absurd (false≢true e)
 fresh-tie W (depended j m g k a b) i l f e = let u = and-left (eqb i j && eqb l m) (eqb f g) e in
     rw (eqb-true i j (and-left (eqb i j) _ u), eqb-true l m (and-right (eqb i j) _ u), eqb-true f g (and-right (eqb i j && eqb l m) _ e)) (new-tie W j m g a b)
 fresh-tie W (committed c k a b) i l f e = absurd (false≢true e)
-fresh-tie W (aborted c k v a) i l f e = absurd (false≢true e)
+fresh-tie W (aborted c k a) i l f e = absurd (false≢true e)

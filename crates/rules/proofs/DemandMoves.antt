@@ -13,7 +13,7 @@ use Rattle.rules.specs.Locks.{makePermit, addPermit}
 use Rattle.rules.specs.Ties.{makeTie, addTie, groupOf, endSet}
 use Rattle.rules.specs.Line.{lineLeft}
 use Rattle.rules.specs.Calls.{Call, Open, Initiate, Begin, Complete, Lock, Read, Write, Permit, Delegate, Depend, Commit, Abort, Status, Parent, Value, Outcome, done, unchanged, blocked}
-use Rattle.rules.specs.Effects.{effect, leave, completeChange, covers, lockGranted, inTheWay, wait, lockEntry, writeEntry, entriesNamed, handOver, commitChange, abortChange, addChange, putHeld, commitBlockers, commitGroup, abortAll, endAll}
+use Rattle.rules.specs.Effects.{effect, leave, completeChange, covers, lockGranted, inTheWay, wait, lockEntry, writeEntry, entriesNamed, handOver, commitChange, abortChange, addChange, putHeld, commitBlockers, commitGroup, abortAll, endAll, withdraw}
 use Rattle.rules.specs.Refusals.{step, settle, checks, firstFailed, _if_}
 use Rattle.rules.specs.Events.{Action, opening, initiating, nothing, locking, permitting, delegating, tying, actionOf}
 use Rattle.rules.proofs.BaseLaws.{and-both, and-left, and-right, Same, same, other, same?}
@@ -53,7 +53,7 @@ pub data Move (W : Window) : Action → ℕ → Window → Type 0 where
   handed : (f t e k : ℕ) → Move W (delegating f t e) k (handOver W f t (entriesNamed e))
   depended : (i l f k : ℕ) → live W l ≡ true → live W f ≡ true → Move W (tying i l f) k (withTies W (addTie (makeTie i l f) (W .ties)))
   committed : (c k : ℕ) → live W c ≡ true → anyBelow (suc (W .given)) (commitBlockers W (groupOf W c)) ≡ false → Move W nothing k (endAll 4 (groupOf W c) W)
-  aborted : (c k : ℕ) (v : ℕ → ℕ) → live W c ≡ true → Move W nothing k (endAll 5 (endSet W c) (withValue W v))
+  aborted : (c k : ℕ) → live W c ≡ true → Move W nothing k (endAll 5 (endSet W c) (withdraw (endSet W c) W))
 
 -- values, the log and the lines play no part
 calm-line : (W : Window) (l : List LineRecord) → Calm W (withLine W l)
@@ -172,13 +172,13 @@ module _ (L : Limits) (W : Window) (z : Sound L W) where
 
   abort-moves : (c : ℕ) → noChange W c ≡ false → Moved W nothing (effect W (Abort c))
   unfolding effect abortChange done unchanged abortAll
-  abort-moves c h = go _ _ (eqb (W .status c) 5) refl (eqb (W .status c) 4) refl
+  abort-moves c h = go _ (eqb (W .status c) 5) refl (eqb (W .status c) 4) refl
     where
-      go : (i : ℕ) (v : ℕ → ℕ) (a : Bool) → eqb (W .status c) 5 ≡ a → (b : Bool) → eqb (W .status c) 4 ≡ b
-          → Moved W nothing (cond a (done 0 W) (cond b (unchanged 21 0 W) (done i (endAll 5 (endSet W c) (withValue W v)))))
-      go i v true p b q = idle 0
-      go i v false p true q = idle 0
-      go i v false p false q = aborted c i v (live-of L W z c h q p)
+      go : (i : ℕ) (a : Bool) → eqb (W .status c) 5 ≡ a → (b : Bool) → eqb (W .status c) 4 ≡ b
+          → Moved W nothing (cond a (done 0 W) (cond b (unchanged 21 0 W) (done i (endAll 5 (endSet W c) (withdraw (endSet W c) W)))))
+      go i true p b q = idle 0
+      go i false p true q = idle 0
+      go i false p false q = aborted c i (live-of L W z c h q p)
 
   does : (c : Call) → Passed (checks L W c) → Moved W (actionOf c) (effect W c)
   unfolding effect actionOf checks _if_ done running writeEntry completeChange leave withStatus withLine outside

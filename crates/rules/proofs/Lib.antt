@@ -22,6 +22,8 @@ pub mod RuleLaws
 pub mod SizeLaws
 -- the test for a clash, and the clashing pairs of a window
 pub mod PairLaws
+-- what a withdrawal makes of values and log, record by record
+pub mod UndoLaws
 -- every call keeps a window sound (SoundStep.step-sound), one file for each kind of effect
 pub mod SoundParts
 pub mod SoundPlain
@@ -32,7 +34,7 @@ pub mod SoundDelegate
 pub mod SoundDepend
 pub mod SoundEnd
 pub mod SoundStep
--- groups, the set that an abort ends and arrows, by paths; demand 2: when a change commits, what a withdrawal puts back, when a lock is granted and whom a blocked one names, what a lock does to the lines
+-- groups, the set that an abort ends and arrows, by paths; demand 2: when a change commits, what a withdrawal puts back and strikes, when a lock is granted and whom a blocked one names, what a lock does to the lines
 pub mod Promises
 pub mod LockPromises
 pub mod LineWords

@@ -1,10 +1,10 @@
 -- Tests of all or some of a list, of which a part is kept, of which each is changed, to which one is added; how long they are. Assumes nothing.
-use mathlib.Core.Path.{_≡_, refl, _∙_, ap}
+use mathlib.Core.Path.{_≡_, refl, _∙_, ap, sym}
 use mathlib.Core.Logic.{⊎-elim}
-use mathlib.Core.Bool.{Bool, true, false, not, cond, _&&_, _||_, false≢true, true≢false}
+use mathlib.Core.Bool.{Bool, true, false, not, cond, _&&_, _||_, false≢true, true≢false, or-assoc}
 use mathlib.Core.List.{List, [], _∷_, _++_, map, List·Memᴰ, List·Memᴰ·head, List·Memᴰ·tail}
 use Prim.Native.Nat.{ℕ, zero, suc, _+_, _≤_, _<_}
-use native.Mathlib.Nat.{not-suc-le-zero, le-of-suc-le-suc}
+use native.Mathlib.Nat.{zero-add, suc-add, not-suc-le-zero, le-of-suc-le-suc}
 use native.Mathlib.Numerals.{add-one}
 use native.Mathlib.Omega.{arith}
 use lib.ListN.{length, getD, length-append}
@@ -21,6 +21,16 @@ module _ {ℓ} {A : Type ℓ} where
       go : (b : Bool) → q x ≡ b → all r (keep q l) ≡ true → all r (cond b (x ∷ keep q l) (keep q l)) ≡ true
       go true h ih = and-both (r x) (all r (keep q l)) (f x (and-left (p x) (all p l) e) h) ih
       go false h ih = ih
+
+  -- those kept of two lists, and of one that passes throughout
+  pub keep-join : (q : A → Bool) (l m : List A) → keep q (l ++ m) ≡ keep q l ++ keep q m
+  unfolding keep
+  keep-join q [] m = refl
+  keep-join q (x ∷ l) m = go (q x) (keep-join q l m)
+    where
+      go : (b : Bool) → keep q (l ++ m) ≡ keep q l ++ keep q m → cond b (x ∷ keep q (l ++ m)) (keep q (l ++ m)) ≡ cond b (x ∷ keep q l) (keep q l) ++ keep q m
+      go true h = ap (λ (t : List A). x ∷ t) h
+      go false h = h
 
   pub any-keep-up : (p q : A → Bool) → ((x : A) → p x ≡ true → q x ≡ true) → (l : List A) → any p l ≡ true → any p (keep q l) ≡ true
   unfolding any keep
@@ -98,6 +108,11 @@ module _ {ℓ} {A : Type ℓ} where
   find p q l e h = let m = any-find p l e in (m .0, m .2, all-member q (m .1) h)
 
   -- two lists, one after the other
+  pub any-join : (p : A → Bool) (l m : List A) → any p (l ++ m) ≡ any p l || any p m
+  unfolding any
+  any-join p [] m = refl
+  any-join p (x ∷ l) m = ap (λ b. p x || b) (any-join p l m) ∙ sym (or-assoc (p x) (any p l) (any p m))
+
   pub all-join : (p : A → Bool) (l m : List A) → all p l ≡ true → all p m ≡ true → all p (l ++ m) ≡ true
   unfolding all
   all-join p [] m d e = e
@@ -162,6 +177,16 @@ module _ {ℓ} {A : Type ℓ} where
 
   pub fewer : (q : A → Bool) (l : List A) (n : ℕ) → not (exceeds (length l) n) ≡ true → not (exceeds (length (keep q l)) n) ≡ true
   fewer q l n e = over-less (length l) (length (keep q l)) n (length-keep q l) e
+
+-- a table in two parts, and with one place more
+pub table-append {ℓ} : {A : Type ℓ} (m n i : ℕ) (f : ℕ → A) → table (m + n) i f ≡ table m i f ++ table n (i + m) f
+unfolding table
+table-append zero n i f = let e : i + 0 ≡ i = omega arith in rw (zero-add n, e)
+table-append (suc m) n i f = let e : suc i + m ≡ i + suc m = omega arith in rw (suc-add m n) (ap (λ l. f i ∷ l) (table-append m n (suc i) f ∙ rw e))
+
+pub table-more {ℓ} : {A : Type ℓ} (n : ℕ) (f : ℕ → A) → table (suc n) 0 f ≡ table n 0 f ++ (f n ∷ [])
+unfolding table
+table-more n f = ap (λ k. table k 0 f) (sym (add-one n)) ∙ table-append n 1 0 f ∙ ap (λ k. table n 0 f ++ (f k ∷ [])) (zero-add n)
 
 pub all-map {ℓ κ} : {A : Type ℓ} {B : Type κ} (p : B → Bool) (q : A → Bool) (f : A → B) → ((x : A) → q x ≡ true → p (f x) ≡ true) → (l : List A) → all q l ≡ true → all p (map f l) ≡ true
 unfolding all

@@ -9,10 +9,10 @@ use lib.Dec.{eqb}
 use borrow.Author.Tests.{ne-eqb}
 use Rattle.rules.specs.Base.{anyBelow, countBelow, lowestBelow}
 use Rattle.rules.specs.Sets.{Set, putAll}
-use Rattle.rules.specs.Window.{Limits, Window, withValue, noChange, live, isEnded}
+use Rattle.rules.specs.Window.{Limits, Window, withValue, withLog, noChange, live, isEnded}
 use Rattle.rules.specs.Ties.{isArrow, tied, groupOf, endSet}
 use Rattle.rules.specs.Calls.{Call, Open, Initiate, Begin, Complete, Lock, Read, Write, Permit, Delegate, Depend, Commit, Abort, Status, Parent, Value, Outcome, done, unchanged, blocked}
-use Rattle.rules.specs.Effects.{addChange, covers, inTheWay, lockGranted, lockEntry, commitBlockers, commitGroup, commitChange, endAll, size, abortChange, abortAll, effect}
+use Rattle.rules.specs.Effects.{addChange, covers, inTheWay, lockGranted, lockEntry, commitBlockers, commitGroup, commitChange, endAll, size, abortChange, withdraw, abortAll, effect}
 use Rattle.rules.specs.Refusals.{checks, firstFailed, _if_, settle, step}
 use Rattle.rules.proofs.BaseLaws.{or-left, put-same, put-other}
 use Rattle.rules.proofs.BoundLaws.{count-ext, count-bound, lowest-hit, lowest-below}
@@ -90,7 +90,7 @@ module _ (L : Limits) (W : Window) (z : Sound L W) where
   group-counted c l e = rw (group-done W (groupOf W c) e) (count-ended W (endAll 4 (groupOf W c) W) (groupOf W c) 4 refl (group-live L W z c l) (λ d. refl))
 
   all-counted : (c : ℕ) → live W c ≡ true → Counted W (abortAll W (endSet W c))
-  unfolding Counted abortAll done size endAll putAll withValue isEnded
+  unfolding Counted abortAll withdraw done size endAll putAll withValue withLog isEnded
   all-counted c l e = count-ended W (abortAll W (endSet W c) .after) (endSet W c) 5 refl (fall-live L W z c l) (λ d. refl)
 
   -- "how many changes this call ended"

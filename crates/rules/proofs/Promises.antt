@@ -1,22 +1,22 @@
 -- What the rules say of groups, of the set an abort ends and of arrows, by paths; that an existing tie is 0 again; and what demand 2 says of them:
--- when a change commits, what a withdrawal puts back. Assumes nothing.
+-- when a change commits, what a withdrawal puts back and strikes. Assumes nothing.
 use mathlib.Core.Path.{_≡_, refl, sym, _∙_, ap}
 use mathlib.Core.Logic.{_⊎_, inl, inr, ⊎-elim, _↔_, _≢_}
 use mathlib.Core.Bool.{Bool, true, false, not, cond, _&&_, true≢false}
-use mathlib.Core.List.{List, [], _∷_, List·Memᴰ}
+use mathlib.Core.List.{List, _∷_, _++_, map, List·Memᴰ}
 use Prim.Native.Nat.{ℕ, suc}
 use native.Mathlib.Omega.{arith}
 use lib.Dec.{eqb}
-use lib.ListN.{length}
+use lib.ListN.{length, getD}
 use borrow.Author.Tests.{not-true, not-false, eqb-false, eqb-true}
-use Rattle.rules.specs.Base.{put, exceeds, anyBelow, any}
+use Rattle.rules.specs.Base.{exceeds, anyBelow, any, keep, table}
 use Rattle.rules.specs.Sets.{Set, putAll}
-use Rattle.rules.specs.Window.{Limits, LogRecord, TieRecord, Window, tieKey, withValue, live, isEnded}
+use Rattle.rules.specs.Window.{Limits, LogRecord, TieRecord, Window, tieKey, withValue, withLog, live, isEnded}
 use Rattle.rules.specs.Ties.{makeTie, addTie, acyclic, isArrow, tied, grouped, falling, groupOf, endSet}
 use Rattle.rules.specs.Calls.{Commit, Abort, done, unchanged}
-use Rattle.rules.specs.Effects.{commitBlockers, commitGroup, commitChange, undo, endAll, abortAll, abortChange, effect, leadsTo, leadersOf}
+use Rattle.rules.specs.Effects.{released, endAll, leadsTo, leadersOf, commitBlockers, commitGroup, commitChange, ownedOn, undo, recordsLeft, withdraw, abortAll, abortChange, effect}
 use Rattle.rules.specs.Refusals.{checks, firstFailed, _if_, settle, step}
-use Rattle.rules.proofs.BaseLaws.{or-right, or-cases, or-none, and-both, and-left, and-right, none-below, anyBelow-none}
+use Rattle.rules.proofs.BaseLaws.{or-right, or-cases, or-none, and-both, and-left, and-right, none-below, anyBelow-none, eqb-same}
 use Rattle.rules.proofs.DemandMoves.{live-status, not-ended}
 use Rattle.rules.proofs.ListLaws.{any-find, any-weaken}
 use Rattle.rules.proofs.PathLaws.{Way, reach-ways, Arrows, grouped-bounded, falling-bounded, acyclic-paths}
@@ -24,6 +24,7 @@ use Rattle.rules.proofs.SortLaws.{insert-standing}
 use Rattle.rules.proofs.SoundParts.{Sound, live-below, live-change, ends-below, ends-live}
 use Rattle.rules.proofs.SoundStep.{group-live}
 use Rattle.rules.proofs.TieLaws.{tied-ends, stands-tied}
+use Rattle.rules.proofs.UndoLaws.{undo-join, undo-by, left-unowned, staysAt, left-places}
 
 -- of a sound window
 module _ (L : Limits) (W : Window) (z : Sound L W) where
@@ -115,32 +116,46 @@ module _ (L : Limits) (W : Window) (z : Sound L W) (c : ℕ) (lc : live W c ≡ 
     λ f. commit-answer ∙ of-zero (not (anyBelow (suc W.given) (commitBlockers W (groupOf W c)))) (ap not (of-free f)),
   )
 
--- the value before of the oldest record of the set on the entry; where there is none, v
-unfoldable pub oldestBefore : Set → ℕ → List LogRecord → ℕ → ℕ
-oldestBefore s e [] v = v
-oldestBefore s e (r ∷ l) v = cond (s r.owner && eqb e r.entry) r.before (oldestBefore s e l v)
+-- "the oldest record owned by the ended set gives the value stored": one before which there is none on its entry
+pub undo-oldest : (s : Set) (l m : List LogRecord) (r : LogRecord) (v : ℕ → ℕ) → any (ownedOn s r.entry) l ≡ false → s r.owner ≡ true → undo s (l ++ (r ∷ m)) v r.entry ≡ r.before
+unfolding undo ownedOn
+undo-oldest s l m r v h o = undo-join s l (r ∷ m) v r.entry ∙ undo-by s l v (undo s (r ∷ m) v) r.entry ∙ rw (h, o, eqb-same r.entry)
 
--- one pass, newest first, leaves on each entry the value before of the oldest record
-pub undo-oldest : (s : Set) (l : List LogRecord) (v : ℕ → ℕ) (e : ℕ) → undo s l v e ≡ oldestBefore s e l (v e)
-unfolding undo oldestBefore put
-undo-oldest s [] v e = refl
-undo-oldest s (r ∷ l) v e = go (s r.owner) (undo-oldest s l v e)
-  where
-    go : (b : Bool) → undo s l v e ≡ oldestBefore s e l (v e) → cond b (λ j. cond (eqb j r.entry) r.before (undo s l v j)) (undo s l v) e ≡ cond (b && eqb e r.entry) r.before (oldestBefore s e l (v e))
-    go true ih = rw ih
-    go false ih = ih
+-- where there is none, the value is as before
+pub undo-none : (s : Set) (l : List LogRecord) (v : ℕ → ℕ) (e : ℕ) → any (ownedOn s e) l ≡ false → undo s l v e ≡ v e
+undo-none s l v e h = undo-by s l v v e ∙ rw h
 
 -- "a withdrawal puts back the earlier values logged for exactly the changes it ends"
 module _ (L : Limits) (W : Window) (z : Sound L W) (c : ℕ) (lc : live W c ≡ true) where
-  abort-after : step L W (Abort c) .after ≡ endAll 5 (endSet W c) (withValue W (undo (endSet W c) W.log W.value))
+  abort-after : step L W (Abort c) .after ≡ endAll 5 (endSet W c) (withdraw (endSet W c) W)
   unfolding step checks firstFailed settle effect abortChange _if_ done abortAll isEnded
   abort-after = let u = or-none (eqb (W .status c) 4) (eqb (W .status c) 5) (not-ended (W .status c) (live-status W c lc)) in rw (live-change L W z c lc, u .0, u .1)
 
-  pub abort-restores : (e : ℕ) → step L W (Abort c) .after .value e ≡ oldestBefore (endSet W c) e W.log (W .value e)
-  unfolding endAll putAll withValue
-  abort-restores e = ap (λ X. X .value e) abort-after ∙ undo-oldest (endSet W c) W.log W.value e
+  abort-values : (e : ℕ) → step L W (Abort c) .after .value e ≡ undo (endSet W c) W.log W.value e
+  unfolding endAll putAll withdraw withValue withLog
+  abort-values e = ap (λ X. X .value e) abort-after
+
+  -- "On each entry, the oldest record owned by the ended set gives the value stored": r, where none of the set stands before it on its entry
+  pub abort-restores : (l m : List LogRecord) (r : LogRecord) → W.log ≡ l ++ (r ∷ m) → any (ownedOn (endSet W c) r.entry) l ≡ false → endSet W c r.owner ≡ true
+      → step L W (Abort c) .after .value r.entry ≡ r.before
+  abort-restores l m r q h o = abort-values r.entry ∙ ap (λ k. undo (endSet W c) k W.value r.entry) q ∙ undo-oldest (endSet W c) l m r W.value h o
+
+  -- where the set owns none on an entry, the value is as before
+  pub abort-spares : (e : ℕ) → any (ownedOn (endSet W c) e) W.log ≡ false → step L W (Abort c) .after .value e ≡ W .value e
+  abort-spares e h = abort-values e ∙ undo-none (endSet W c) W.log W.value e h
+
+  -- "every later record on that entry, whoever owns it, is struck from the log": of the places of the log, those are left, in order, at and before which no record
+  -- of the set stands on the entry of theirs
+  pub abort-strikes : (none : LogRecord) → step L W (Abort c) .after .log ≡ map (λ i. getD W.log i none) (keep (staysAt (endSet W c) none W.log) (table (length W.log) 0 (λ i. i)))
+  unfolding endAll withdraw withValue withLog
+  abort-strikes none = ap (λ X. X .log) abort-after ∙ left-unowned (endSet W c) W.log ∙ left-places (endSet W c) none W.log
+
+  -- "A partner stays live and keeps its lock", as does everybody that it does not end
+  pub abort-holds : (e d : ℕ) → endSet W c d ≡ false → step L W (Abort c) .after .held e d ≡ W .held e d
+  unfolding endAll released putAll withdraw withValue withLog
+  abort-holds e d h = ap (λ X. X .held e d) abort-after ∙ rw h
 
   -- and those are the changes that it ends
   pub abort-ends : (d : ℕ) → step L W (Abort c) .after .status d ≡ cond (endSet W c d) 5 (W .status d)
-  unfolding endAll putAll withValue
+  unfolding endAll putAll withdraw withValue withLog
   abort-ends d = ap (λ X. X .status d) abort-after

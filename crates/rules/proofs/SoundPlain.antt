@@ -13,13 +13,14 @@ use Rattle.rules.specs.Window.{Limits, LogRecord, PermitRecord, TieRecor
 use Rattle.rules.specs.Locks.{clash}
 use Rattle.rules.specs.Ties.{acyclic}
 use Rattle.rules.specs.Sound.{valueSound, statusSound, parentSound, heldSound, recordSound, permitSound, tieSound, waiterSound}
-use Rattle.rules.specs.Effects.{undo, addChange}
-use Rattle.rules.proofs.BaseLaws.{both-ways, Same, same, other, same?, or-map, and-left, and-right, and-map}
+use Rattle.rules.specs.Effects.{undo, addChange, ownedOn, recordsLeft, withdraw}
+use Rattle.rules.proofs.BaseLaws.{both-ways, Same, same, other, same?, or-map, and-left, and-right, and-map, over-less}
 use Rattle.rules.proofs.LineLaws.{waiter-more}
 use Rattle.rules.proofs.ListLaws.{all-weaken, all-append, length-append-one}
 use Rattle.rules.proofs.PairLaws.{pairPermitted}
 use Rattle.rules.proofs.PathLaws.{acyclic-more}
 use Rattle.rules.proofs.SoundParts.{Sound, status-none, live-below, ends-below, record-parts, permit-parts, tie-parts}
+use Rattle.rules.proofs.UndoLaws.{left-all, left-few}
 
 -- a fresh window
 pub fresh-sound : (L : Limits) (n : ℕ) → ltb 0 n ≡ true → not (exceeds n L.entries) ≡ true → Sound L (fresh n)
@@ -66,13 +67,17 @@ value-put m v i x h l f e = go (same? e i)
 
 undo-values : (m : ℕ) (lives : Set) (held : ℕ → ℕ → ℕ) (s : Set) (l : List LogRecord) (v : ℕ → ℕ) → all (recordSound m lives held) l ≡ true
     → ((e : ℕ) → valueSound m v e ≡ true) → (e : ℕ) → valueSound m (undo s l v) e ≡ true
-unfolding all undo
-undo-values m lives held s [] v a f = f
-undo-values m lives held s (r ∷ l) v a f = go (s r.owner) (and-left (recordSound m lives held r) (all (recordSound m lives held) l) a) (undo-values m lives held s l v (and-right (recordSound m lives held r) (all (recordSound m lives held) l) a) f)
+unfolding all undo ownedOn valueSound
+undo-values m lives held s [] v a f e = f e
+undo-values m lives held s (r ∷ l) v a f e =
+    go (s r.owner) (same? e r.entry) (record-parts m lives held r (and-left (recordSound m lives held r) (all (recordSound m lives held) l) a)) (undo-values m lives held s l v (and-right (recordSound m lives held r) (all (recordSound m lives held) l) a) f e)
   where
-    go : (b : Bool) → recordSound m lives held r ≡ true → ((e : ℕ) → valueSound m (undo s l v) e ≡ true) → (e : ℕ) → valueSound m (cond b (put (undo s l v) r.entry r.before) (undo s l v)) e ≡ true
-    go false h ih = ih
-    go true h ih = let p = record-parts m lives held r h in value-put m (undo s l v) r.entry r.before (p .1) (p .2) ih
+    go : (b : Bool) {d : Bool} → Same e r.entry d → (lives r.owner ≡ true) × (ltb r.entry m ≡ true) × (ltb r.before (2 ^ 32) ≡ true) × (eqb (held r.entry r.owner) 2 ≡ true)
+        → ltb (undo s l v e) (2 ^ 32) && (ltb e m || eqb (undo s l v e) 0) ≡ true
+        → ltb (cond (b && d) r.before (undo s l v e)) (2 ^ 32) && (ltb e m || eqb (cond (b && d) r.before (undo s l v e)) 0) ≡ true
+    go true (same q) p h = rw (q, p .1, p .2)
+    go true (other n) p h = h
+    go false d p h = h
 
 pub value-sound : (L : Limits) (W : Window) (v : ℕ → ℕ) → ((e : ℕ) → valueSound W.entries v e ≡ true) → Sound L W → Sound L (withValue W v)
 unfolding withValue live running pairPermitted
@@ -99,26 +104,22 @@ value-sound L W v f k = record {
   line-once = k .line-once;
 }
 
--- log records undone
-pub undo-sound : (L : Limits) (W : Window) (s : Set) → Sound L W → Sound L (withValue W (undo s W.log W.value))
-undo-sound L W s k = value-sound L W (undo s W.log W.value) (undo-values W.entries (live W) W.held s W.log W.value (k .records) (k .values)) k
-
--- one more record
-pub log-sound : (L : Limits) (W : Window) (r : LogRecord) → recordSound W.entries (live W) W.held r ≡ true → not (exceeds (suc (length W.log)) L.records) ≡ true
-    → Sound L W → Sound L (withLog W (W.log ++ (r ∷ [])))
+-- another log
+pub log-sound : (L : Limits) (W : Window) (l : List LogRecord) → all (recordSound W.entries (live W) W.held) l ≡ true → not (exceeds (length l) L.records) ≡ true
+    → Sound L W → Sound L (withLog W l)
 unfolding withLog live running pairPermitted
-log-sound L W r h l k = record {
+log-sound L W l h room k = record {
   some = k .some;
   entries = k .entries;
   changes = k .changes;
-  room-log = rw (length-append-one W.log r) l;
+  room-log = room;
   room-permits = k .room-permits;
   room-ties = k .room-ties;
   values = k .values;
   statuses = k .statuses;
   parents = k .parents;
   helds = k .helds;
-  records = all-append (recordSound W.entries (live W) W.held) W.log r (k .records) h;
+  records = h;
   permits = k .permits;
   ties = k .ties;
   permit-order = k .permit-order;
@@ -129,6 +130,18 @@ log-sound L W r h l k = record {
   line = k .line;
   line-once = k .line-once;
 }
+
+-- one more record
+pub record-sound : (L : Limits) (W : Window) (r : LogRecord) → recordSound W.entries (live W) W.held r ≡ true → not (exceeds (suc (length W.log)) L.records) ≡ true
+    → Sound L W → Sound L (withLog W (W.log ++ (r ∷ [])))
+record-sound L W r h l k = log-sound L W (W.log ++ (r ∷ [])) (all-append (recordSound W.entries (live W) W.held) W.log r (k .records) h) (rw (length-append-one W.log r) l) k
+
+-- the records of a set withdrawn
+pub withdraw-sound : (L : Limits) (W : Window) (s : Set) → Sound L W → Sound L (withdraw s W)
+unfolding withdraw withValue live
+withdraw-sound L W s k = log-sound L (withValue W (undo s W.log W.value)) (recordsLeft s W.log) (left-all s (recordSound W.entries (live W) W.held) W.log (k .records))
+    (over-less (length W.log) (length (recordsLeft s W.log)) L.records (left-few s W.log) (k .room-log))
+    (value-sound L W (undo s W.log W.value) (undo-values W.entries (live W) W.held s W.log W.value (k .records) (k .values)) k)
 
 -- a status as live as the one before changes nobody's being live
 live-put : (W : Window) (c s : ℕ) → outside 1 3 (W .status c) ≡ outside 1 3 s → live (withStatus W (put W.status c s)) ≡ live W

@@ -7,12 +7,12 @@ use native.Mathlib.Omega.{arith}
 use lib.Dec.{leb, ltb, eqb}
 use borrow.Author.Tests.{not-false, eqb-true, ltb-false, leb-false, lt-ltb, le-leb}
 use Rattle.rules.specs.Base.{put, exceeds, all, anyBelow, outside}
-use Rattle.rules.specs.Window.{Limits, Window, fresh, withValue, withStatus, withLine, live, running, noChange, noEntry}
+use Rattle.rules.specs.Window.{Limits, Window, fresh, withValue, withStatus, withLine, live, running, noChange, noEntry, withLog}
 use Rattle.rules.specs.Locks.{makePermit}
 use Rattle.rules.specs.Ties.{grouped, falling, makeTie, groupOf, endSet}
 use Rattle.rules.specs.Sound.{sound, recordSound, permitSound}
 use Rattle.rules.specs.Calls.{Call, Open, Initiate, Begin, Complete, Lock, Read, Write, Permit, Delegate, Depend, Commit, Abort, Status, Parent, Value, arguments, fits, Outcome, done, unchanged, blocked}
-use Rattle.rules.specs.Effects.{effect, leave, completeChange, covers, putHeld, lockGranted, lockEntry, writeEntry, entriesNamed, commitChange, abortChange, commitBlockers, commitGroup, abortAll, undo, addRecord}
+use Rattle.rules.specs.Effects.{effect, leave, completeChange, covers, putHeld, lockGranted, lockEntry, writeEntry, entriesNamed, commitChange, abortChange, commitBlockers, commitGroup, withdraw, abortAll, addRecord}
 use Rattle.rules.specs.Refusals.{Check, firstFailed, _if_, checks, step, settle}
 use Rattle.rules.proofs.BaseLaws.{and-left, and-right, or-none}
 use Rattle.rules.proofs.LineLaws.{waiter-more}
@@ -26,7 +26,7 @@ use Rattle.rules.proofs.SoundLine.{leave-sound, wait-sound, run-begin, 
 use Rattle.rules.proofs.SoundLock.{granted-free, lock-sound}
 use Rattle.rules.proofs.SoundParts.{Blank, Sound, sound-parts, parts-sound, sound-blank, value-most, inside-of, live-at, live-of, ends-live}
 use Rattle.rules.proofs.SoundPermit.{permit-sound}
-use Rattle.rules.proofs.SoundPlain.{fresh-sound, value-put, value-sound, undo-sound, log-sound, status-sound, start-sound}
+use Rattle.rules.proofs.SoundPlain.{fresh-sound, value-put, value-sound, status-sound, start-sound, withdraw-sound, record-sound}
 use Rattle.rules.proofs.TieLaws.{grouped-ends, falling-ends}
 
 -- no check of a list fails
@@ -92,7 +92,7 @@ module _ (L : Limits) (W : Window) (k : Sound L W) where
       let x : ltb v (2 ^ 32) ≡ true = and-left (ltb v (2 ^ 32)) true (and-right (ltb e (2 ^ 32)) _ (and-right (ltb c (2 ^ 32)) _ a)) in
       let r : recordSound W.entries (live W) W.held (record { owner = c; entry = e; before = W .value e }) ≡ true =
       rw (live-at W c 2 (p .0) (not-false _ (p .1 .1 .0)) refl, entry-of W e (p .1 .0), value-most L W k e, not-false (eqb (W .held e c) 2) (p .1 .1 .1 .0)) in
-      log-sound L (withValue W (put W.value e v)) _ r (ap not (p .1 .1 .1 .1 .0)) (value-sound L W (put W.value e v) (value-put W.entries W.value e v (entry-of W e (p .1 .0)) x (k .values)) k)
+      record-sound L (withValue W (put W.value e v)) _ r (ap not (p .1 .1 .1 .1 .0)) (value-sound L W (put W.value e v) (value-put W.entries W.value e v (entry-of W e (p .1 .0)) x (k .values)) k)
 
   grants : (g t e o : ℕ) → Passed (checks L W (Permit g t e o)) → Sound L (effect W (Permit g t e o) .after)
   unfolding checks _if_ effect done makePermit permitSound
@@ -115,10 +115,10 @@ module _ (L : Limits) (W : Window) (k : Sound L W) where
       (λ b. end-sound L W 4 (groupOf W c) refl refl (group-live c (live-of L W k c (p .0) h q)) k)))
 
   aborts : (c : ℕ) → Passed (checks L W (Abort c)) → Sound L (effect W (Abort c) .after)
-  unfolding checks _if_ effect abortChange done unchanged abortAll outside withValue live
+  unfolding checks _if_ effect abortChange done unchanged abortAll withdraw outside withValue withLog live
   aborts c p = either L (eqb (W .status c) 5) _ _ (λ h. k) (λ h. either L (eqb (W .status c) 4) _ _ (λ q. k)
-      (λ q. end-sound L (withValue W (undo (endSet W c) W.log W.value)) 5 (endSet W c) refl refl (fall-live c (live-of L W k c (p .0) q h))
-      (undo-sound L W (endSet W c) k)))
+      (λ q. end-sound L (withdraw (endSet W c) W) 5 (endSet W c) refl refl (fall-live c (live-of L W k c (p .0) q h))
+      (withdraw-sound L W (endSet W c) k)))
 
   effect-sound : (c : Call) → fits c ≡ true → Passed (checks L W c) → Sound L (effect W c .after)
   unfolding effect done checks _if_ running outside

@@ -13,7 +13,7 @@ use Rattle.rules.specs.Ties.{groupOf, endSet}
 use Rattle.rules.specs.Line.{makeWaiter, waitsElsewhere, enterLine, staysInLine, lineLeft}
 use Rattle.rules.specs.Sound.{waiterSound}
 use Rattle.rules.specs.Calls.{Call, Open, Initiate, Begin, Complete, Lock, Read, Write, Permit, Delegate, Depend, Commit, Abort, Status, Parent, Value, Outcome, done, unchanged, blocked}
-use Rattle.rules.specs.Effects.{effect, addChange, leave, completeChange, covers, lockGranted, inTheWay, wait, putHeld, lockEntry, writeEntry, handOver, endAll, commitChange, commitBlockers, commitGroup, abortChange, abortAll}
+use Rattle.rules.specs.Effects.{effect, addChange, leave, completeChange, covers, lockGranted, inTheWay, wait, putHeld, lockEntry, writeEntry, handOver, endAll, commitChange, commitBlockers, commitGroup, abortChange, withdraw, abortAll}
 use Rattle.rules.specs.Refusals.{step, settle, checks, firstFailed, _if_}
 use Rattle.rules.specs.Events.{actionOf, isOpening, isLocking}
 use Rattle.rules.proofs.LineLaws.{waiter-parts}
@@ -94,13 +94,13 @@ module _ (L : Limits) (W : Window) (z : Sound L W) where
       go i j false false false = passes (Commit c) 0 (endAll 4 (groupOf W c) W) (λ x e. refl) (end-line 4 (groupOf W c) W refl refl refl)
 
   abort-shifts : (c : ℕ) → Shifts W (Abort c) (effect W (Abort c))
-  unfolding effect abortChange abortAll done unchanged actionOf isLocking withValue
-  abort-shifts c = go _ _ (eqb (W .status c) 5) (eqb (W .status c) 4)
+  unfolding effect abortChange abortAll withdraw done unchanged actionOf isLocking withValue withLog
+  abort-shifts c = go _ (eqb (W .status c) 5) (eqb (W .status c) 4)
     where
-      go : (i : ℕ) (v : ℕ → ℕ) (a b : Bool) → Shifts W (Abort c) (cond a (done 0 W) (cond b (unchanged 21 0 W) (done i (endAll 5 (endSet W c) (withValue W v)))))
-      go i v true b = stays (Abort c) 0 W (λ x e. refl) refl refl
-      go i v false true = stays (Abort c) 21 W (λ x e. refl) refl refl
-      go i v false false = passes (Abort c) 0 (endAll 5 (endSet W c) (withValue W v)) (λ x e. refl) (end-line 5 (endSet W c) (withValue W v) refl refl refl)
+      go : (i : ℕ) (a b : Bool) → Shifts W (Abort c) (cond a (done 0 W) (cond b (unchanged 21 0 W) (done i (endAll 5 (endSet W c) (withdraw (endSet W c) W)))))
+      go i true b = stays (Abort c) 0 W (λ x e. refl) refl refl
+      go i false true = stays (Abort c) 21 W (λ x e. refl) refl refl
+      go i false false = passes (Abort c) 0 (endAll 5 (endSet W c) (withdraw (endSet W c) W)) (λ x e. refl) (end-line 5 (endSet W c) (withdraw (endSet W c) W) refl refl refl)
 
   shifts : (x : Call) → Passed (checks L W x) → Shifts W x (effect W x)
   unfolding effect actionOf isOpening isLocking done addChange writeEntry handOver withStatus withValue withLog withPermits withTies completeChange leave withLine

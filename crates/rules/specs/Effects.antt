@@ -191,14 +191,32 @@ commitGroup W g = cond (anyBelow (suc W.given) (commitBlockers W g)) (unchanged 
 unfoldable pub commitChange : Window → ℕ → Outcome
 commitChange W c = cond (eqb (W .status c) 4) (done 0 W) (cond (eqb (W .status c) 5) (unchanged 21 0 W) (commitGroup W (groupOf W c)))
 
--- "Log records owned by the set are undone in one pass, newest first, each storing its value before. Other owners' records stay"
-unfoldable pub undo : Set → List LogRecord → (ℕ → ℕ) → ℕ → ℕ
-undo s [] v = v
-undo s (r ∷ l) v = cond (s r.owner) (put (undo s l v) r.entry r.before) (undo s l v)
+-- "On each entry, the oldest record owned by the ended set gives the value stored, and every later record on that entry, whoever owns it, is struck from the log":
+-- whether a record is "owned by the ended set" and on that entry
+unfoldable pub ownedOn : Set → ℕ → LogRecord → Bool
+ownedOn s e r = s r.owner && eqb e r.entry
 
--- "the call ends the least set": undone, then ended as aborted
+-- "the oldest record owned by the ended set gives the value stored"; where there is none, the value is as before
+unfoldable pub undo : Set → List LogRecord → (ℕ → ℕ) → ℕ → ℕ
+undo s [] v e = v e
+undo s (r ∷ l) v e = cond (ownedOn s e r) r.before (undo s l v e)
+
+-- a record on another entry
+unfoldable pub isElsewhere : ℕ → LogRecord → Bool
+isElsewhere e r = not (eqb r.entry e)
+
+-- "every later record on that entry, whoever owns it, is struck from the log", as is the record itself
+unfoldable pub recordsLeft : Set → List LogRecord → List LogRecord
+recordsLeft s [] = []
+recordsLeft s (r ∷ l) = cond (s r.owner) (keep (isElsewhere r.entry) (recordsLeft s l)) (r ∷ recordsLeft s l)
+
+-- the two together, and nothing else: "A partner stays live and keeps its lock"
+unfoldable pub withdraw : Set → Window → Window
+withdraw s W = withLog (withValue W (undo s W.log W.value)) (recordsLeft s W.log)
+
+-- "the call ends the least set": withdrawn, then ended as aborted
 unfoldable pub abortAll : Window → Set → Outcome
-abortAll W s = done (size W s) (endAll 5 s (withValue W (undo s W.log W.value)))
+abortAll W s = done (size W s) (endAll 5 s (withdraw s W))
 
 -- "if aborted, 0 with 0. If committed, 21"
 unfoldable pub abortChange : Window → ℕ → Outcome
