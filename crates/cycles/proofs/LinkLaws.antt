@@ -13,10 +13,6 @@ use borrow.Author.Tests.{ne-eqb}
 use Rattle.rules.specs.Base.{anyBelow, countBelow}
 use Rattle.rules.specs.Sets.{everything, only}
 use Rattle.rules.proofs.BaseLaws.{count-le, Below, under, over, below, eqb-same, Same, same, other, same?}
-use Rattle.words.specs.Members.{wordsHave}
-use Rattle.sets.specs.Members.{members}
-use Rattle.sets.proofs.Words.{ofWords}
-use Rattle.sets.proofs.MemberLaws.{words-none}
 use Rattle.cycles.specs.Graph.{Graph, comes, leads, lastFrom}
 use Rattle.cycles.specs.Links.{Lists, Room, Ends, Blank, NoEnds, withArrow, withTie, Linked}
 use Rattle.cycles.proofs.CountLaws.{comes-none, comes-other, comes-one, last-none, last-other, last-one}
@@ -122,11 +118,6 @@ linked-few G m s p l k = go (below k 256)
 pub blank-room : (ties : List ℕ) (count : ℕ) (labels f n w : List ℕ) → Blank ties count labels f n w → Room f n w
 blank-room ties count labels f n w b = record { by-label = ap length (b .no-heads) ∙ length-replicate {A = ℕ} 256 0; by-place = b .next-long; counts = ap length (b .no-counts) ∙ length-replicate {A = ℕ} 256 0 }
 
--- words that are 0 hold no label
-pub blank-words : (ws : List ℕ) → ws ≡ replicate 4 0 → (k : ℕ) → wordsHave ws k ≡ false
-unfolding members
-blank-words ws e = words-none (ofWords ws) (ap length e ∙ length-replicate {A = ℕ} 4 0) (λ i h. rw e (getD-replicate 4 i 0 0 h))
-
--- and are four
+-- and words that are 0 are four
 pub blank-ends : (l b : List ℕ) → NoEnds l b → Ends l b
 blank-ends l b e = record { leading = ap length (e .no-leaders) ∙ length-replicate {A = ℕ} 4 0; led = ap length (e .no-blocked) ∙ length-replicate {A = ℕ} 4 0 }

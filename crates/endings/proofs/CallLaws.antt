@@ -10,21 +10,20 @@ use lib.ListN.{length, take, drop}
 use borrow.Author.Tests.{not-true, not-false, eqb-true}
 use Rattle.rules.specs.Base.{anyBelow, countBelow, lowestBelow}
 use Rattle.rules.specs.Sets.{Set, Rel, reach}
-use Rattle.rules.specs.Window.{limits, TieRecord, Window, live, noChange, withValue}
+use Rattle.rules.specs.Window.{limits, TieRecord, live, noChange}
 use Rattle.rules.specs.Ties.{isArrow, grouped, falling, groupOf, endSet}
 use Rattle.rules.specs.Calls.{Commit, Abort, Outcome, done, unchanged}
-use Rattle.rules.specs.Effects.{endAll, undo, size, commitBlockers, commitGroup, commitChange, abortAll, abortChange, effect, leadersOf}
+use Rattle.rules.specs.Effects.{endAll, withdraw, size, commitBlockers, commitGroup, commitChange, abortAll, abortChange, effect, leadersOf}
 use Rattle.rules.specs.Refusals.{_if_, checks, firstFailed}
 use Rattle.rules.proofs.BaseLaws.{and-right, both-ways, and-both, no-true, Below, under, over, below}
 use Rattle.rules.proofs.Promises.{blocks}
 use Rattle.rules.proofs.SoundParts.{status-none, live-below, live-of, ends-live, ends-below}
-use Rattle.rules.proofs.SoundPlain.{undo-sound}
 use Rattle.rules.proofs.SoundStep.{group-live, fall-live}
 use Rattle.rules.proofs.TieLaws.{tied-ends}
 use Rattle.layout.specs.Codec.{changesAt, changesSize, tiesAt, tiesSize, changeSection, tieSection, decode, encode}
 use Rattle.layout.specs.Memory.{soundBytes}
 use Rattle.layout.specs.Records.{endsBelow}
-use Rattle.layout.proofs.SoundCodec.{given-most, sound-again}
+use Rattle.layout.proofs.SoundCodec.{given-most}
 use Rattle.layout.proofs.MemoryLaws.{bytes-sound, changes-known, ties-known}
 use Rattle.rules.proofs.BoundLaws.{any-bound, lowest-bound, count-bound}
 use Rattle.replies.specs.declared.Reply.{Reply}
@@ -134,8 +133,7 @@ module _ (bs : List ℕ) (s : soundBytes bs ≡ true) where
     unfolding checks _if_
     end-lives k h = fall-live limits (decode bs) (bytes-sound bs s) c (still-live c st e (unrefused (decode bs) (Abort c) q .0) m n) k (ap (λ (u : Set). u k) (sym is) ∙ h)
 
-    pub abort-done : (mid : List ℕ) → mid ≡ encode (withValue (decode bs) (undo g (decode bs .log) (decode bs .value))) → (count : ℕ) → count ≡ countBelow 256 g → (r : Reply) → (r .answer ≡ 0) × (r .number ≡ count)
-        → (after : List ℕ) → after ≡ encode (endAll 5 g (decode mid)) → Gives (written (effect (decode bs) (Abort c))) r after
+    pub abort-done : (count : ℕ) → count ≡ countBelow 256 g → (r : Reply) → (r .answer ≡ 0) × (r .number ≡ count) → (after : List ℕ) → after ≡ encode (endAll 5 g (withdraw g (decode bs)))
+        → Gives (written (effect (decode bs) (Abort c))) r after
     unfolding effect abortChange abortAll
-    abort-done mid u count k r a after w = not-ended bs c st e 5 4 _ n m (rw (← is)
-        (given-done _ _ r after (a .0, a .1 ∙ k ∙ all-counted g end-lives) (w ∙ ap (λ (W : Window). encode (endAll 5 g W)) (ap decode u ∙ sound-again _ (undo-sound limits (decode bs) g (bytes-sound bs s))))))
+    abort-done count k r a after w = not-ended bs c st e 5 4 _ n m (rw (← is) (given-done _ _ r after (a .0, a .1 ∙ k ∙ all-counted g end-lives) w))

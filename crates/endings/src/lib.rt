@@ -1,6 +1,6 @@
 // Commit and abort on the bytes of a sound window, when the call is not refused.
-use ended::end_all;
-use ended::undo;
+use ended::abort_all;
+use ended::commit_all;
 use layout::Changes;
 use layout::Line;
 use layout::Log;
@@ -52,11 +52,11 @@ pub fn commit(w: &mut [u8], change: u32) -> Reply
     if !blockers.is_empty() {
         return replies::blocked(blockers.lowest());
     }
-    end_all(w, group, 4);
+    commit_all(w, group);
     replies::done(group.count())
 }
 
-// Abort: what the change takes with it is undone, and ends.
+// Abort: the change ends with all that it takes along, and their log records are withdrawn.
 pub fn abort(w: &mut [u8], change: u32) -> Reply
     requires { ⌜ length (now w) ≡ windowSize ⌝ }
     requires { ⌜ soundBytes (now w) ≡ true ⌝ }
@@ -72,7 +72,6 @@ pub fn abort(w: &mut [u8], change: u32) -> Reply
     }
     let ties = reads::ties(w);
     let ended = graph::end_set(&w[Ties::AT..Log::AT], ties, change as u8);
-    undo(w, ended);
-    end_all(w, ended, 5);
+    abort_all(w, ended);
     replies::done(ended.count())
 }

@@ -26,7 +26,7 @@ module _ {bs : List ℕ} (fs : List ℕ) (W : Window) (e : bs ≡ lay fs W) {out
   head-lent : (k v : ℕ) → k < length fs → FigureStored bs k v out → headLaid bs out ≡ lay (set fs k v) W
   head-lent k v h f = lent headAt headSize (head-part fs W) (head-put fs W (set fs k v)) e (λ q. f fs q h)
 
-  values-lent : (x : ℕ → ℕ) → (take valuesSize (drop valuesAt bs) ≡ valueSection (W .value) → out ≡ valueSection x) → laidAt bs valuesAt valuesSize out ≡ lay fs (withValue W x)
+  pub values-lent : (x : ℕ → ℕ) → (take valuesSize (drop valuesAt bs) ≡ valueSection (W .value) → out ≡ valueSection x) → laidAt bs valuesAt valuesSize out ≡ lay fs (withValue W x)
   values-lent x = lent valuesAt valuesSize (values-part fs W) (values-put fs W x) e
 
   pub changes-lent : (s p : ℕ → ℕ) → (take changesSize (drop changesAt bs) ≡ changeSection (W .status) (W .parent) → out ≡ changeSection s p)

@@ -3,7 +3,7 @@ use mathlib.Core.Path.{_≡_, refl, sym, _∙_, ap}
 use mathlib.Core.Bool.{Bool}
 use mathlib.Core.List.{List, [], _∷_, _++_, append-assoc, flatMap}
 use Prim.Native.Nat.{ℕ, zero, suc, _+_, _-_, _*_, _/_, _%_, _≤_, _<_}
-use native.Mathlib.Nat.{div-add-mod', div-lt-iff-lt-mul, mul-le-mul-right, le-div-iff-mul-le, add-zero, add-div-right, add-mod-right, div-eq-of-lt, mod-eq-of-lt, mod-lt, suc-mul, add-comm, zero-add, suc-add, sub-zero, suc-sub-suc, le-of-suc-le-suc, not-suc-le-zero}
+use native.Mathlib.Nat.{div-add-mod', div-lt-iff-lt-mul, mul-le-mul-right, le-div-iff-mul-le, add-zero, add-div-right, add-mod-right, div-eq-of-lt, mod-eq-of-lt, mod-lt, suc-mul, add-comm, sub-zero, suc-sub-suc, le-of-suc-le-suc, not-suc-le-zero}
 use native.Mathlib.Numerals.{add-one}
 use native.Mathlib.Omega.{arith}
 use lib.Arith.{digits-lt, digits-div, digits-mod}
@@ -11,15 +11,11 @@ use lib.ListN.{getD, length, replicate, length-replicate, getD-replicate, List·
 use Rattle.rules.specs.Base.{table}
 use Rattle.rules.specs.Window.{LogRecord, PermitRecord, TieRecord, LineRecord}
 use Rattle.rules.proofs.BaseLaws.{Below, under, over, below}
+use Rattle.rules.proofs.ListLaws.{table-append}
 use Rattle.layout.specs.Codec.{noRecord, noPermit, noTie, noWaiter, byte, permitBytes, permitByte, tieBytes, tieByte, waiterBytes, lineByte, recordBytes, logByte, permitSection, tieSection, lineSection, logSection, permitIn, tieIn, waiterIn}
 use Rattle.layout.proofs.SectionLaws.{length-table, getD-table0, table-list, table-same}
 
--- tables
-pub table-append {ℓ} : {A : Type ℓ} (m n i : ℕ) (f : ℕ → A) → table (m + n) i f ≡ table m i f ++ table n (i + m) f
-unfolding table
-table-append zero n i f = let e : i + 0 ≡ i = omega arith in rw (zero-add n, e)
-table-append (suc m) n i f = let e : suc i + m ≡ i + suc m = omega arith in rw (suc-add m n) (ap (λ l. f i ∷ l) (table-append m n (suc i) f ∙ rw e))
-
+-- a table of zeros
 pub table-zeros : (k : ℕ) (f : ℕ → ℕ) → ((j : ℕ) → f j ≡ 0) → table k 0 f ≡ replicate k 0
 table-zeros k f h = table-list 0 (replicate k 0) f (length-replicate k 0) (λ j l. h j ∙ sym (getD-replicate k j 0 0 l))
 

@@ -4,21 +4,20 @@ use mathlib.Core.Bool.{Bool, true, false, not, cond}
 use mathlib.Core.List.{List, [], _∷_, _++_, flatMap}
 use Prim.Native.Nat.{ℕ, suc, _+_, _-_, _*_, _≤_, _<_}
 use native.Mathlib.Omega.{arith}
-use native.Mathlib.Nat.{add-zero}
 use native.Mathlib.Numerals.{towards-suc}
-use lib.ListN.{length, getD, set, replicate, replicate-append-replicate}
+use lib.ListN.{length, take, getD, set, replicate, replicate-append-replicate}
+use lib.Seq.{take-length}
 use Rattle.rules.specs.Base.{keep}
 use Rattle.rules.specs.Sets.{Set}
 use Rattle.rules.specs.Window.{LogRecord}
 use Rattle.rules.specs.Effects.{isUnowned, unowned}
-use Rattle.rules.proofs.ListLaws.{length-keep}
 use Rattle.layout.specs.Codec.{noRecord, recordBytes, logSection}
 use Rattle.layout.specs.Records.{Tabled}
 use Rattle.layout.proofs.RecordLaws.{log-flat}
 use Rattle.cells.specs.Part.{part, patch}
-use Rattle.cells.proofs.PartLaws.{getD-part, part-cons, sets-patch}
+use Rattle.cells.proofs.PartLaws.{part-cons, sets-patch}
 use Rattle.cells.proofs.NumLaws.{part4}
-use Rattle.cells.proofs.CloseLaws.{Closing, closing-none, closing-here, closing-turn, closing-all}
+use Rattle.cells.proofs.CloseLaws.{Closing, keep-next, closing-none, closing-here, closing-turn, closing-all}
 use Rattle.log.proofs.LogLaws.{length-record}
 
 -- A RECORD MOVED: its six bytes, as straight-line code reads them
@@ -33,55 +32,65 @@ pub record-stores : (l : List ℕ) (at a b c d e f : ℕ) → at + 6 ≤ length 
 record-stores l at a b c d e f h = simp towards-suc (sets-patch l at (a ∷ b ∷ c ∷ d ∷ e ∷ f ∷ []) h)
 
 -- THE LOOP: the zeros behind the records
-abbrev pub unused : List LogRecord → List ℕ
+abbrev unused : List LogRecord → List ℕ
 unused l = replicate ((2048 - length l) * 6) 0
 
--- i records of l were read, and j of them kept
-abbrev pub Dropping : Set → List LogRecord → List ℕ → ℕ → ℕ → Type 0
-Dropping s l log i j = Closing 6 recordBytes (isUnowned s) l (unused l) log i j
+-- i records of l were read, and j are left, those of k
+abbrev pub ClosingLog : List LogRecord → List ℕ → ℕ → ℕ → List LogRecord → Type 0
+ClosingLog l log i j k = Closing 6 recordBytes l (unused l) log i j k
 
 -- before the first turn
-pub dropping-none : (s : Set) (l : List LogRecord) (log : List ℕ) → length l ≤ 2048 → log ≡ logSection l → Dropping s l log 0 0
-dropping-none s l log h e = closing-none 6 recordBytes (isUnowned s) l (unused l) log (e ∙ log-flat l h)
+pub log-none : (l : List LogRecord) (log : List ℕ) → length l ≤ 2048 → log ≡ logSection l → ClosingLog l log 0 0 []
+log-none l log h e = closing-none 6 recordBytes l (unused l) log (e ∙ log-flat l h)
 
--- no more are kept than were read
-pub kept-most : (b : Bool) (i j r : ℕ) → j ≤ i → r ≡ cond b j (j + 1) → r ≤ i + 1
-kept-most true i j r h e = omega arith
-kept-most false i j r h e = omega arith
+module _ (l : List LogRecord) (log : List ℕ) (i j : ℕ) (k : List LogRecord) (m : ClosingLog l log i j k) (h : i < length l) where
+  -- the bytes of the next record
+  pub log-here : part log (i * 6) 6 ≡ recordBytes (getD l i noRecord)
+  log-here = closing-here 6 recordBytes length-record noRecord l (unused l) log i j k m h (i * 6) refl
 
-module _ (s : Set) (l : List LogRecord) (log : List ℕ) (i j : ℕ) (m : Dropping s l log i j) (h : i < length l) where
-  -- the byte that the turn tests is the owner
-  owner-here : getD log (i * 6) 0 ≡ getD l i noRecord .owner
-  unfolding recordBytes
-  owner-here = ap (λ (k : ℕ). getD log k 0) (sym (add-zero (i * 6))) ∙ sym (getD-part log (i * 6) 6 0 (omega arith))
-      ∙ ap (λ (t : List ℕ). getD t 0 0) (closing-here 6 recordBytes (isUnowned s) length-record noRecord l (unused l) log i j m h (i * 6) refl)
-
-  -- the next record is dropped, or kept
-  pub dropping-turn : (r : ℕ) (out : List ℕ) → i * 6 + 6 ≤ length log → r ≡ cond (s (getD log (i * 6) 0)) j (j + 1)
-      → out ≡ cond (s (getD log (i * 6) 0)) log (patch log (j * 6) (part log (i * 6) 6)) → Dropping s l out (i + 1) r
-  unfolding isUnowned
-  dropping-turn r out room er eo = go (s (getD log (i * 6) 0)) refl er eo
-    where
-      turn : (b : Bool) → s (getD log (i * 6) 0) ≡ b → Dropping s l (cond (not b) (patch log (j * 6) (part log (i * 6) 6)) log) (i + 1) (cond (not b) (j + 1) j)
-      turn b e = closing-turn 6 recordBytes (isUnowned s) length-record noRecord l (unused l) log i j m h (not b) (ap not (sym e ∙ ap s owner-here)) (i * 6) (j * 6) refl refl room
-
-      go : (b : Bool) → s (getD log (i * 6) 0) ≡ b → r ≡ cond b j (j + 1) → out ≡ cond b log (patch log (j * 6) (part log (i * 6) 6)) → Dropping s l out (i + 1) r
-      go true e p q = rw (p, q) (turn true e)
-      go false e p q = rw (p, q) (turn false e)
+  -- it is left, or not
+  pub log-turn : (b : Bool) (k′ : List LogRecord) → k′ ≡ k ++ cond b (getD l i noRecord ∷ []) [] → (r : ℕ) (out : List ℕ) → i * 6 + 6 ≤ length log
+      → r ≡ cond b (j + 1) j → out ≡ cond b (patch log (j * 6) (part log (i * 6) 6)) log → ClosingLog l out (i + 1) r k′
+  log-turn b k′ e r out room er eo = rw (er, eo) (closing-turn 6 recordBytes length-record noRecord l (unused l) log i j k m h b k′ e (i * 6) (j * 6) refl refl room)
 
 -- records and zeros are the section
 cleared : (l : List LogRecord) (x y : ℕ) → length l ≤ 2048 → x + y ≡ (2048 - length l) * 6 → flatMap recordBytes l ++ (replicate x 0 ++ replicate y 0) ≡ logSection l
 cleared l x y h e =
     ap (λ (t : List ℕ). flatMap recordBytes l ++ t) (replicate-append-replicate x y 0 ∙ ap (λ (z : ℕ). replicate z 0) e) ∙ sym (log-flat l h)
 
+-- all records
+pub take-all : (l : List LogRecord) (n : ℕ) → length l ≡ n → take n l ≡ l
+take-all l n e = rw (← e) (take-length l)
+
+-- no more are left than were read
+pub left-most : (b : Bool) (i j r : ℕ) → j ≤ i → r ≡ cond b (j + 1) j → r ≤ i + 1
+left-most true i j r h e = omega arith
+left-most false i j r h e = omega arith
+
 -- all were read, and the rest is cleared
+pub log-all : (l : List LogRecord) (log : List ℕ) (n j : ℕ) (k : List LogRecord) (out : List ℕ) → length l ≡ n → n ≤ 2048 → ClosingLog l log n j k
+    → out ≡ patch log (j * 6) (replicate (n * 6 - j * 6) 0) → Tabled logSection k j out
+log-all l log n j k out e h m o = record {
+  count = m .count;
+  bytes = o ∙ closing-all 6 recordBytes l (unused l) log n j k e m (j * 6) (n * 6) refl refl
+      ∙ cleared k (n * 6 - j * 6) ((2048 - length l) * 6) (omega (arith, m .count, m .few)) (omega (arith, m .count, m .few));
+}
+
+-- RECORDS DROPPED: those that the set owns
+abbrev pub Dropping : Set → List LogRecord → List ℕ → ℕ → ℕ → Type 0
+Dropping s l log i j = ClosingLog l log i j (unowned s (take i l))
+
+pub dropping-none : (s : Set) (l : List LogRecord) (log : List ℕ) → length l ≤ 2048 → log ≡ logSection l → Dropping s l log 0 0
+unfolding unowned keep
+dropping-none s l log h e = log-none l log h e
+
+pub dropping-turn : (s : Set) (l : List LogRecord) (log : List ℕ) (i j : ℕ) → Dropping s l log i j → i < length l → (owner : ℕ) → ((q : LogRecord) → part log (i * 6) 6 ≡ recordBytes q → owner ≡ q .owner)
+    → (b : Bool) → b ≡ not (s owner) → (r : ℕ) (out : List ℕ) → i * 6 + 6 ≤ length log
+    → r ≡ cond b (j + 1) j → out ≡ cond b (patch log (j * 6) (part log (i * 6) 6)) log → Dropping s l out (i + 1) r
+unfolding unowned isUnowned
+dropping-turn s l log i j m h owner f b e = log-turn l log i j (unowned s (take i l)) m h b (unowned s (take (i + 1) l))
+    (keep-next (isUnowned s) noRecord l i h b (e ∙ ap (λ (o : ℕ). not (s o)) (f (getD l i noRecord) (log-here l log i j (unowned s (take i l)) m h))))
+
 pub dropping-all : (s : Set) (l : List LogRecord) (log : List ℕ) (n j : ℕ) (out : List ℕ) → length l ≡ n → n ≤ 2048 → Dropping s l log n j
     → out ≡ patch log (j * 6) (replicate (n * 6 - j * 6) 0) → Tabled logSection (unowned s l) j out
-unfolding unowned
-dropping-all s l log n j out e h m o =
-    let a = closing-all 6 recordBytes (isUnowned s) l (unused l) log n j e m (j * 6) (n * 6) refl refl in
-    let few : length (keep (isUnowned s) l) ≤ length l = length-keep (isUnowned s) l in
-    record {
-      count = a .0;
-      bytes = o ∙ a .1 ∙ cleared (keep (isUnowned s) l) (n * 6 - j * 6) ((2048 - length l) * 6) (omega arith) (omega (arith, a .0));
-    }
+dropping-all s l log n j out e h m = log-all l log n j (unowned s l) out e h (rw (take-all l n e) at m)

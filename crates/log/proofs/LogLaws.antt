@@ -15,10 +15,10 @@ use Rattle.rules.proofs.BaseLaws.{Below, under, over, below}
 use Rattle.rules.proofs.ListLaws.{length-append-one}
 use Rattle.layout.specs.Codec.{noRecord, recordBytes, logByte, logSection}
 use Rattle.layout.proofs.LengthLaws.{length-log}
-use Rattle.layout.proofs.RecordLaws.{placed, cell-read}
+use Rattle.layout.proofs.RecordLaws.{placed}
 use Rattle.cells.specs.Part.{part, patch}
 use Rattle.cells.specs.Num.{le, num}
-use Rattle.cells.proofs.PartLaws.{part-part, patch-cons}
+use Rattle.cells.proofs.PartLaws.{getD-part, part-part, patch-cons}
 use Rattle.cells.proofs.NumLaws.{num-le, le-bytes}
 use Rattle.places.proofs.PlaceLaws.{place-read, cell-store, place-store}
 
@@ -41,29 +41,38 @@ record-le : (r : LogRecord) → r .owner ∷ r .entry ∷ le 4 (r .before) ≡ r
 unfolding recordBytes table
 record-le r = ap (λ (t : List ℕ). r .owner ∷ r .entry ∷ t) (le-bytes 4 (r .before))
 
--- A RECORD READ, and its owner stored
-module _ (s : List ℕ) (l : List LogRecord) (i : ℕ) (e : s ≡ logSection l) (h : i < 2048) where
+-- A RECORD READ from its six bytes
+module _ (s : List ℕ) (i : ℕ) (q : LogRecord) (e : part s (i * 6) 6 ≡ recordBytes q) where
   -- byte j
-  record-cell : (j : ℕ) → j < 6 → getD s (i * 6 + j) 0 ≡ getD (placeBytes l i) j 0
-  record-cell j t = ap (λ (r : List ℕ). getD r (i * 6 + j) 0) (e ∙ log-places l) ∙ cell-read 6 2048 (placeBytes l) i j h t
+  record-cell : (j : ℕ) → j < 6 → getD s (i * 6 + j) 0 ≡ getD (recordBytes q) j 0
+  record-cell j t = sym (getD-part s (i * 6) 6 j t) ∙ ap (λ (r : List ℕ). getD r j 0) e
 
   -- its owner
-  pub owner-read : getD s (i * 6) 0 ≡ getD l i noRecord .owner
+  pub owner-here : getD s (i * 6) 0 ≡ q .owner
   unfolding recordBytes
-  owner-read = ap (λ (k : ℕ). getD s k 0) (sym (add-zero (i * 6))) ∙ record-cell 0 (omega arith)
+  owner-here = ap (λ (k : ℕ). getD s k 0) (sym (add-zero (i * 6))) ∙ record-cell 0 (omega arith)
 
   -- its entry
-  pub entry-read : getD s (i * 6 + 1) 0 ≡ getD l i noRecord .entry
+  pub entry-here : getD s (i * 6 + 1) 0 ≡ q .entry
   unfolding recordBytes
-  entry-read = record-cell 1 (omega arith)
+  entry-here = record-cell 1 (omega arith)
 
   -- its value before
-  pub before-read : getD l i noRecord .before < 2 ^ 32 → num (part s (i * 6 + 2) 4) ≡ getD l i noRecord .before
+  pub before-here : q .before < 2 ^ 32 → num (part s (i * 6 + 2) 4) ≡ q .before
   unfolding part le
-  before-read t = ap num (sym (part-part s (i * 6) 6 2 4 (omega arith))
-      ∙ ap (λ (r : List ℕ). part r 2 4) (ap (λ (r : List ℕ). part r (i * 6) 6) (e ∙ log-places l)
-      ∙ place-read 6 2048 (placeBytes l) i h (length-record (getD l i noRecord)) ∙ sym (record-le (getD l i noRecord))))
-      ∙ num-le 4 (getD l i noRecord .before) t
+  before-here t = ap num (sym (part-part s (i * 6) 6 2 4 (omega arith)) ∙ ap (λ (r : List ℕ). part r 2 4) (e ∙ sym (record-le q))) ∙ num-le 4 (q .before) t
+
+-- A RECORD OF THE SECTION, and its owner stored
+module _ (s : List ℕ) (l : List LogRecord) (i : ℕ) (e : s ≡ logSection l) (h : i < 2048) where
+  -- its bytes
+  record-part : part s (i * 6) 6 ≡ placeBytes l i
+  record-part = ap (λ (r : List ℕ). part r (i * 6) 6) (e ∙ log-places l) ∙ place-read 6 2048 (placeBytes l) i h (length-record (getD l i noRecord))
+
+  pub owner-read : getD s (i * 6) 0 ≡ getD l i noRecord .owner
+  owner-read = owner-here s i (getD l i noRecord) record-part
+
+  pub entry-read : getD s (i * 6 + 1) 0 ≡ getD l i noRecord .entry
+  entry-read = entry-here s i (getD l i noRecord) record-part
 
   -- another owner
   pub owner-store : (o : ℕ) → i < length l → (x : LogRecord) → x ≡ record { owner = o; entry = getD l i noRecord .entry; before = getD l i noRecord .before }

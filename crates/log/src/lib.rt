@@ -1,4 +1,4 @@
-// The log in its section: records read, appended, dropped, handed over and undone.
+// The log in its section: records read, appended, dropped, handed over and withdrawn.
 use cells::clear;
 use cells::read_u32;
 use cells::write_u32;
@@ -6,25 +6,27 @@ use layout::Log;
 use places::store_value;
 use sets::ChangeSet;
 use words::among;
+use words::insert;
 ghost use mathlib.Core.Path.{_≡_};
 ghost use mathlib.Core.Bool.{cond};
-ghost use mathlib.Core.List.{List, [], _∷_};
+ghost use mathlib.Core.List.{List};
 ghost use Prim.Native.Nat.{ℕ, _+_, _*_, _^_, _≤_, _<_};
 ghost use lib.ListN.{length, getD, set};
 ghost use Rattle.rules.specs.Window.{LogRecord};
-ghost use Rattle.rules.specs.Effects.{addRecord, movedRecord, moveLog, unowned, undo as undone};
-ghost use Rattle.layout.specs.Codec.{noRecord, valuesSize, logSize, valueSection, logSection};
+ghost use Rattle.rules.specs.Effects.{addRecord, movedRecord, moveLog, unowned, undo, recordsLeft};
+ghost use Rattle.layout.specs.Codec.{noRecord, valuesSize, logSize, recordBytes, valueSection, logSection};
 ghost use Rattle.layout.specs.Records.{Tabled};
 ghost use Rattle.cells.specs.Part.{part, patch};
 ghost use Rattle.words.specs.Members.{wordsHave};
 ghost use Rattle.sets.specs.Members.{members};
 ghost use Rattle.sets.specs.Entries.{onEntries};
+ghost use Rattle.log.specs.Undone.{Undone};
 
 // The owner of record i.
 fn owner_at(log: &[u8], i: usize) -> u8
     requires { ⌜ length (now log) ≡ logSize ⌝ }
     requires { ⌜ i < 2048 ⌝ }
-    ensures { λ r. ⌜ ((l : List LogRecord) → now (log .entry) ≡ logSection l → r ≡ getD l i noRecord .owner) ⌝ }
+    ensures { λ r. ⌜ ((q : LogRecord) → part (now (log .entry)) (i * 6) 6 ≡ recordBytes q → r ≡ q .owner) ⌝ }
 {
     log[i * Log::RECORD]
 }
@@ -33,7 +35,7 @@ fn owner_at(log: &[u8], i: usize) -> u8
 fn entry_at(log: &[u8], i: usize) -> u8
     requires { ⌜ length (now log) ≡ logSize ⌝ }
     requires { ⌜ i < 2048 ⌝ }
-    ensures { λ r. ⌜ ((l : List LogRecord) → now (log .entry) ≡ logSection l → r ≡ getD l i noRecord .entry) ⌝ }
+    ensures { λ r. ⌜ ((q : LogRecord) → part (now (log .entry)) (i * 6) 6 ≡ recordBytes q → r ≡ q .entry) ⌝ }
 {
     log[i * Log::RECORD + 1]
 }
@@ -42,7 +44,7 @@ fn entry_at(log: &[u8], i: usize) -> u8
 fn before_at(log: &[u8], i: usize) -> u32
     requires { ⌜ length (now log) ≡ logSize ⌝ }
     requires { ⌜ i < 2048 ⌝ }
-    ensures { λ r. ⌜ ((l : List LogRecord) → now (log .entry) ≡ logSection l → getD l i noRecord .before < 2 ^ 32 → r ≡ getD l i noRecord .before) ⌝ }
+    ensures { λ r. ⌜ ((q : LogRecord) → part (now (log .entry)) (i * 6) 6 ≡ recordBytes q → q .before < 2 ^ 32 → r ≡ q .before) ⌝ }
 {
     read_u32(log, i * Log::RECORD + 2)
 }
@@ -82,19 +84,19 @@ fn move_record(log: &mut [u8], i: usize, j: usize)
     log[to + 5] = f;
 }
 
-// Record i goes to place `to`, unless its owner has ended. What comes back is the place of the next.
-fn keep_record(log: &mut [u8], i: usize, to: usize, ended: &[u64; 4]) -> usize
+// Record i, where it stays, goes to place `to`. What comes back is the place of the next.
+fn keep_record(log: &mut [u8], i: usize, to: usize, stays: bool) -> usize
     requires { ⌜ length (now log) ≡ logSize ⌝ }
     requires { ⌜ i < 2048 ⌝ }
     requires { ⌜ to ≤ i ⌝ }
-    ensures { λ r. ⌜ r ≡ cond (wordsHave (now (ended .entry)) (getD (now (log .entry)) (i * 6) 0)) to (to + 1) ⌝ }
-    ensures { λ _. ⌜ now (log .exit) ≡ cond (wordsHave (now (ended .entry)) (getD (now (log .entry)) (i * 6) 0)) (now (log .entry)) (patch (now (log .entry)) (to * 6) (part (now (log .entry)) (i * 6) 6)) ⌝ }
+    ensures { λ r. ⌜ r ≡ cond stays (to + 1) to ⌝ }
+    ensures { λ _. ⌜ now (log .exit) ≡ cond stays (patch (now (log .entry)) (to * 6) (part (now (log .entry)) (i * 6) 6)) (now (log .entry)) ⌝ }
 {
-    if among(ended, log[i * Log::RECORD]) {
-        return to;
+    if stays {
+        move_record(log, i, to);
+        return to + 1;
     }
-    move_record(log, i, to);
-    to + 1
+    to
 }
 
 // The records of ended changes are dropped and the others close up in order. What comes back is how many are left.
@@ -107,7 +109,8 @@ pub fn drop_owned(log: &mut [u8], count: usize, ended: ChangeSet) -> usize
     let mut kept = 0;
     let mut i = 0;
     while i < count {
-        kept = keep_record(log, i, kept, &words);
+        let stays = !among(&words, owner_at(log, i));
+        kept = keep_record(log, i, kept, stays);
         i += 1;
     }
     clear(log, kept * Log::RECORD, count * Log::RECORD);
@@ -139,29 +142,51 @@ pub fn hand_over(log: &mut [u8], count: usize, from: u8, to: u8, every: bool, en
     }
 }
 
-// The value before of record i is stored, where the owner has ended.
-fn undo_record(values: &mut [u8], log: &[u8], i: usize, ended: &[u64; 4])
+// Record i is undone, where its owner has ended and no record before it was undone on its entry. What comes back is whether it stays in the log.
+fn undo_record(
+    values: &mut [u8],
+    log: &[u8],
+    i: usize,
+    ended: &[u64; 4],
+    undone: &mut [u64; 4],
+) -> bool
     requires { ⌜ length (now values) ≡ valuesSize ⌝ }
     requires { ⌜ length (now log) ≡ logSize ⌝ }
     requires { ⌜ i < 2048 ⌝ }
-    ensures { λ _. ⌜ ((v : ℕ → ℕ) (l : List LogRecord) → now (values .entry) ≡ valueSection v → now (log .entry) ≡ logSection l → getD l i noRecord .before < 2 ^ 32 → now (values .exit) ≡ valueSection (undone (wordsHave (now (ended .entry))) (getD l i noRecord ∷ []) v)) ⌝ }
+    requires { ⌜ length (now undone) ≡ 4 ⌝ }
+    ensures { λ _. ⌜ length (now (undone .exit)) ≡ 4 ⌝ }
+    ensures { λ r. ⌜ ((q : LogRecord) → part (now (log .entry)) (i * 6) 6 ≡ recordBytes q → Undone (wordsHave (now (ended .entry))) q (wordsHave (now (undone .entry))) (now (values .entry)) r (wordsHave (now (undone .exit))) (now (values .exit))) ⌝ }
 {
-    if among(ended, owner_at(log, i)) {
-        store_value(values, entry_at(log, i), before_at(log, i));
+    let entry = entry_at(log, i);
+    if among(undone, entry) {
+        return false;
     }
+    if !among(ended, owner_at(log, i)) {
+        return true;
+    }
+    store_value(values, entry, before_at(log, i));
+    insert(undone, entry);
+    false
 }
 
-// The records of ended changes are undone, newest first.
-pub fn undo(values: &mut [u8], log: &[u8], count: usize, ended: ChangeSet)
+// The records of ended changes are withdrawn: on each entry the oldest gives the value, and with it all later ones leave the log.
+// What comes back is how many are left.
+pub fn withdraw(values: &mut [u8], log: &mut [u8], count: usize, ended: ChangeSet) -> usize
     requires { ⌜ length (now values) ≡ valuesSize ⌝ }
     requires { ⌜ length (now log) ≡ logSize ⌝ }
     requires { ⌜ count ≤ 2048 ⌝ }
-    ensures { λ _. ⌜ ((v : ℕ → ℕ) (l : List LogRecord) → length l ≡ count → ((k : ℕ) → getD l k noRecord .before < 2 ^ 32) → now (values .entry) ≡ valueSection v → now (log .entry) ≡ logSection l → now (values .exit) ≡ valueSection (undone (members ended) l v)) ⌝ }
+    ensures { λ _. ⌜ ((v : ℕ → ℕ) (l : List LogRecord) → length l ≡ count → ((k : ℕ) → getD l k noRecord .before < 2 ^ 32) → now (values .entry) ≡ valueSection v → now (log .entry) ≡ logSection l → now (values .exit) ≡ valueSection (undo (members ended) l v)) ⌝ }
+    ensures { λ r. ⌜ ((l : List LogRecord) → length l ≡ count → now (log .entry) ≡ logSection l → Tabled logSection (recordsLeft (members ended) l) r (now (log .exit))) ⌝ }
 {
     let words = ended.words;
-    let mut i = count;
-    while i > 0 {
-        i -= 1;
-        undo_record(values, log, i, &words);
+    let mut undone: [u64; 4] = [0; 4];
+    let mut left = 0;
+    let mut at = 0;
+    while at < count {
+        let stays = undo_record(values, log, at, &words, &mut undone);
+        left = keep_record(log, at, left, stays);
+        at += 1;
     }
+    clear(log, left * Log::RECORD, count * Log::RECORD);
+    left
 }

@@ -2,7 +2,7 @@
 use mathlib.Core.Path.{_≡_, refl, sym, ap, ap₂, _∙_}
 use mathlib.Core.Logic.{⊎-elim}
 use mathlib.Core.Bool.{Bool, true, false, _&&_, _||_, and-true, and-false, and-assoc, or-false, or-assoc}
-use mathlib.Core.List.{List, [], _∷_, _++_}
+use mathlib.Core.List.{List}
 use Prim.Native.Nat.{ℕ, zero, suc, _+_, _-_, _≤_, _<_}
 use native.Mathlib.Nat.{eq-or-lt-of-le}
 use native.Mathlib.Omega.{arith}
@@ -12,6 +12,7 @@ use borrow.Author.Tests.{eq-eqb, ne-eqb}
 use Rattle.rules.specs.Base.{table, any, rising}
 use Rattle.rules.specs.Window.{PermitRecord, permitKey}
 use Rattle.rules.specs.Locks.{contains, permitted}
+use Rattle.rules.proofs.ListLaws.{any-join}
 use Rattle.layout.specs.Codec.{permitSection}
 use Rattle.layout.proofs.SectionLaws.{Bytes}
 use Rattle.rows.specs.Rows.{Row, rowKey, rankOf, rank, rowAt, rows, KeyPlace}
@@ -37,12 +38,6 @@ unfolding grants
 grants-other g taker entry mode r h = rw (ne-eqb (r .k1) entry h, and-false (eqb r.k2 g && (eqb r.k3 taker || eqb r.k3 0)))
 
 -- tests over lists
--- one of two lists passes
-any-append {ℓ} : {A : Type ℓ} (p : A → Bool) (l k : List A) → any p (l ++ k) ≡ any p l || any p k
-unfolding any
-any-append p [] k = refl
-any-append p (x ∷ l) k = ap (λ (b : Bool). p x || b) (any-append p l k) ∙ sym (or-assoc (p x) (any p l) (any p k))
-
 -- none of a table passes
 any-none {ℓ} : {A : Type ℓ} (p : A → Bool) (n i : ℕ) (f : ℕ → A) → ((j : ℕ) → i ≤ j → j < i + n → p (f j) ≡ false) → any p (table n i f) ≡ false
 unfolding any table
@@ -63,7 +58,7 @@ module _ (l : List ℕ) (n taker entry mode : ℕ) where
   pub walk-from : (at : ℕ) → at ≤ n → KeyPlace l n (rankOf entry 0 0) at → (k : ℕ) → ahead l n taker entry mode at k ≡ any (grants k taker entry mode) (rows n l)
   unfolding ahead
   walk-from at h f k =
-      sym (ap (any (grants k taker entry mode)) (rows-split l n at h) ∙ any-append (grants k taker entry mode) (table at 0 (rowAt l)) (table (n - at) at (rowAt l))
+      sym (ap (any (grants k taker entry mode)) (rows-split l n at h) ∙ any-join (grants k taker entry mode) (table at 0 (rowAt l)) (table (n - at) at (rowAt l))
       ∙ ap (λ (x : Bool). x || any (grants k taker entry mode) (table (n - at) at (rowAt l))) (any-none (grants k taker entry mode) at 0 (rowAt l) (λ j g e. grants-other k taker entry mode (rowAt l j) (before j (omega arith)))))
     where
       before : (j : ℕ) → j < at → rowAt l j .k1 ≡ entry → ⊥

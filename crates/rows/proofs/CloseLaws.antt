@@ -4,11 +4,12 @@ use mathlib.Core.Bool.{Bool, cond}
 use mathlib.Core.List.{List, _++_, append-assoc}
 use Prim.Native.Nat.{ℕ, _+_, _-_, _*_, _≤_, _<_}
 use native.Mathlib.Omega.{arith}
-use lib.ListN.{length, drop, getD, replicate, length-append, length-replicate}
+use lib.ListN.{length, take, drop, getD, replicate, length-append, length-replicate}
+use lib.Seq.{take-length}
 use Rattle.rules.specs.Base.{keep}
 use Rattle.rules.proofs.ListLaws.{length-keep}
 use Rattle.cells.specs.Part.{part, patch}
-use Rattle.cells.proofs.CloseLaws.{Closing, closing-none, closing-few, closing-here, closing-turn, closing-all}
+use Rattle.cells.proofs.CloseLaws.{Closing, keep-next, closing-none, closing-here, closing-turn, closing-all}
 use Rattle.rows.specs.Rows.{Row, row, rowBytes, rowsBytes, rowAt, rows, Closed}
 use Rattle.rows.proofs.RowLaws.{length-rows, length-bytes, row-part, rows-bytes, rows-rest}
 
@@ -35,24 +36,23 @@ row-known x y e = λ i. record { k1 = getD (e i) 0 0; k2 = getD (e i) 1 0; k3 = 
 
 -- after i of n rows were read and j of them kept
 abbrev pub Moved : (Row → Bool) → ℕ → List ℕ → List ℕ → ℕ → ℕ → Type 0
-Moved q n l₀ l i j = Closing 4 rowBytes q (rows n l₀) (drop (4 * n) l₀) l i j
+Moved q n l₀ l i j = Closing 4 rowBytes (rows n l₀) (drop (4 * n) l₀) l i j (keep q (take i (rows n l₀)))
 
 module _ (q : Row → Bool) (n : ℕ) (l₀ : List ℕ) where
   -- before the first row
   pub moved-none : 4 * n ≤ length l₀ → Moved q n l₀ l₀ 0 0
-  moved-none h = closing-none 4 rowBytes q (rows n l₀) (drop (4 * n) l₀) l₀ (sym (rows-rest l₀ n h))
-
-  -- no more are kept than were read
-  pub moved-few : (l : List ℕ) (i j : ℕ) → Moved q n l₀ l i j → i ≤ n → j ≤ i
-  moved-few l i j m h = closing-few 4 rowBytes q (rows n l₀) (drop (4 * n) l₀) l i j m (rw (length-rows n l₀) h)
+  unfolding keep
+  moved-none h = closing-none 4 rowBytes (rows n l₀) (drop (4 * n) l₀) l₀ (sym (rows-rest l₀ n h))
 
   -- the next row is kept, or not
   pub moved-next : (l : List ℕ) (i j : ℕ) → Moved q n l₀ l i j → i < n → (b : Bool) → b ≡ q (rowAt l i) → 4 * i + 4 ≤ length l
       → Moved q n l₀ (cond b (patch l (4 * j) (part l (4 * i) 4)) l) (i + 1) (cond b (j + 1) j)
   moved-next l i j m h b e room =
+      let none : Row = row 0 0 0 0 in
       let t : i < length (rows n l₀) = rw (length-rows n l₀) h in
-      let here : part l (4 * i) 4 ≡ rowBytes (getD (rows n l₀) i (row 0 0 0 0)) = closing-here 4 rowBytes q length-row (row 0 0 0 0) (rows n l₀) (drop (4 * n) l₀) l i j m t (4 * i) (omega arith) in
-      closing-turn 4 rowBytes q length-row (row 0 0 0 0) (rows n l₀) (drop (4 * n) l₀) l i j m t b (e ∙ ap q (row-known (rowAt l i) (getD (rows n l₀) i (row 0 0 0 0)) (row-part l i room ∙ here)))
+      let here : part l (4 * i) 4 ≡ rowBytes (getD (rows n l₀) i none) = closing-here 4 rowBytes length-row none (rows n l₀) (drop (4 * n) l₀) l i j (keep q (take i (rows n l₀))) m t (4 * i) (omega arith) in
+      closing-turn 4 rowBytes length-row none (rows n l₀) (drop (4 * n) l₀) l i j (keep q (take i (rows n l₀))) m t b (keep q (take (i + 1) (rows n l₀)))
+      (keep-next q none (rows n l₀) i t b (e ∙ ap q (row-known (rowAt l i) (getD (rows n l₀) i none) (row-part l i room ∙ here))))
       (4 * i) (4 * j) (omega arith) (omega arith) room
 
   -- and the places that got free are cleared
@@ -61,9 +61,11 @@ module _ (q : Row → Bool) (n : ℕ) (l₀ : List ℕ) where
   moved-all l j m out e =
       let z : List ℕ = replicate (4 * n - 4 * j) 0 in
       let kept : List Row = keep q (rows n l₀) in
-      let a = closing-all 4 rowBytes q (rows n l₀) (drop (4 * n) l₀) l n j (length-rows n l₀) m (4 * j) (4 * n) (omega arith) (omega arith) in
-      let whole : length (rowsBytes kept ++ z) ≡ 4 * n = simp (length-append, length-bytes, length-replicate) (omega (arith, a .0, length-keep q (rows n l₀), length-rows n l₀)) in
+      let all : take n (rows n l₀) ≡ rows n l₀ = ap (λ (k : ℕ). take k (rows n l₀)) (sym (length-rows n l₀)) ∙ take-length (rows n l₀) in
+      let m′ : Closing 4 rowBytes (rows n l₀) (drop (4 * n) l₀) l n j kept = rw all at m in
+      let bytes = closing-all 4 rowBytes (rows n l₀) (drop (4 * n) l₀) l n j kept (length-rows n l₀) m′ (4 * j) (4 * n) (omega arith) (omega arith) in
+      let whole : length (rowsBytes kept ++ z) ≡ 4 * n = simp (length-append, length-bytes, length-replicate) (omega (arith, m′ .count, m′ .few)) in
       record {
-        count = a .0;
-        bytes = e ∙ a .1 ∙ sym (ap (λ (k : ℕ). (rowsBytes kept ++ z) ++ drop k l₀) whole ∙ append-assoc (rowsBytes kept) z (drop (4 * n) l₀));
+        count = m′ .count;
+        bytes = e ∙ bytes ∙ sym (ap (λ (k : ℕ). (rowsBytes kept ++ z) ++ drop k l₀) whole ∙ append-assoc (rowsBytes kept) z (drop (4 * n) l₀));
       }

@@ -6,8 +6,8 @@ use native.Mathlib.Omega.{arith}
 use lib.ListN.{length, take, drop, getD, replicate, length-append, length-replicate, take-append-drop, replicate-append-replicate}
 use lib.Seq.{take-add, drop-drop, drop-at, drop-append-add}
 use Rattle.rules.specs.Base.{table}
+use Rattle.rules.proofs.ListLaws.{table-append}
 use Rattle.layout.proofs.SectionLaws.{length-table, table-list}
-use Rattle.layout.proofs.RecordLaws.{table-append}
 use Rattle.cells.specs.Part.{part, patch}
 use Rattle.cells.proofs.NumLaws.{part4}
 use Rattle.cells.proofs.CloseLaws.{flat-append}

@@ -11,9 +11,9 @@ use lib.ListN.{length, getD, length-append}
 use lib.Pow.{pow-pos}
 use Rattle.rules.specs.Base.{table}
 use Rattle.rules.specs.Sets.{Set}
+use Rattle.rules.proofs.ListLaws.{table-append}
 use Rattle.layout.specs.Codec.{byte, pack, unpack}
 use Rattle.layout.proofs.SectionLaws.{length-table, getD-table0, table-same}
-use Rattle.layout.proofs.RecordLaws.{table-append}
 use Rattle.layout.proofs.CodecLaws.{pack-most, unpack-pack}
 use Rattle.cells.specs.Part.{patch}
 use Rattle.cells.specs.Num.{le}

@@ -6,13 +6,14 @@ use Prim.Native.Nat.{ℕ, _+_, _*_, _/_, _^_, _≤_, _<_}
 use native.Mathlib.Decide.{decLt}
 use native.Mathlib.Omega.{arith}
 use lib.Dec.{eqb}
-use lib.ListN.{length, getD, List·getD-eq-default}
+use lib.ListN.{length, getD, replicate, length-replicate, getD-replicate, List·getD-eq-default}
 use lib.Seq.{ext-getD}
 use Rattle.rules.specs.Base.{allBelow}
 use Rattle.rules.specs.Sets.{Set}
 use Rattle.rules.proofs.BaseLaws.{allBelow-intro, allBelow-at, eqb-sym}
 use Rattle.layout.specs.Codec.{unpack}
 use Rattle.cells.proofs.Digits.{unpack-ext}
+use Rattle.words.specs.Members.{wordsHave}
 use Rattle.sets.specs.Members.{members, agree}
 use Rattle.sets.specs.declared.ChangeSet.{ChangeSet}
 use Rattle.sets.proofs.Words.{ofWords, place, by-words, each-of-4, word-zero}
@@ -49,6 +50,10 @@ members-all s t ls lt = everywhere (members s) (members t) (members-above s ls) 
 -- words that are all 0 hold none
 pub words-none : (s : ChangeSet) → length (s .words) ≡ 4 → ((i : ℕ) → i < 4 → getD (s .words) i 0 ≡ 0) → (k : ℕ) → members s k ≡ false
 words-none s len z = everywhere (members s) (λ _. false) (members-above s len) (λ _ _. refl) (λ k h. word-zero s k (z (k / 64) (omega arith)))
+
+pub blank-words : (ws : List ℕ) → ws ≡ replicate 4 0 → (k : ℕ) → wordsHave ws k ≡ false
+unfolding members
+blank-words ws e = words-none (ofWords ws) (ap length e ∙ length-replicate {A = ℕ} 4 0) (λ i h. rw e (getD-replicate 4 i 0 0 h))
 
 -- sets with the same members have the same words
 pub members-ext : (s t : ChangeSet) → length (s .words) ≡ 4 → length (t .words) ≡ 4 → ((i : ℕ) → getD (s .words) i 0 < 2 ^ 64) → ((i : ℕ) → getD (t .words) i 0 < 2 ^ 64)

@@ -5,9 +5,10 @@ use native.Mathlib.Omega.{arith}
 use borrow.Author.Needs.{needs}
 use lib.ListN.{getD}
 use Rattle.layout.specs.Records.{tieAt}
+use Rattle.sets.proofs.MemberLaws.{blank-words}
 use Rattle.cycles.specs.Graph.{arrowAt, graphOf}
 use Rattle.cycles.specs.Links.{Room, Ends, listsOf, Linked}
-use Rattle.cycles.proofs.LinkLaws.{linked-none, linked-next, linked-few, blank-room, blank-ends, blank-words}
+use Rattle.cycles.proofs.LinkLaws.{linked-none, linked-next, linked-few, blank-room, blank-ends}
 use Rattle.cycles.proofs.link_ties.Statement.{statement}
 use Rattle.cycles.proofs.link_ties.Tie as tie
 

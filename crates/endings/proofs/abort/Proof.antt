@@ -45,15 +45,15 @@ end-set-requires c κs = let s = c .before .before .before .before .before .befo
 -- it ends
 returns-3 : tie.Need-returns-3
 returns-3 c =
-    let s = c .before .before .before .before .before .before .before .before .before .before .before .before .before .before .before .before .before .before .before .before in
+    let s = c .before .before .before .before .before .before .before .before .before .before .before .before .before .before .before .before in
     let w = s .args .w .now in
-    let status = c .before .before .before .before .before .before .before .before .before .before .before .before .before .before .before .before .before .status in
-    let ties = c .before .before .before .before .before .before .before .before .before .before .before .before .before .ties in
-    let ended = c .before .before .before .before .before .before .before .before .before .before .end-set in
+    let status = c .before .before .before .before .before .before .before .before .before .before .before .before .before .status in
+    let ties = c .before .before .before .before .before .before .before .before .before .ties in
+    let ended = c .before .before .before .before .before .before .end-set in
     let count = c .before .count in
-    abort-done w (s .pre .1 .0) (s .args .change) (status .result) (s .pre .1 .1) (status .ensures) (c .before .before .before .before .before .before .before .before .before .before .before .before .before .before .before .before .if1 .left) (c .before .before .before .before .before .before .before .before .before .before .before .before .before .before .before .if2 .left)
+    abort-done w (s .pre .1 .0) (s .args .change) (status .result) (s .pre .1 .1) (status .ensures) (c .before .before .before .before .before .before .before .before .before .before .before .before .if1 .left) (c .before .before .before .before .before .before .before .before .before .before .before .if2 .left)
     (members (ended .result)) (end-set-read w (s .pre .1 .0) (s .args .change) (ties .result) (ties .ensures .0) (members (ended .result)) (ended .ensures))
-    _ (c .before .before .before .before .before .before .before .before .undo .ensures .0) (count .result) (count .ensures) (c .done2 .result) (c .done2 .ensures) _ (c .before .before .before .before .end-all .ensures)
+    (count .result) (count .ensures) (c .done2 .result) (c .done2 .ensures) _ (c .before .before .before .before .abort-all .ensures)
 
 pub abort-spec : {M : Type 1} → statement M
 abort-spec =
@@ -72,7 +72,6 @@ abort-spec =
     (λ c. search needs)
     cast-end-set
     end-set-requires
-    (λ c κs. search needs)
     (λ c κs. search needs)
     (λ c κs. search needs)
     (λ c κs. search needs)

@@ -72,7 +72,7 @@ returns-4 c =
     commit-ends w (s .pre .1 .0) (s .args .change) (status .result) (s .pre .1 .1) (status .ensures) (c .before .before .before .before .before .before .before .before .before .before .before .before .before .before .before .before .if1 .left) (c .before .before .before .before .before .before .before .before .before .before .before .before .before .before .before .if2 .left)
     (members (group .result)) (group-read w (s .pre .1 .0) (s .args .change) (ties .result) (ties .ensures .0) (members (group .result)) (group .ensures))
     (members (blockers .result)) (blockers .ensures) (empty .result) (empty .ensures) (not-false _ (c .before .before .before .before .before .before .if3 .left))
-    (count .result) (count .ensures) (c .done2 .result) (c .done2 .ensures) _ (c .before .before .before .before .end-all .ensures)
+    (count .result) (count .ensures) (c .done2 .result) (c .done2 .ensures) _ (c .before .before .before .before .commit-all .ensures)
 
 pub commit-spec : {M : Type 1} → statement M
 commit-spec =

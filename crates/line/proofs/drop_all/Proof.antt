@@ -6,7 +6,7 @@ use lib.ListN.{length}
 use borrow.Author.Needs.{needs}
 use Rattle.words.specs.Members.{wordsHave}
 use Rattle.sets.specs.Members.{members}
-use Rattle.rows.proofs.CloseLaws.{Moved, moved-none, moved-next, moved-all, moved-few}
+use Rattle.rows.proofs.CloseLaws.{Moved, moved-none, moved-next, moved-all}
 use Rattle.line.specs.Line.{rowStays}
 use Rattle.line.proofs.LineLaws.{line-left}
 use Rattle.line.proofs.drop_all.Statement.{statement}
@@ -29,7 +29,7 @@ loop-again c =
     let k = c .before .before .keep-row in
     let q = rowStays (wordsHave (a .leaving .words)) in
     let next : Moved q (a .count) (a .line .now) (k .last .0) (l .i + 1) (k .result) = rw (k .ensures .1, k .ensures .0) (moved-next q (a .count) (a .line .now) (l .line) (l .i) (l .j) (l .inv .3) (omega arith) (t .result) (t .ensures) (omega arith)) in
-    (omega arith, moved-few q (a .count) (a .line .now) (k .last .0) (l .i + 1) (k .result) next (omega arith), k .kept .0 ∙ l .inv .2, next)
+    (omega arith, next .few, k .kept .0 ∙ l .inv .2, next)
 
 same-length : tie.Need-same-length Inv-loop μ-loop
 same-length c = c .before .before .clear .kept .0 ∙ c .before .before .before .before .before .loop .inv .2

@@ -1,15 +1,16 @@
 -- `log::drop_owned` meets its contract: i records were read, and those that stay are closed up. Assumes nothing.
-use mathlib.Core.Path.{_≡_}
+use mathlib.Core.Path.{_≡_, ap}
+use mathlib.Core.Bool.{not}
 use mathlib.Core.List.{List}
-use Prim.Native.Nat.{_-_, _*_, _≤_}
+use Prim.Native.Nat.{_-_, _≤_}
 use native.Mathlib.Omega.{arith}
-use lib.ListN.{length, getD}
+use lib.ListN.{length}
 use borrow.Author.Needs.{needs}
 use Rattle.rules.specs.Window.{LogRecord}
 use Rattle.layout.specs.Codec.{logSection}
 use Rattle.words.specs.Members.{wordsHave}
 use Rattle.sets.specs.Members.{members}
-use Rattle.log.proofs.DropLaws.{Dropping, dropping-none, kept-most, dropping-turn, dropping-all}
+use Rattle.log.proofs.DropLaws.{left-most, Dropping, dropping-none, dropping-turn, dropping-all}
 use Rattle.log.proofs.drop_owned.Statement.{statement}
 use Rattle.log.proofs.drop_owned.Tie as tie
 
@@ -27,12 +28,12 @@ loop-holds c =
 
 loop-again : tie.Need-loop-again Inv-loop μ-loop
 loop-again c =
-    let a = c .before .before .before .before .before .before .before .before .before .args in let l = c .before .before .before .before .before .before .loop in
-    let k = c .before .before .keep-record in let s = wordsHave (a .ended .words) in (
+    let a = c .before .before .before .before .before .before .before .before .before .before .before .before .args in let l = c .before .before .before .before .before .before .before .before .before .loop in
+    let o = c .before .before .before .before .before .owner-at in let t = c .before .before .before .before .among in let k = c .before .before .keep-record in (
       search needs,
-      kept-most (s (getD (l .log) (l .i * 6) 0)) (l .i) (l .kept) (k .result) (l .inv .1) (k .ensures .0),
+      left-most (not (t .result)) (l .i) (l .kept) (k .result) (l .inv .1) (k .ensures .0),
       search needs,
-      λ r e q. dropping-turn s r (l .log) (l .i) (l .kept) (l .inv .3 r e q) (omega arith) (k .result) _ (omega arith) (k .ensures .0) (k .ensures .1),
+      λ r e q. dropping-turn (wordsHave (a .ended .words)) r (l .log) (l .i) (l .kept) (l .inv .3 r e q) (omega arith) (o .result) (o .ensures) (not (t .result)) (ap not (t .ensures)) (k .result) _ (omega arith) (k .ensures .0) (k .ensures .1),
     )
 
 returns : tie.Need-returns Inv-loop μ-loop
@@ -49,6 +50,8 @@ drop-owned-spec =
     Inv-loop
     μ-loop
     loop-holds
+    (λ c κs. search needs)
+    (λ c κs. search needs)
     (λ c κs. search needs)
     (λ c. search needs)
     (λ c. search needs)

@@ -1,25 +1,52 @@
--- `log::undo_record` meets its contract. Assumes nothing.
+-- `log::undo_record` meets its contract: the entry is undone already, the owner lives on, or the record gives the value. Assumes nothing.
 use mathlib.Core.Path.{sym, ap, _∙_}
-use lib.ListN.{getD}
-use Rattle.layout.specs.Codec.{noRecord, valueSection}
-use Rattle.words.specs.Members.{wordsHave}
-use Rattle.log.proofs.UndoLaws.{undo-yes, undo-no}
+use mathlib.Core.Bool.{_||_}
+use Prim.Native.Nat.{ℕ}
+use lib.Dec.{eqb}
 use borrow.Author.Needs.{needs}
+use borrow.Author.Tests.{not-true, not-false}
+use Rattle.rules.specs.Base.{put}
+use Rattle.layout.specs.Codec.{valueSection}
+use Rattle.words.specs.Members.{wordsHave}
+use Rattle.log.proofs.WithdrawLaws.{undone-before, undone-not, undone-now}
 use Rattle.log.proofs.undo_record.Statement.{statement}
 use Rattle.log.proofs.undo_record.Tie as tie
 
 returns : tie.Need-returns
 returns c =
-    let a = c .before .before .before .before .before .before .before .before .before .before .before .args in
-    let o = c .before .before .before .before .before .before .before .before .owner-at in let h = c .before .before .before .before .before .before .before .among in
-    let e = c .before .before .before .before .entry-at in let b = c .before .before .before .before-at in
-    λ v l p q t. c .before .before .store-value .ensures v p
-    ∙ ap valueSection (undo-yes (wordsHave (a .ended .now)) (getD l (a .i) noRecord) v (o .result) (e .result) (b .result) (sym (h .ensures) ∙ c .before .before .before .before .before .before .if1 .taken) (o .ensures l q) (e .ensures l q) (b .ensures l q t))
+    let s = c .before .before .before .before .before .before in let a = s .args in let entry = c .before .before .before .entry-at in
+    let undone = wordsHave (a .undone .now) in (
+      s .pre .1 .1 .1,
+      λ q e. undone-before (wordsHave (a .ended .now)) q undone (a .values .now) (ap undone (sym (entry .ensures q e)) ∙ sym (c .before .among .ensures) ∙ c .if1 .taken),
+    )
 
 returns-2 : tie.Need-returns-2
 returns-2 c =
-    let a = c .before .before .before .before .before .args in let o = c .before .before .owner-at in
-    λ v l p q t. p ∙ ap valueSection (undo-no (wordsHave (a .ended .now)) (getD l (a .i) noRecord) v (o .result) (sym (c .before .among .ensures) ∙ c .if1 .left) (o .ensures l q))
+    let s = c .before .before .before .before .before .before .before .before .before in let a = s .args in
+    let entry = c .before .before .before .before .before .before .entry-at in let owner = c .before .before .owner-at in
+    let ended = wordsHave (a .ended .now) in let undone = wordsHave (a .undone .now) in (
+      s .pre .1 .1 .1,
+      λ q e. undone-not ended q undone (a .values .now)
+          (ap undone (sym (entry .ensures q e)) ∙ sym (c .before .before .before .before .among .ensures) ∙ c .before .before .before .if1 .left)
+          (ap ended (sym (owner .ensures q e)) ∙ sym (c .before .among2 .ensures) ∙ not-true _ (c .if2 .taken)),
+    )
+
+returns-3 : tie.Need-returns-3
+returns-3 c =
+    let s = c .before .before .before .before .before .before .before .before .before .before .before .before .before .before .before .before in let a = s .args in
+    let entry = c .before .before .before .before .before .before .before .before .before .before .before .before .before .entry-at in
+    let owner = c .before .before .before .before .before .before .before .before .before .owner-at in
+    let before = c .before .before .before .before .before .before-at in
+    let store = c .before .before .before .before .store-value in let insert = c .insert in
+    let ended = wordsHave (a .ended .now) in let undone = wordsHave (a .undone .now) in (
+      insert .ensures .0,
+      λ q e. undone-now ended q undone (a .values .now)
+          (ap undone (sym (entry .ensures q e)) ∙ sym (c .before .before .before .before .before .before .before .before .before .before .before .among .ensures) ∙ c .before .before .before .before .before .before .before .before .before .before .if1 .left)
+          (ap ended (sym (owner .ensures q e)) ∙ sym (c .before .before .before .before .before .before .before .before .among2 .ensures) ∙ not-false _ (c .before .before .before .before .before .before .before .if2 .left))
+          _ _ (before .result) (before .ensures q e)
+          (λ v p. store .ensures v p ∙ ap (λ (k : ℕ). valueSection (put v k (before .result))) (entry .ensures q e))
+          (λ k. insert .ensures .1 k ∙ ap (λ (x : ℕ). eqb k x || undone k) (entry .ensures q e)),
+    )
 
 pub undo-record-spec : {M : Type 1} → statement M
 undo-record-spec =
@@ -27,9 +54,12 @@ undo-record-spec =
     (tie.spec
     (λ c κs. search needs)
     (λ c κs. search needs)
+    returns
+    (λ c κs. search needs)
+    (λ c κs. search needs)
+    returns-2
     (λ c κs. search needs)
     (λ c κs. search needs)
     (λ c κs. search needs)
     (λ c. search needs)
-    returns
-    returns-2)
+    returns-3)

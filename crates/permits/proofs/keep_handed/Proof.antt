@@ -5,7 +5,7 @@ use native.Mathlib.Omega.{arith}
 use lib.ListN.{length}
 use borrow.Author.Needs.{needs}
 use Rattle.sets.specs.Entries.{onEntries}
-use Rattle.rows.proofs.CloseLaws.{Moved, moved-none, moved-next, moved-all, moved-few}
+use Rattle.rows.proofs.CloseLaws.{Moved, moved-none, moved-next, moved-all}
 use Rattle.permits.specs.PermitRows.{handed}
 use Rattle.permits.proofs.keep_handed.Statement.{statement}
 use Rattle.permits.proofs.keep_handed.Tie as tie
@@ -27,7 +27,7 @@ loop-again c =
     let k = c .before .before .keep-row in
     let q = handed (a .from) (a .to) (onEntries (a .every) (a .entry)) (a .moving) in
     let next : Moved q (a .n) (a .s .now) (k .last .0) (l .i + 1) (k .result) = rw (k .ensures .1, k .ensures .0) (moved-next q (a .n) (a .s .now) (l .s) (l .i) (l .j) (l .inv .3) (omega arith) (t .result) (t .ensures) (omega arith)) in
-    (omega arith, moved-few q (a .n) (a .s .now) (k .last .0) (l .i + 1) (k .result) next (omega arith), k .kept .0 ∙ l .inv .2, next)
+    (omega arith, next .few, k .kept .0 ∙ l .inv .2, next)
 
 same-length : tie.Need-same-length Inv-loop μ-loop
 same-length c = c .before .before .clear .kept .0 ∙ c .before .before .before .before .before .loop .inv .2

@@ -7,7 +7,7 @@ use borrow.Author.Needs.{needs}
 use Rattle.words.specs.Members.{wordsHave}
 use Rattle.sets.specs.Members.{members}
 use Rattle.rows.specs.Rows.{spared}
-use Rattle.rows.proofs.CloseLaws.{Moved, moved-none, moved-next, moved-all, moved-few}
+use Rattle.rows.proofs.CloseLaws.{Moved, moved-none, moved-next, moved-all}
 use Rattle.rows.proofs.drop_involving.Statement.{statement}
 use Rattle.rows.proofs.drop_involving.Tie as tie
 
@@ -28,7 +28,7 @@ loop-again c =
     let k = c .before .before .keep-row in
     let q = spared (wordsHave (a .ended .words)) in
     let next : Moved q (a .n) (a .s .now) (k .last .0) (l .i + 1) (k .result) = rw (k .ensures .1, k .ensures .0) (moved-next q (a .n) (a .s .now) (l .s) (l .i) (l .j) (l .inv .3) (omega arith) (t .result) (t .ensures) (omega arith)) in
-    (omega arith, moved-few q (a .n) (a .s .now) (k .last .0) (l .i + 1) (k .result) next (omega arith), k .kept .0 ∙ l .inv .2, next)
+    (omega arith, next .few, k .kept .0 ∙ l .inv .2, next)
 
 same-length : tie.Need-same-length Inv-loop μ-loop
 same-length c = c .before .before .clear .kept .0 ∙ c .before .before .before .before .before .loop .inv .2

@@ -1,0 +1,2 @@
+-- What undoing one log record comes to.
+pub mod Undone
