@@ -1,4 +1,4 @@
-// What becomes of a window when a set of changes ends: all that they have in the tables is gone; and, for an abort, their log records undone.
+// What becomes of a window when a set of changes ends: all that they have in the tables is gone; and, for an abort, their log records are withdrawn.
 use cells::copy_in;
 use layout::Changes;
 use layout::Entries;
@@ -15,9 +15,9 @@ ghost use mathlib.Core.Bool.{true};
 ghost use Prim.Native.Nat.{_≤_};
 ghost use lib.ListN.{length};
 ghost use Rattle.rules.specs.Sets.{putAll};
-ghost use Rattle.rules.specs.Window.{Window, withValue, withStatus, withHeld, withLog, withPermits, withTies, withLine};
+ghost use Rattle.rules.specs.Window.{Window, withStatus, withHeld, withLog, withPermits, withTies, withLine};
 ghost use Rattle.rules.specs.Line.{lineLeft};
-ghost use Rattle.rules.specs.Effects.{released, unowned, permitsLeft, tiesLeft, endAll, undo as undone};
+ghost use Rattle.rules.specs.Effects.{released, unowned, permitsLeft, tiesLeft, endAll, withdraw as withdrawn};
 ghost use Rattle.layout.specs.Codec.{windowSize, decode, encode};
 ghost use Rattle.layout.specs.Memory.{soundBytes};
 ghost use Rattle.sets.specs.Members.{members};
@@ -28,9 +28,30 @@ fn drop_log(w: &mut [u8], ended: ChangeSet)
     requires { ⌜ length (now w) ≡ windowSize ⌝ }
     requires { ⌜ soundBytes (now w) ≡ true ⌝ }
     ensures { λ _. ⌜ now (w .exit) ≡ encode (withLog (decode (now (w .entry))) (unowned (members ended) (decode (now (w .entry)) .log))) ⌝ }
+    ensures { λ _. ⌜ soundBytes (now (w .exit)) ≡ true ⌝ }
 {
     let count = reads::records(w);
     let left = log::drop_owned(&mut w[Log::AT..layout::Window::SIZE], count, ended);
+    store_figure(&mut w[Header::AT..Entries::AT], 2, left as u16);
+}
+
+// The log records of ended changes are withdrawn, in a copy of the values: two parts of one window cannot be lent to write at once.
+fn withdraw(w: &mut [u8], ended: ChangeSet)
+    requires { ⌜ length (now w) ≡ windowSize ⌝ }
+    requires { ⌜ soundBytes (now w) ≡ true ⌝ }
+    ensures { λ _. ⌜ now (w .exit) ≡ encode (withdrawn (members ended) (decode (now (w .entry)))) ⌝ }
+    ensures { λ _. ⌜ soundBytes (now (w .exit)) ≡ true ⌝ }
+{
+    let records = reads::records(w);
+    let mut values = [0u8; Entries::SIZE];
+    copy_in(&w[Entries::AT..Changes::AT], &mut values, 0);
+    let left = log::withdraw(
+        &mut values,
+        &mut w[Log::AT..layout::Window::SIZE],
+        records,
+        ended,
+    );
+    copy_in(&values, w, Entries::AT);
     store_figure(&mut w[Header::AT..Entries::AT], 2, left as u16);
 }
 
@@ -74,39 +95,39 @@ fn set_ended(w: &mut [u8], entries: usize, ended: ChangeSet, how: u8)
     locks::release(&mut w[Locks::AT..Permits::AT], entries, ended);
 }
 
-// Changes end, as committed (4) or aborted (5).
-pub fn end_all(w: &mut [u8], ended: ChangeSet, how: u8)
+// Changes end, as committed (4) or aborted (5), but for the log.
+fn end_rest(w: &mut [u8], ended: ChangeSet, how: u8)
     requires { ⌜ length (now w) ≡ windowSize ⌝ }
     requires { ⌜ soundBytes (now w) ≡ true ⌝ }
-    ensures { λ _. ⌜ now (w .exit) ≡ encode (endAll how (members ended) (decode (now (w .entry)))) ⌝ }
+    ensures { λ _. ⌜ now (w .exit) ≡ encode (withLog (endAll how (members ended) (decode (now (w .entry)))) (decode (now (w .entry)) .log)) ⌝ }
 {
     // The figures are read first: once permits are dropped the bytes need not be sound.
     let entries = reads::entries(w);
     let permits = reads::permits(w);
     let ties = reads::ties(w);
     let waiters = reads::waiters(w);
-    drop_log(w, ended);
     drop_permits(w, permits, ended);
     drop_ties(w, ties, ended);
     drop_line(w, waiters, ended);
     set_ended(w, entries, ended, how);
 }
 
-// The log records of ended changes are undone, in a copy of the values: of one window, a part to write and a part to read cannot be lent at once.
-pub fn undo(w: &mut [u8], ended: ChangeSet)
+// Changes end as committed.
+pub fn commit_all(w: &mut [u8], ended: ChangeSet)
     requires { ⌜ length (now w) ≡ windowSize ⌝ }
     requires { ⌜ soundBytes (now w) ≡ true ⌝ }
-    ensures { λ _. ⌜ now (w .exit) ≡ encode (withValue (decode (now (w .entry))) (undone (members ended) (decode (now (w .entry)) .log) (decode (now (w .entry)) .value))) ⌝ }
-    ensures { λ _. ⌜ soundBytes (now (w .exit)) ≡ true ⌝ }
+    ensures { λ _. ⌜ now (w .exit) ≡ encode (endAll 4 (members ended) (decode (now (w .entry)))) ⌝ }
 {
-    let records = reads::records(w);
-    let mut values = [0u8; Entries::SIZE];
-    copy_in(&w[Entries::AT..Changes::AT], &mut values, 0);
-    log::undo(
-        &mut values,
-        &w[Log::AT..layout::Window::SIZE],
-        records,
-        ended,
-    );
-    copy_in(&values, w, Entries::AT);
+    drop_log(w, ended);
+    end_rest(w, ended, 4);
+}
+
+// Changes end as aborted.
+pub fn abort_all(w: &mut [u8], ended: ChangeSet)
+    requires { ⌜ length (now w) ≡ windowSize ⌝ }
+    requires { ⌜ soundBytes (now w) ≡ true ⌝ }
+    ensures { λ _. ⌜ now (w .exit) ≡ encode (endAll 5 (members ended) (withdrawn (members ended) (decode (now (w .entry))))) ⌝ }
+{
+    withdraw(w, ended);
+    end_rest(w, ended, 5);
 }

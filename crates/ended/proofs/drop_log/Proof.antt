@@ -5,7 +5,7 @@ use Rattle.layout.specs.Codec.{decode}
 use Rattle.layout.proofs.MemoryLaws.{bytes-again}
 use Rattle.layout.proofs.LentLaws.{log-back}
 use Rattle.sets.specs.Members.{members}
-use Rattle.ended.proofs.EndLaws.{log-fits}
+use Rattle.ended.proofs.EndLaws.{drop-fits, dropped}
 use Rattle.ended.proofs.drop_log.Statement.{statement}
 use Rattle.ended.proofs.drop_log.Tie as tie
 
@@ -15,7 +15,7 @@ cast-store-figure c =
     let w = s .args .w .now in
     let count = c .before .before .before .before .before .records in
     let left = c .before .before .before .drop-owned in
-    record { fits = log-fits w (s .pre .1) (members (s .args .ended)) (count .result) (left .result) (count .ensures .0) (count .ensures .1) (left .ensures) }
+    record { fits = drop-fits w (s .pre .1) (members (s .args .ended)) (count .result) (left .result) (count .ensures .0) (count .ensures .1) (left .ensures) }
 
 returns : tie.Need-returns
 returns c =
@@ -23,7 +23,8 @@ returns c =
     let w = s .args .w .now in
     let count = c .before .before .before .before .before .before .before .before .records in
     let left = c .before .before .before .before .before .before .drop-owned in
-    log-back (decode w) (sym (bytes-again w (s .pre .1))) (left .ensures (decode w .log) (sym (count .ensures .0))) (c .before .before .store-figure .ensures)
+    let is = log-back (decode w) (sym (bytes-again w (s .pre .1))) (left .ensures (decode w .log) (sym (count .ensures .0))) (c .before .before .store-figure .ensures) in
+    (is, dropped w (s .pre .1) (members (s .args .ended)) is)
 
 pub drop-log-spec : {M : Type 1} → statement M
 drop-log-spec =
