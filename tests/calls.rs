@@ -6,18 +6,21 @@ mod library;
 mod lines;
 mod model;
 mod perform;
+mod piles;
 mod random;
 mod readings;
 mod tied;
 mod trial;
 mod tries;
 mod windows;
+mod withdrawals;
 
 use demand::Turns;
 use model::SIZE;
 use perform::Call::{self, *};
 use perform::{Reply, NAMES};
-use random::{Kind, Random, DENSE, LINES, MIXED, PERMITS, TIES, WRITES};
+use piles::Met;
+use random::{Kind, Random, DENSE, LINES, MIXED, PERMITS, SHARED, TIES, WRITES};
 use trial::{Start, Trial};
 
 const ANSWERS: [u32; 15] = [0, 1, 2, 3, 4, 5, 6, 7, 8, 9, 10, 11, 12, 20, 21];
@@ -42,13 +45,14 @@ const REACHABLE: [&[u32]; 15] = [
 ];
 
 /// How often each call was answered how, in the order of NAMES; how many lists ended in walks; the most that stood in
-/// line; how often what is held of locks and lines was put to the test.
+/// line; how often what is held of locks and lines was put to the test, and withdrawals met others' writes.
 #[derive(Default)]
 struct Tally {
     answers: [[usize; 22]; 15],
     walked: usize,
     longest: usize,
     turns: Turns,
+    met: Met,
 }
 
 impl Tally {
@@ -235,6 +239,7 @@ fn list(r: &mut Random, kind: &Kind, first: &[Call], length: usize, tally: &mut 
         tally.make(&mut trial, call);
     }
     tally.turns.add(trial.story().unwrap().turns());
+    tally.met.add(trial.story().unwrap().met());
     for _ in 0..4 {
         damaged(r, kind, &trial, tally);
     }
@@ -245,6 +250,12 @@ fn list(r: &mut Random, kind: &Kind, first: &[Call], length: usize, tally: &mut 
 /// Changes 1 to n, running.
 fn changes(n: u32) -> Vec<Call> {
     (1..=n).map(|_| Initiate(0)).chain((1..=n).map(Begin)).collect()
+}
+
+/// Changes 1 to n, each with the write lock on every entry, and a permit there to anybody.
+fn side_by_side(n: u32, entries: u32) -> Vec<Call> {
+    let each = (0..entries).flat_map(|e| (1..=n).flat_map(move |c| [Lock(c, e, 2), Permit(c, 0, e, 3)]));
+    changes(n).into_iter().chain(each).collect()
 }
 
 /// Lists that begin with a nearly full table.
@@ -281,6 +292,7 @@ fn random_lists(r: &mut Random, calls: usize, tally: &mut Tally) {
         for entries in [1, 2, 3] {
             made += list(r, &Kind { entries, live: 6, often: LINES }, &[], 400, tally);
             made += list(r, &Kind { entries, live: 40, often: LINES }, &changes(20), 400, tally);
+            made += list(r, &Kind { entries, live: 6, often: SHARED }, &side_by_side(6, entries), 200, tally);
         }
         if round % 4 == 0 {
             made += nearly_full(r, tally);
@@ -290,9 +302,10 @@ fn random_lists(r: &mut Random, calls: usize, tally: &mut Tally) {
         }
     }
     println!("{made} random calls, {} lists ended in walks", tally.walked);
-    let Tally { longest, turns, .. } = *tally;
-    println!("at most {longest} in line; of locks and lines {turns:?}");
-    assert!(longest > 20 && turns.least() > 100, "something was put to the test too seldom");
+    let Tally { longest, turns, met, .. } = *tally;
+    println!("at most {longest} in line; of locks and lines {turns:?}; of withdrawals {met:?}");
+    let least = turns.least().min(met.later).min(met.earlier);
+    assert!(longest > 20 && least > 100, "something was put to the test too seldom");
 }
 
 /// Who stands in line after calls on a window with three in line: who completes or ends leaves, and the others close up
@@ -322,6 +335,7 @@ fn main() {
         tries::calls_to_try(),
         tries::errors(),
         readings::readings(),
+        withdrawals::withdrawals(),
         tied::tied(),
         full_tables::full_tables(),
         lines::lines(),

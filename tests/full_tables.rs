@@ -7,6 +7,7 @@ use Call::*;
 pub fn full_tables() -> Vec<Try> {
     vec![
         ("2,048 log records", full_log()),
+        ("2,048 log records, all struck by one withdrawal", struck_log()),
         ("255 changes", full_changes()),
         ("1,024 permits", full_permits()),
         ("512 ties", full_ties()),
@@ -37,6 +38,16 @@ fn full_log() -> Vec<Line> {
             (Write(1, 0, 7), 0, 0),
         ],
     )
+}
+
+/// 1 writes first and 2 all the rest: when 1 is withdrawn, 2 has the whole log.
+fn struck_log() -> Vec<Line> {
+    let locks = [(Lock(1, 0, 2), 0, 0), (Permit(1, 2, 0, 2), 0, 0), (Lock(2, 0, 2), 0, 0), (Write(1, 0, 9), 0, 0)];
+    let mut lines = runs(1, 2, &locks);
+    lines.extend((1..=2_047).map(|i| (Write(2, 0, i), 0, 0)));
+    lines.extend([(Write(2, 0, 5_000), 11, 0), (Abort(1), 0, 1), (Value(0), 0, 0)]);
+    lines.extend((1..=2_048).map(|i| (Write(2, 0, i), 0, 0)));
+    after(lines, &[(Write(2, 0, 5_000), 11, 0), (Value(0), 0, 2_048), (Abort(2), 0, 1), (Value(0), 0, 0)])
 }
 
 fn full_changes() -> Vec<Line> {

@@ -364,10 +364,19 @@ fn abort(w: &mut Window, c: u8) -> Reply {
         _ => {}
     }
     let set = closed(w, c, true);
-    for r in w.log.iter().rev().filter(|r| set.contains(&r.owner)) {
-        w.values[r.entry as usize] = r.before;
+    for entry in 0..=255 {
+        withdraw(w, &set, entry);
     }
     (0, end(w, &set, 5))
+}
+
+/// On each entry, the oldest record owned by the ended set gives the value stored, and every later record on that
+/// entry, whoever owns it, is struck from the log.
+fn withdraw(w: &mut Window, set: &BTreeSet<u8>, entry: u8) {
+    let Some(oldest) = w.log.iter().position(|r| r.entry == entry && set.contains(&r.owner)) else { return };
+    w.values[entry as usize] = w.log[oldest].before;
+    let later = w.log.split_off(oldest);
+    w.log.extend(later.into_iter().filter(|r| r.entry != entry));
 }
 
 /// An ended change loses its locks, log records, ties, permits given and received, and its place in line. How many

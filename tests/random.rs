@@ -60,6 +60,8 @@ pub const DENSE: [usize; 15] = [1, 60, 80, 6, 260, 30, 120, 220, 60, 60, 8, 5, 1
 pub const WRITES: [usize; 15] = [0, 2, 4, 1, 20, 4, 80, 6, 12, 4, 1, 1, 2, 2, 4];
 pub const PERMITS: [usize; 15] = [0, 2, 4, 1, 30, 4, 12, 80, 14, 4, 1, 1, 2, 2, 2];
 pub const TIES: [usize; 15] = [0, 2, 4, 6, 8, 2, 8, 4, 4, 90, 2, 1, 4, 2, 2];
+/// Several write to an entry side by side, and some are withdrawn.
+pub const SHARED: [usize; 15] = [0, 8, 12, 2, 30, 2, 90, 20, 8, 4, 4, 8, 1, 1, 4];
 /// Most locks have to wait.
 pub const LINES: [usize; 15] = [0, 8, 12, 4, 90, 2, 6, 8, 8, 2, 3, 3, 1, 1, 1];
 

@@ -127,7 +127,7 @@ fn two_writers() -> Vec<Line> {
             (Abort(1), 0, 1),
             (Value(0), 0, 0),
             (Abort(2), 0, 1),
-            (Value(0), 0, 7),
+            (Value(0), 0, 0),
         ],
     )
 }

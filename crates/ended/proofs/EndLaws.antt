@@ -13,7 +13,7 @@ use Rattle.rules.specs.Effects.{released, isUnowned, unowned, permitsLeft, ties
 use Rattle.rules.proofs.ListLaws.{all-keep, length-keep, fewer}
 use Rattle.rules.proofs.SoundParts.{Sound}
 use Rattle.rules.proofs.SoundPlain.{log-sound, withdraw-sound}
-use Rattle.rules.proofs.UndoLaws.{left-few, left-unowned}
+use Rattle.rules.proofs.UndoLaws.{left-unowned}
 use Rattle.layout.specs.Codec.{headSize, valuesAt, valuesSize, changesAt, changesSize, locksAt, locksSize, logAt, logSize, windowSize, noRecord, valueByte, figures, valueSection, changeSection, lockSection, logSection, lay, decode, encode}
 use Rattle.layout.specs.Memory.{soundBytes}
 use Rattle.layout.specs.Records.{Tabled}
@@ -61,17 +61,15 @@ module _ (how : ℕ) (m : Set) (X : Window) (k : Sound limits X) {mid out : List
   rest-of = r ∙ ap (λ (Y : Window). encode (withLog (endAll how m Y) (Y .log))) (ap decode e ∙ sound-again X k)
 
 -- THE LOG DROPPED
+pub unowned-few : (m : Set) (l : List LogRecord) → length (unowned m l) ≤ length l
+unfolding unowned
+unowned-few m l = length-keep (isUnowned m) l
+
 module _ (bs : List ℕ) (s : soundBytes bs ≡ true) where
   -- what is left of the log is counted in two bytes
-  fits : (count r : ℕ) (x : List LogRecord) {out : List ℕ} → count ≡ length (decode bs .log) → count ≤ 2048 → length x ≤ length (decode bs .log) → Tabled logSection x r out → r < 65536
-  fits count r x c h few t = omega (arith, t .count)
-
-  pub drop-fits : (m : Set) (count r : ℕ) {out : List ℕ} → count ≡ length (decode bs .log) → count ≤ 2048 → ((l : List LogRecord) → length l ≡ count → take logSize (drop logAt bs) ≡ logSection l → Tabled logSection (unowned m l) r out) → r < 65536
-  unfolding unowned
-  drop-fits m count r c h d = fits count r (unowned m (decode bs .log)) c h (length-keep (isUnowned m) (decode bs .log)) (d (decode bs .log) (sym c) (log-known bs s))
-
-  pub withdraw-fits : (m : Set) (count r : ℕ) {out : List ℕ} → count ≡ length (decode bs .log) → count ≤ 2048 → ((l : List LogRecord) → length l ≡ count → take logSize (drop logAt bs) ≡ logSection l → Tabled logSection (recordsLeft m l) r out) → r < 65536
-  withdraw-fits m count r c h d = fits count r (recordsLeft m (decode bs .log)) c h (left-few m (decode bs .log)) (d (decode bs .log) (sym c) (log-known bs s))
+  pub log-fits : (left : List LogRecord → List LogRecord) → ((l : List LogRecord) → length (left l) ≤ length l) → (count r : ℕ) {out : List ℕ} → count ≡ length (decode bs .log) → count ≤ 2048
+      → ((l : List LogRecord) → length l ≡ count → take logSize (drop logAt bs) ≡ logSection l → Tabled logSection (left l) r out) → r < 65536
+  log-fits left few count r c h d = omega (arith, few (decode bs .log), d (decode bs .log) (sym c) (log-known bs s) .count)
 
   -- the window stays sound
   dropped-sound : (m : Set) → Sound limits (withLog (decode bs) (unowned m (decode bs .log)))

@@ -61,7 +61,7 @@ pub delegated : Answered (two (Lock 1 0 2 ∷ Write 1 0 7 ∷ Delegate 1 2 65535
 unfolding rules
 delegated e c r p t = refl
 
--- "1 writes 7, permits 2 to write, 2 locks and writes 9; abort 1: value 0; abort 2": by A3 of document 02, "value 0 after both aborts"
+-- "1 writes 7, permits 2 to write, 2 locks and writes 9; abort 1: value 0; abort 2: value 0"
 pub two-writers : Answered (two (Lock 1 0 2 ∷ Write 1 0 7 ∷ Permit 1 2 0 2 ∷ Lock 2 0 2 ∷ Write 2 0 9 ∷ Abort 1 ∷ Value 0 ∷ Abort 2 ∷ Value 0 ∷ []))
     (begun ((0, 0) ∷ (0, 0) ∷ (0, 0) ∷ (0, 0) ∷ (0, 0) ∷ (0, 1) ∷ (0, 0) ∷ (0, 1) ∷ (0, 0) ∷ []))
 unfolding rules

@@ -129,7 +129,7 @@ pub fn commit(w: &mut [u8], change: u32) -> Reply
     endings::commit(w, change)
 }
 
-// The change and all that must end with it are undone and aborted.
+// The change and all that must end with it are withdrawn and aborted.
 pub fn abort(w: &mut [u8], change: u32) -> Reply
     requires { ⌜ length (now w) ≡ windowSize ⌝ }
     requires { ⌜ soundBytes (now w) ≡ true ⌝ }

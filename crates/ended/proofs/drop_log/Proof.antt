@@ -1,11 +1,12 @@
 -- `ended::drop_log` meets its contract. Assumes nothing.
 use mathlib.Core.Path.{sym}
 use borrow.Author.Needs.{needs}
+use Rattle.rules.specs.Effects.{unowned}
 use Rattle.layout.specs.Codec.{decode}
 use Rattle.layout.proofs.MemoryLaws.{bytes-again}
 use Rattle.layout.proofs.LentLaws.{log-back}
 use Rattle.sets.specs.Members.{members}
-use Rattle.ended.proofs.EndLaws.{drop-fits, dropped}
+use Rattle.ended.proofs.EndLaws.{unowned-few, log-fits, dropped}
 use Rattle.ended.proofs.drop_log.Statement.{statement}
 use Rattle.ended.proofs.drop_log.Tie as tie
 
@@ -15,7 +16,7 @@ cast-store-figure c =
     let w = s .args .w .now in
     let count = c .before .before .before .before .before .records in
     let left = c .before .before .before .drop-owned in
-    record { fits = drop-fits w (s .pre .1) (members (s .args .ended)) (count .result) (left .result) (count .ensures .0) (count .ensures .1) (left .ensures) }
+    record { fits = log-fits w (s .pre .1) (unowned (members (s .args .ended))) (unowned-few (members (s .args .ended))) (count .result) (left .result) (count .ensures .0) (count .ensures .1) (left .ensures) }
 
 returns : tie.Need-returns
 returns c =

@@ -3,11 +3,13 @@ use mathlib.Core.Path.{_∙_}
 use native.Mathlib.Omega.{arith}
 use borrow.Author.Needs.{needs}
 use borrow.Rule.Slice.PartMut.{same-len-mid}
+use Rattle.rules.specs.Effects.{recordsLeft}
+use Rattle.rules.proofs.UndoLaws.{left-few}
 use Rattle.layout.specs.Codec.{logAt, logSize}
 use Rattle.cells.specs.Part.{part}
 use Rattle.cells.proofs.PartLaws.{length-part}
 use Rattle.sets.specs.Members.{members}
-use Rattle.ended.proofs.EndLaws.{values-room, head-room, copy-size, withdraw-fits, withdrawn}
+use Rattle.ended.proofs.EndLaws.{log-fits, values-room, head-room, copy-size, withdrawn}
 use Rattle.ended.proofs.withdraw.Statement.{statement}
 use Rattle.ended.proofs.withdraw.Tie as tie
 
@@ -40,7 +42,7 @@ cast-store-figure c =
     let s = c .before .before .before .before .before .before .before .before .before .before .before .before .before .before .before .before .before .before .before .before in
     let count = c .before .before .before .before .before .before .before .before .before .before .before .before .before .before .before .before .before .records in
     let left = c .before .before .before .before .before .before .before .before .before .withdraw in
-    record { fits = withdraw-fits (s .args .w .now) (s .pre .1) (members (s .args .ended)) (count .result) (left .result) (count .ensures .0) (count .ensures .1) (left .ensures .1) }
+    record { fits = log-fits (s .args .w .now) (s .pre .1) (recordsLeft (members (s .args .ended))) (left-few (members (s .args .ended))) (count .result) (left .result) (count .ensures .0) (count .ensures .1) (left .ensures .1) }
 
 same-length : tie.Need-same-length
 same-length c =
