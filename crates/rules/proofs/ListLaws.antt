@@ -1,4 +1,4 @@
--- Tests of all or some of a list, of which a part is kept, of which each is changed, to which one is added; how long they are. Assumes nothing.
+-- Tests of all or some of a list, of which a part is kept, of which each is changed, to which one is added; how long they are; tables. Assumes nothing.
 use mathlib.Core.Path.{_≡_, refl, _∙_, ap, sym}
 use mathlib.Core.Logic.{⊎-elim}
 use mathlib.Core.Bool.{Bool, true, false, not, cond, _&&_, _||_, false≢true, true≢false, or-assoc}
@@ -22,7 +22,7 @@ module _ {ℓ} {A : Type ℓ} where
       go true h ih = and-both (r x) (all r (keep q l)) (f x (and-left (p x) (all p l) e) h) ih
       go false h ih = ih
 
-  -- those kept of two lists, and of one that passes throughout
+  -- those kept of two lists
   pub keep-join : (q : A → Bool) (l m : List A) → keep q (l ++ m) ≡ keep q l ++ keep q m
   unfolding keep
   keep-join q [] m = refl

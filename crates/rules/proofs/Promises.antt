@@ -14,7 +14,7 @@ use Rattle.rules.specs.Sets.{Set, putAll}
 use Rattle.rules.specs.Window.{Limits, LogRecord, TieRecord, Window, tieKey, withValue, withLog, live, isEnded}
 use Rattle.rules.specs.Ties.{makeTie, addTie, acyclic, isArrow, tied, grouped, falling, groupOf, endSet}
 use Rattle.rules.specs.Calls.{Commit, Abort, done, unchanged}
-use Rattle.rules.specs.Effects.{released, endAll, leadsTo, leadersOf, commitBlockers, commitGroup, commitChange, ownedOn, undo, recordsLeft, withdraw, abortAll, abortChange, effect}
+use Rattle.rules.specs.Effects.{released, endAll, leadsTo, leadersOf, commitBlockers, commitGroup, commitChange, ownedOn, undo, withdraw, abortAll, abortChange, effect}
 use Rattle.rules.specs.Refusals.{checks, firstFailed, _if_, settle, step}
 use Rattle.rules.proofs.BaseLaws.{or-right, or-cases, or-none, and-both, and-left, and-right, none-below, anyBelow-none, eqb-same}
 use Rattle.rules.proofs.DemandMoves.{live-status, not-ended}
