@@ -60,7 +60,7 @@ module _ (how : ℕ) (m : Set) (X : Window) (k : Sound limits X) {mid out : List
   rest-of : out ≡ encode (withLog (endAll how m X) (X .log))
   rest-of = r ∙ ap (λ (Y : Window). encode (withLog (endAll how m Y) (Y .log))) (ap decode e ∙ sound-again X k)
 
--- THE LOG DROPPED
+-- THE LOG FIRST: what is left of it, and the rest after it
 pub unowned-few : (m : Set) (l : List LogRecord) → length (unowned m l) ≤ length l
 unfolding unowned
 unowned-few m l = length-keep (isUnowned m) l
