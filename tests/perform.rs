@@ -364,8 +364,8 @@ fn abort(w: &mut Window, c: u8) -> Reply {
         _ => {}
     }
     let set = closed(w, c, true);
-    for entry in 0..=255 {
-        withdraw(w, &set, entry);
+    for entry in 0..w.entries {
+        withdraw(w, &set, entry as u8);
     }
     (0, end(w, &set, 5))
 }
