@@ -114,22 +114,20 @@ fn all_delegated() -> Vec<Line> {
     )
 }
 
+/// Changes that run; 1 writes 7 to the only entry and permits 2 to write, 2 locks and writes 9; more calls behind.
+pub fn both_write(changes: u32, more: &[Line]) -> Vec<Line> {
+    let writes = [
+        (Lock(1, 0, 2), 0, 0),
+        (Write(1, 0, 7), 0, 0),
+        (Permit(1, 2, 0, 2), 0, 0),
+        (Lock(2, 0, 2), 0, 0),
+        (Write(2, 0, 9), 0, 0),
+    ];
+    after(runs(1, changes, &writes), more)
+}
+
 fn two_writers() -> Vec<Line> {
-    runs(
-        1,
-        2,
-        &[
-            (Lock(1, 0, 2), 0, 0),
-            (Write(1, 0, 7), 0, 0),
-            (Permit(1, 2, 0, 2), 0, 0),
-            (Lock(2, 0, 2), 0, 0),
-            (Write(2, 0, 9), 0, 0),
-            (Abort(1), 0, 1),
-            (Value(0), 0, 0),
-            (Abort(2), 0, 1),
-            (Value(0), 0, 0),
-        ],
-    )
+    both_write(2, &[(Abort(1), 0, 1), (Value(0), 0, 0), (Abort(2), 0, 1), (Value(0), 0, 0)])
 }
 
 fn delegate_past_permit() -> Vec<Line> {

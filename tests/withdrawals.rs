@@ -1,6 +1,6 @@
 //! Lists of calls about withdrawals, with the answers that the rules give, worked out by hand.
 use crate::perform::Call;
-use crate::tries::{after, running, runs, Line, Try};
+use crate::tries::{after, both_write, running, runs, Line, Try};
 use Call::*;
 
 /// What a withdrawal puts back and strikes, where several changes wrote to an entry.
@@ -48,15 +48,9 @@ fn later_struck() -> Vec<Line> {
 }
 
 fn earlier_stays() -> Vec<Line> {
-    runs(
-        1,
+    both_write(
         2,
         &[
-            (Lock(1, 0, 2), 0, 0),
-            (Write(1, 0, 7), 0, 0),
-            (Permit(1, 2, 0, 2), 0, 0),
-            (Lock(2, 0, 2), 0, 0),
-            (Write(2, 0, 9), 0, 0),
             (Write(2, 0, 11), 0, 0),
             (Abort(2), 0, 1),
             (Value(0), 0, 7),
@@ -85,15 +79,9 @@ fn nothing_written() -> Vec<Line> {
 }
 
 fn partner_goes_on() -> Vec<Line> {
-    runs(
-        1,
+    both_write(
         3,
         &[
-            (Lock(1, 0, 2), 0, 0),
-            (Write(1, 0, 7), 0, 0),
-            (Permit(1, 2, 0, 2), 0, 0),
-            (Lock(2, 0, 2), 0, 0),
-            (Write(2, 0, 9), 0, 0),
             (Abort(1), 0, 1),
             (Status(2), 0, 2),
             (Read(2, 0), 0, 0),
@@ -109,15 +97,9 @@ fn partner_goes_on() -> Vec<Line> {
 }
 
 fn struck_then_committed() -> Vec<Line> {
-    runs(
-        1,
+    both_write(
         2,
         &[
-            (Lock(1, 0, 2), 0, 0),
-            (Write(1, 0, 7), 0, 0),
-            (Permit(1, 2, 0, 2), 0, 0),
-            (Lock(2, 0, 2), 0, 0),
-            (Write(2, 0, 9), 0, 0),
             (Complete(2), 0, 0),
             (Abort(1), 0, 1),
             (Value(0), 0, 0),
@@ -179,15 +161,9 @@ fn handed_over() -> Vec<Line> {
 }
 
 fn commit_strikes_none() -> Vec<Line> {
-    runs(
-        1,
+    both_write(
         2,
         &[
-            (Lock(1, 0, 2), 0, 0),
-            (Write(1, 0, 7), 0, 0),
-            (Permit(1, 2, 0, 2), 0, 0),
-            (Lock(2, 0, 2), 0, 0),
-            (Write(2, 0, 9), 0, 0),
             (Write(1, 0, 11), 0, 0),
             (Complete(1), 0, 0),
             (Commit(1), 0, 1),
