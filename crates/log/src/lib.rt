@@ -142,7 +142,7 @@ pub fn hand_over(log: &mut [u8], count: usize, from: u8, to: u8, every: bool, en
     }
 }
 
-// Record i is undone, where its owner has ended and no record before it was undone on its entry. What comes back is whether it stays in the log.
+// Record i is undone, where its owner has ended and its entry is not undone yet. What comes back is whether it stays in the log: it is not undone, and neither is its entry.
 fn undo_record(
     values: &mut [u8],
     log: &[u8],
@@ -169,7 +169,7 @@ fn undo_record(
     false
 }
 
-// The records of ended changes are withdrawn: on each entry the oldest gives the value, and with it all later ones leave the log.
+// The records of ended changes are withdrawn: on each entry the oldest of them gives the value, and leaves the log with every later one there.
 // What comes back is how many are left.
 pub fn withdraw(values: &mut [u8], log: &mut [u8], count: usize, ended: ChangeSet) -> usize
     requires { ⌜ length (now values) ≡ valuesSize ⌝ }

@@ -150,7 +150,7 @@ module _ (L : Limits) (W : Window) (z : Sound L W) (c : ℕ) (lc : live W c ≡ 
   unfolding endAll withdraw withValue withLog
   abort-strikes none = ap (λ X. X .log) abort-after ∙ left-unowned (endSet W c) W.log ∙ left-places (endSet W c) none W.log
 
-  -- "A partner stays live and keeps its lock", as does everybody that it does not end
+  -- "The partner stays live and keeps its lock", as does everybody that it does not end
   pub abort-holds : (e d : ℕ) → endSet W c d ≡ false → step L W (Abort c) .after .held e d ≡ W .held e d
   unfolding endAll released putAll withdraw withValue withLog
   abort-holds e d h = ap (λ X. X .held e d) abort-after ∙ rw h

@@ -210,7 +210,7 @@ unfoldable pub recordsLeft : Set → List LogRecord → List LogRecord
 recordsLeft s [] = []
 recordsLeft s (r ∷ l) = cond (s r.owner) (keep (isElsewhere r.entry) (recordsLeft s l)) (r ∷ recordsLeft s l)
 
--- the two together, and nothing else: "A partner stays live and keeps its lock"
+-- the two together, and nothing else: "The partner stays live and keeps its lock"
 unfoldable pub withdraw : Set → Window → Window
 withdraw s W = withLog (withValue W (undo s W.log W.value)) (recordsLeft s W.log)
 
