@@ -6,7 +6,6 @@ mod library;
 mod lines;
 mod model;
 mod perform;
-mod piles;
 mod random;
 mod readings;
 mod tied;
@@ -14,14 +13,15 @@ mod trial;
 mod tries;
 mod windows;
 mod withdrawals;
+mod writes;
 
 use demand::Turns;
 use model::SIZE;
 use perform::Call::{self, *};
 use perform::{Reply, NAMES};
-use piles::Met;
 use random::{Kind, Random, DENSE, LINES, MIXED, PERMITS, SHARED, TIES, WRITES};
 use trial::{Start, Trial};
+use writes::Met;
 
 const ANSWERS: [u32; 15] = [0, 1, 2, 3, 4, 5, 6, 7, 8, 9, 10, 11, 12, 20, 21];
 

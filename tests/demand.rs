@@ -2,7 +2,7 @@
 //! held to"), and a few more that can be read off them.
 use crate::model::Window;
 use crate::perform::{Call, Reply, EVERY_ENTRY};
-use crate::piles::{Met, Piles};
+use crate::writes::{Met, Writes};
 use std::collections::{BTreeMap, BTreeSet};
 use Call::*;
 
@@ -42,7 +42,8 @@ pub struct Story {
     /// (entry, change) to the call since which the change waits there.
     waits: BTreeMap<(u32, u32), usize>,
     turns: Turns,
-    piles: Piles,
+    /// Those that can be withdrawn.
+    logged: Writes,
 }
 
 fn must(holds: bool, words: impl Fn() -> String) -> Result<(), String> {
@@ -79,14 +80,14 @@ impl Story {
         let fresh = self.take_statuses(call, answer, after)?;
         self.take_turns(call, answer);
         if answer == 0 {
-            self.piles.take(call, &fresh);
+            self.logged.take(call, &fresh);
         }
         self.judge_number(call, (answer, number), &fresh)?;
         self.judge_ends(call, &fresh)?;
         self.judge_ties()?;
         self.judge_book(after)?;
         self.judge_values(after)?;
-        self.piles.judge(after)
+        self.logged.judge(after)
     }
 
     /// The book's step for a call answered 0.
@@ -270,7 +271,7 @@ impl Story {
     }
 
     pub fn met(&self) -> Met {
-        self.piles.met()
+        self.logged.met()
     }
 
     /// Who waits since which call: from a lock answered 20 on, until one answered 0, while it runs.

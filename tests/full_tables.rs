@@ -7,7 +7,7 @@ use Call::*;
 pub fn full_tables() -> Vec<Try> {
     vec![
         ("2,048 log records", full_log()),
-        ("2,048 log records, all struck by one withdrawal", struck_log()),
+        ("all 2,048 log records struck by one withdrawal", struck_log()),
         ("255 changes", full_changes()),
         ("1,024 permits", full_permits()),
         ("512 ties", full_ties()),
@@ -40,7 +40,7 @@ fn full_log() -> Vec<Line> {
     )
 }
 
-/// 1 writes first and 2 all the rest: when 1 is withdrawn, 2 has the whole log.
+/// 1 writes first and 2 all the rest: when 1 is withdrawn the log is empty, and 2 can fill it.
 fn struck_log() -> Vec<Line> {
     let locks = [(Lock(1, 0, 2), 0, 0), (Permit(1, 2, 0, 2), 0, 0), (Lock(2, 0, 2), 0, 0), (Write(1, 0, 9), 0, 0)];
     let mut lines = runs(1, 2, &locks);

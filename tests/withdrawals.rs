@@ -7,9 +7,13 @@ use Call::*;
 pub fn withdrawals() -> Vec<Try> {
     vec![
         ("later records are struck, whoever owns them", later_struck()),
+        ("a record between two of the set's is struck", between()),
+        ("who gave the permit is struck too", giver_struck()),
         ("earlier records stay", earlier_stays()),
+        ("the oldest record on that entry, not of the log", oldest_there()),
         ("who wrote nothing takes nothing back", nothing_written()),
         ("the partner of a withdrawn change goes on", partner_goes_on()),
+        ("the partner keeps its place in line", place_kept()),
         ("a write that was struck stays so when its change commits", struck_then_committed()),
         ("the oldest record of the whole set", whole_set()),
         ("records handed over go with their new owner", handed_over()),
@@ -47,6 +51,37 @@ fn later_struck() -> Vec<Line> {
     )
 }
 
+fn between() -> Vec<Line> {
+    both_write(
+        2,
+        &[
+            (Write(1, 0, 11), 0, 0),
+            (Abort(1), 0, 1),
+            (Value(0), 0, 0),
+            (Abort(2), 0, 1),
+            (Value(0), 0, 0),
+        ],
+    )
+}
+
+fn giver_struck() -> Vec<Line> {
+    runs(
+        1,
+        2,
+        &[
+            (Lock(2, 0, 2), 0, 0),
+            (Permit(2, 1, 0, 2), 0, 0),
+            (Lock(1, 0, 2), 0, 0),
+            (Write(1, 0, 7), 0, 0),
+            (Write(2, 0, 9), 0, 0),
+            (Abort(1), 0, 1),
+            (Value(0), 0, 0),
+            (Abort(2), 0, 1),
+            (Value(0), 0, 0),
+        ],
+    )
+}
+
 fn earlier_stays() -> Vec<Line> {
     both_write(
         2,
@@ -57,6 +92,28 @@ fn earlier_stays() -> Vec<Line> {
             (Write(1, 0, 8), 0, 0),
             (Abort(1), 0, 1),
             (Value(0), 0, 0),
+        ],
+    )
+}
+
+/// 1 writes to entry 0 before 2 writes to entry 1, and to entry 1 after that.
+fn oldest_there() -> Vec<Line> {
+    runs(
+        2,
+        2,
+        &[
+            (Lock(1, 0, 2), 0, 0),
+            (Lock(1, 1, 2), 0, 0),
+            (Permit(1, 2, 1, 2), 0, 0),
+            (Lock(2, 1, 2), 0, 0),
+            (Write(1, 0, 7), 0, 0),
+            (Write(2, 1, 8), 0, 0),
+            (Write(1, 1, 9), 0, 0),
+            (Abort(1), 0, 1),
+            (Value(0), 0, 0),
+            (Value(1), 0, 8),
+            (Abort(2), 0, 1),
+            (Value(1), 0, 0),
         ],
     )
 }
@@ -92,6 +149,28 @@ fn partner_goes_on() -> Vec<Line> {
             (Abort(2), 0, 1),
             (Value(0), 0, 0),
             (Lock(3, 0, 1), 0, 0),
+        ],
+    )
+}
+
+/// 2 waits for entry 1, which 3 holds, when 1 is withdrawn.
+fn place_kept() -> Vec<Line> {
+    runs(
+        2,
+        3,
+        &[
+            (Lock(1, 0, 2), 0, 0),
+            (Write(1, 0, 7), 0, 0),
+            (Permit(1, 2, 0, 2), 0, 0),
+            (Lock(2, 0, 2), 0, 0),
+            (Write(2, 0, 9), 0, 0),
+            (Lock(3, 1, 2), 0, 0),
+            (Lock(2, 1, 1), 20, 3),
+            (Abort(1), 0, 1),
+            (Value(0), 0, 0),
+            (Lock(2, 0, 1), 12, 0),
+            (Abort(3), 0, 1),
+            (Lock(2, 1, 1), 0, 0),
         ],
     )
 }

@@ -30,7 +30,7 @@ unfolding keep
 keep-next q none l i h b e = ap (keep q) (take-next none l i h) ∙ keep-join q (take i l) (getD l i none ∷ []) ∙ ap (λ (d : Bool). keep q (take i l) ++ cond d (getD l i none ∷ []) []) (sym e)
 
 module _ {ℓ} {A : Type ℓ} (w : ℕ) (bytes : A → List ℕ) where
-  -- s is the section after i records of l were read and j left, those of k; rest is what stood behind the records
+  -- s is the section after i records of l were read and j are left, those of k; rest is what stood behind the records
   pub record Closing (l : List A) (rest s : List ℕ) (i j : ℕ) (k : List A) : Type ℓ where
     -- no more are left than were read
     pub few : j ≤ i

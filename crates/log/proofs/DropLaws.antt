@@ -6,7 +6,7 @@ use Prim.Native.Nat.{ℕ, suc, _+_, _-_, _*_, _≤_, _<_}
 use native.Mathlib.Omega.{arith}
 use native.Mathlib.Numerals.{towards-suc}
 use lib.ListN.{length, take, getD, set, replicate, replicate-append-replicate}
-use lib.Seq.{take-length}
+use lib.Seq.{take-all}
 use Rattle.rules.specs.Base.{keep}
 use Rattle.rules.specs.Sets.{Set}
 use Rattle.rules.specs.Window.{LogRecord}
@@ -58,10 +58,6 @@ cleared : (l : List LogRecord) (x y : ℕ) → length l ≤ 2048 → x + y ≡ (
 cleared l x y h e =
     ap (λ (t : List ℕ). flatMap recordBytes l ++ t) (replicate-append-replicate x y 0 ∙ ap (λ (z : ℕ). replicate z 0) e) ∙ sym (log-flat l h)
 
--- all records
-pub take-all : (l : List LogRecord) (n : ℕ) → length l ≡ n → take n l ≡ l
-take-all l n e = rw (← e) (take-length l)
-
 -- no more are left than were read
 pub left-most : (b : Bool) (i j r : ℕ) → j ≤ i → r ≡ cond b (j + 1) j → r ≤ i + 1
 left-most true i j r h e = omega arith
@@ -93,4 +89,4 @@ dropping-turn s l log i j m h owner f b e = log-turn l log i j (unowned s (take 
 
 pub dropping-all : (s : Set) (l : List LogRecord) (log : List ℕ) (n j : ℕ) (out : List ℕ) → length l ≡ n → n ≤ 2048 → Dropping s l log n j
     → out ≡ patch log (j * 6) (replicate (n * 6 - j * 6) 0) → Tabled logSection (unowned s l) j out
-dropping-all s l log n j out e h m = log-all l log n j (unowned s l) out e h (rw (take-all l n e) at m)
+dropping-all s l log n j out e h m = log-all l log n j (unowned s l) out e h (rw (take-all n l (omega arith)) at m)

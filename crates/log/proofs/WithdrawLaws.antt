@@ -3,8 +3,10 @@ use mathlib.Core.Path.{_≡_, refl, sym, ap, _∙_, fun-ext}
 use mathlib.Core.Bool.{Bool, true, false, not, cond, _&&_, _||_, and-false, or-false, or-comm}
 use mathlib.Core.List.{List, [], _∷_, _++_}
 use Prim.Native.Nat.{ℕ, _+_, _-_, _*_, _^_, _≤_, _<_}
+use native.Mathlib.Omega.{arith}
 use lib.Dec.{eqb}
 use lib.ListN.{length, take, getD, replicate}
+use lib.Seq.{take-all}
 use Rattle.rules.specs.Base.{put, any}
 use Rattle.rules.specs.Sets.{Set}
 use Rattle.rules.specs.Window.{LogRecord}
@@ -17,7 +19,7 @@ use Rattle.layout.specs.Codec.{noRecord, recordBytes, valueSection, logSection}
 use Rattle.cells.specs.Part.{part, patch}
 use Rattle.cells.proofs.CloseLaws.{take-next}
 use Rattle.log.specs.Undone.{Undone}
-use Rattle.log.proofs.DropLaws.{ClosingLog, log-none, log-here, log-turn, take-all, log-all}
+use Rattle.log.proofs.DropLaws.{ClosingLog, log-none, log-here, log-turn, log-all}
 
 -- THE LOOP: what is left of the first i, and the entries undone by them
 pub record Withdrawing (s : Set) (l : List LogRecord) (undone : Set) (log : List ℕ) (i j : ℕ) : Type 0 where
@@ -67,7 +69,7 @@ module _ (s : Set) (l : List LogRecord) (undone : Set) (log : List ℕ) (i j : �
 -- all were read, and the rest is cleared
 pub withdrawing-all : (s : Set) (l : List LogRecord) (undone : Set) (log : List ℕ) (n j : ℕ) (out : List ℕ) → length l ≡ n → n ≤ 2048 → Withdrawing s l undone log n j
     → out ≡ patch log (j * 6) (replicate (n * 6 - j * 6) 0) → Tabled logSection (recordsLeft s l) j out
-withdrawing-all s l undone log n j out e h m = log-all l log n j (recordsLeft s l) out e h (rw (take-all l n e) at (m .closing))
+withdrawing-all s l undone log n j out e h m = log-all l log n j (recordsLeft s l) out e h (rw (take-all n l (omega arith)) at (m .closing))
 
 -- by no record the values stay
 pub undo-nothing : (s : Set) (v : ℕ → ℕ) → v ≡ undo s [] v

@@ -142,7 +142,8 @@ pub fn hand_over(log: &mut [u8], count: usize, from: u8, to: u8, every: bool, en
     }
 }
 
-// Record i is undone, where its owner has ended and its entry is not undone yet. What comes back is whether it stays in the log: it is not undone, and neither is its entry.
+// Record i gives its entry the value before, where its owner has ended and no older record did so.
+// What comes back is whether it stays in the log: its owner lives, and its entry has not been given a value.
 fn undo_record(
     values: &mut [u8],
     log: &[u8],

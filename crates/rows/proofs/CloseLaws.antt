@@ -5,7 +5,7 @@ use mathlib.Core.List.{List, _++_, append-assoc}
 use Prim.Native.Nat.{ℕ, _+_, _-_, _*_, _≤_, _<_}
 use native.Mathlib.Omega.{arith}
 use lib.ListN.{length, take, drop, getD, replicate, length-append, length-replicate}
-use lib.Seq.{take-length}
+use lib.Seq.{take-all}
 use Rattle.rules.specs.Base.{keep}
 use Rattle.rules.proofs.ListLaws.{length-keep}
 use Rattle.cells.specs.Part.{part, patch}
@@ -61,7 +61,7 @@ module _ (q : Row → Bool) (n : ℕ) (l₀ : List ℕ) where
   moved-all l j m out e =
       let z : List ℕ = replicate (4 * n - 4 * j) 0 in
       let kept : List Row = keep q (rows n l₀) in
-      let all : take n (rows n l₀) ≡ rows n l₀ = ap (λ (k : ℕ). take k (rows n l₀)) (sym (length-rows n l₀)) ∙ take-length (rows n l₀) in
+      let all : take n (rows n l₀) ≡ rows n l₀ = take-all n (rows n l₀) (omega (arith, length-rows n l₀)) in
       let m′ : Closing 4 rowBytes (rows n l₀) (drop (4 * n) l₀) l n j kept = rw all at m in
       let bytes = closing-all 4 rowBytes (rows n l₀) (drop (4 * n) l₀) l n j kept (length-rows n l₀) m′ (4 * j) (4 * n) (omega arith) (omega arith) in
       let whole : length (rowsBytes kept ++ z) ≡ 4 * n = simp (length-append, length-bytes, length-replicate) (omega (arith, m′ .count, m′ .few)) in

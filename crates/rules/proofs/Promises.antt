@@ -117,12 +117,12 @@ module _ (L : Limits) (W : Window) (z : Sound L W) (c : ℕ) (lc : live W c ≡ 
   )
 
 -- "the oldest record owned by the ended set gives the value stored": one before which there is none on its entry
-pub undo-oldest : (s : Set) (l m : List LogRecord) (r : LogRecord) (v : ℕ → ℕ) → any (ownedOn s r.entry) l ≡ false → s r.owner ≡ true → undo s (l ++ (r ∷ m)) v r.entry ≡ r.before
+undo-oldest : (s : Set) (l m : List LogRecord) (r : LogRecord) (v : ℕ → ℕ) → any (ownedOn s r.entry) l ≡ false → s r.owner ≡ true → undo s (l ++ (r ∷ m)) v r.entry ≡ r.before
 unfolding undo ownedOn
 undo-oldest s l m r v h o = undo-join s l (r ∷ m) v r.entry ∙ undo-by s l v (undo s (r ∷ m) v) r.entry ∙ rw (h, o, eqb-same r.entry)
 
 -- where there is none, the value is as before
-pub undo-none : (s : Set) (l : List LogRecord) (v : ℕ → ℕ) (e : ℕ) → any (ownedOn s e) l ≡ false → undo s l v e ≡ v e
+undo-none : (s : Set) (l : List LogRecord) (v : ℕ → ℕ) (e : ℕ) → any (ownedOn s e) l ≡ false → undo s l v e ≡ v e
 undo-none s l v e h = undo-by s l v v e ∙ rw h
 
 -- "a withdrawal puts back the earlier values logged for exactly the changes it ends"
@@ -131,7 +131,8 @@ module _ (L : Limits) (W : Window) (z : Sound L W) (c : ℕ) (lc : live W c ≡ 
   unfolding step checks firstFailed settle effect abortChange _if_ done abortAll isEnded
   abort-after = let u = or-none (eqb (W .status c) 4) (eqb (W .status c) 5) (not-ended (W .status c) (live-status W c lc)) in rw (live-change L W z c lc, u .0, u .1)
 
-  abort-values : (e : ℕ) → step L W (Abort c) .after .value e ≡ undo (endSet W c) W.log W.value e
+  -- the value at each entry
+  pub abort-values : (e : ℕ) → step L W (Abort c) .after .value e ≡ undo (endSet W c) W.log W.value e
   unfolding endAll putAll withdraw withValue withLog
   abort-values e = ap (λ X. X .value e) abort-after
 
@@ -144,8 +145,8 @@ module _ (L : Limits) (W : Window) (z : Sound L W) (c : ℕ) (lc : live W c ≡ 
   pub abort-spares : (e : ℕ) → any (ownedOn (endSet W c) e) W.log ≡ false → step L W (Abort c) .after .value e ≡ W .value e
   abort-spares e h = abort-values e ∙ undo-none (endSet W c) W.log W.value e h
 
-  -- "every later record on that entry, whoever owns it, is struck from the log": of the places of the log, those are left, in order, at and before which no record
-  -- of the set stands on the entry of theirs
+  -- "every later record on that entry, whoever owns it, is struck from the log": the records left, in order, are those of the places i
+  -- such that no record of the set stands on the entry of record i, at i or before
   pub abort-strikes : (none : LogRecord) → step L W (Abort c) .after .log ≡ map (λ i. getD W.log i none) (keep (staysAt (endSet W c) none W.log) (table (length W.log) 0 (λ i. i)))
   unfolding endAll withdraw withValue withLog
   abort-strikes none = ap (λ X. X .log) abort-after ∙ left-unowned (endSet W c) W.log ∙ left-places (endSet W c) none W.log

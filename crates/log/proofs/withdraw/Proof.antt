@@ -4,6 +4,7 @@ use mathlib.Core.List.{List}
 use Prim.Native.Nat.{ℕ, _-_, _^_, _≤_, _<_}
 use native.Mathlib.Omega.{arith}
 use lib.ListN.{length, take, getD}
+use lib.Seq.{take-all}
 use borrow.Author.Needs.{needs}
 use Rattle.rules.specs.Window.{LogRecord}
 use Rattle.rules.specs.Effects.{undo}
@@ -11,7 +12,7 @@ use Rattle.layout.specs.Codec.{noRecord, valueSection, logSection}
 use Rattle.words.specs.Members.{wordsHave}
 use Rattle.sets.specs.Members.{members}
 use Rattle.sets.proofs.MemberLaws.{blank-words}
-use Rattle.log.proofs.DropLaws.{left-most, take-all}
+use Rattle.log.proofs.DropLaws.{left-most}
 use Rattle.log.proofs.WithdrawLaws.{Withdrawing, withdrawing-none, next-record, withdrawing-turn, withdrawing-values, withdrawing-all, undo-nothing}
 use Rattle.log.proofs.withdraw.Statement.{statement}
 use Rattle.log.proofs.withdraw.Tie as tie
@@ -61,7 +62,7 @@ returns c =
     let s = c .before .before .before .before .before .before .before .before .before in let a = s .args in let l = c .before .before .before .before .before .loop in
     let ended = wordsHave (a .ended .words) in
     let done : l .at ≡ a .count = omega arith in (
-      λ v r e f p q. (rw done at (l .inv .6 v r e f p q)) ∙ ap (λ (t : List LogRecord). valueSection (undo ended t v)) (take-all r (a .count) e),
+      λ v r e f p q. (rw done at (l .inv .6 v r e f p q)) ∙ ap (λ (t : List LogRecord). valueSection (undo ended t v)) (take-all (a .count) r (omega (arith, e))),
       λ r e q. withdrawing-all ended r (wordsHave (l .undone)) (l .log) (a .count) (l .left) _ e (s .pre .1 .1) (rw done at (l .inv .5 r e q)) (c .before .before .clear .ensures),
     )
 
