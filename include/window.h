@@ -232,8 +232,8 @@ WINDOW_MUST_USE window_reply window_commit(uint8_t *window, size_t length, uint3
  * leads, in any number of steps. Each entry gets the value before the oldest of their log records on it, even where
  * another change has written there since; that record and every later one on the entry, whoever owns it, are struck
  * from the log, so that no later abort brings back what is withdrawn. Another change that owned one of them lives on
- * with its locks. A log record is its writer's or, once handed over, that of the change that it was last handed over to.
- * Number: how many changes this call ended, 0 where the change was aborted before.
+ * with its locks. A log record is its writer's or, once handed over, that of the change that it was last handed over
+ * to. Number: how many changes this call ended, 0 where the change was aborted before.
  *   change  the change to abort
  * Answers: WINDOW_NO_CHANGE, WINDOW_ENDED (the change was committed).
  */
