@@ -3,9 +3,11 @@
 use mathlib.Core.Path.{_≡_, refl}
 use mathlib.Core.List.{List, [], _∷_, map}
 use Prim.Native.Nat.{ℕ, suc}
+use Rattle.rules.specs.Sets.{only}
 use Rattle.rules.specs.Window.{Limits, fresh}
 use Rattle.rules.specs.Line.{makeWaiter, enterLine}
 use Rattle.rules.specs.Calls.{Call, Open, Initiate, Begin, Complete, Lock, Read, Write, Permit, Delegate, Depend, Commit, Abort, Status, Parent, Value}
+use Rattle.rules.specs.Effects.{addRecord, recordsLeft}
 use Rattle.rules.specs.Refusals.{step}
 use Rattle.rules.specs.Lists.{answers}
 use Rattle.rules.proofs.Computing.{rules}
@@ -104,11 +106,16 @@ pub entries-apart : Answered (two (Lock 1 0 2 ∷ Write 1 0 7 ∷ Lock 2 1 2 ∷
 unfolding rules
 entries-apart e c r p t = refl
 
--- the partner lives on with its lock: what it writes then is its own, and is withdrawn with it
-pub partner-goes-on : Answered (two (Lock 1 0 2 ∷ Write 1 0 7 ∷ Permit 1 2 0 2 ∷ Lock 2 0 2 ∷ Write 2 0 9 ∷ Abort 1 ∷ Status 2 ∷ Write 2 0 8 ∷ Value 0 ∷ Abort 2 ∷ Value 0 ∷ []))
-    (begun ((0, 0) ∷ (0, 0) ∷ (0, 0) ∷ (0, 0) ∷ (0, 0) ∷ (0, 1) ∷ (0, 2) ∷ (0, 0) ∷ (0, 8) ∷ (0, 1) ∷ (0, 0) ∷ []))
+-- the partner lives on with its lock, and with the room of both records: what it writes then is its own, and is withdrawn with it
+pub partner-goes-on : Answered (two (Lock 1 0 2 ∷ Write 1 0 7 ∷ Permit 1 2 0 2 ∷ Lock 2 0 2 ∷ Write 2 0 9 ∷ Abort 1 ∷ Status 2 ∷ Write 2 0 8 ∷ Write 2 0 6 ∷ Value 0 ∷ Abort 2 ∷ Value 0 ∷ []))
+    (begun ((0, 0) ∷ (0, 0) ∷ (0, 0) ∷ (0, 0) ∷ (0, 0) ∷ (0, 1) ∷ (0, 2) ∷ (0, 0) ∷ (0, 0) ∷ (0, 6) ∷ (0, 1) ∷ (0, 0) ∷ []))
 unfolding rules
 partner-goes-on e c r p t = refl
+
+-- a log by itself: 2 and 1 wrote to entry 0, 2 to entry 1, 2 and 1 to entry 0 again. After 1's withdrawal the first and the third record are left
+pub records-left : recordsLeft (only 1) (addRecord 1 0 9 (addRecord 2 0 7 (addRecord 2 1 0 (addRecord 1 0 5 (addRecord 2 0 0 []))))) ≡ addRecord 2 1 0 (addRecord 2 0 0 [])
+unfolding rules
+records-left = refl
 
 -- a hand-over, a tie and the first entry together: the withdrawal gives entry 0 its old value back
 pub tied-and-delegated : Answered (two (Lock 1 0 2 ∷ Write 1 0 7 ∷ Lock 1 1 2 ∷ Write 1 1 8 ∷ Delegate 1 2 0 ∷ Depend 3 1 2 ∷ Abort 1 ∷ Value 0 ∷ Value 1 ∷ []))

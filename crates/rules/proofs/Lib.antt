@@ -22,7 +22,7 @@ pub mod RuleLaws
 pub mod SizeLaws
 -- the test for a clash, and the clashing pairs of a window
 pub mod PairLaws
--- what a withdrawal makes of values and log, record by record
+-- what a withdrawal makes of values and log, record by record and by places
 pub mod UndoLaws
 -- every call keeps a window sound (SoundStep.step-sound), one file for each kind of effect
 pub mod SoundParts
