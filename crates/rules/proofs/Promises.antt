@@ -156,7 +156,7 @@ module _ (L : Limits) (W : Window) (z : Sound L W) (c : ℕ) (lc : live W c ≡ 
   unfolding endAll released putAll withdraw withValue withLog
   abort-holds e d h = ap (λ X. X .held e d) abort-after ∙ rw h
 
-  -- and those are the changes that it ends
+  -- whom it ends; everybody else keeps its status
   pub abort-ends : (d : ℕ) → step L W (Abort c) .after .status d ≡ cond (endSet W c d) 5 (W .status d)
   unfolding endAll putAll withdraw withValue withLog
   abort-ends d = ap (λ X. X .status d) abort-after
