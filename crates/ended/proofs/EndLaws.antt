@@ -90,9 +90,9 @@ module _ (bs : List ℕ) (s : soundBytes bs ≡ true) where
   unfolding withLog endAll withdraw withValue
   aborted m e r = rest-of 5 m _ (withdraw-sound limits (decode bs) m (bytes-sound bs s)) e r ∙ ap (λ (l : List LogRecord). encode (withLog (endAll 5 m (withdraw m (decode bs))) l)) (sym (left-unowned m (decode bs .log)))
 
--- THE LOG WITHDRAWN: there is room for the values and the header
-pub values-room : (w v : ℕ) → w ≡ windowSize → v ≡ valuesSize → valuesAt + v ≤ w
-values-room w v e f = omega arith
+-- THE LOG WITHDRAWN: there is room for the values at any place before the locks, and for the header
+pub values-room : (w v : ℕ) → w ≡ windowSize → v ≡ valuesSize → (at : ℕ) → at ≤ locksAt → at + v ≤ w
+values-room w v e f at h = omega arith
 
 pub head-room : (w : ℕ) → w ≡ windowSize → headSize ≤ w
 head-room w e = omega arith

@@ -28,7 +28,7 @@ copy-in-requires-2 c κs =
     let w = s .args .w .now in
     let copy = c .before .before .before .before .before .before .before .before .before .copy-in in
     let left = c .before .before .before .before .before .withdraw in
-    values-room _ _ (same-len-mid logAt logSize w (left .last .1 .0) (left .kept .1 .0) ∙ s .pre .0) (left .kept .0 ∙ copy-size w (s .pre .0) (copy .last .1 .0) (copy .ensures))
+    values-room _ _ (same-len-mid logAt logSize w (left .last .1 .0) (left .kept .1 .0) ∙ s .pre .0) (left .kept .0 ∙ copy-size w (s .pre .0) (copy .last .1 .0) (copy .ensures)) _ (search needs)
 
 part-store-figure-end : tie.Need-part-store-figure-end
 part-store-figure-end c =
