@@ -1,4 +1,5 @@
 // What becomes of a window when a set of changes ends: all that they have in the tables is gone; and, for an abort, their log records are withdrawn.
+#![tactic(auto)]
 ghost use Rattle.std.specs.Prelude.{◌≡◌, true, ◌≤◌, length};
 ghost use Rattle.rules.specs.Sets.{put_all};
 ghost use Rattle.rules.specs.Window.{Window, with_status, with_held, with_log, with_permits, with_ties, with_line};
@@ -22,7 +23,7 @@ fn drop_log(w: &mut [u8], ended: ChangeSet)
     ensures w_after_2 { sound_bytes w.new ≡ true }
 {
     let count = reads::records(w);
-    let left = log::drop_owned(&mut w[Log::AT..layout::Window::SIZE], count, ended);
+    let left = change_log::drop_owned(&mut w[Log::AT..layout::Window::SIZE], count, ended);
     store_figure(&mut w[Header::AT..Entries::AT], 2, left as u16);
 }
 
@@ -36,7 +37,7 @@ fn withdraw(w: &mut [u8], ended: ChangeSet)
     let records = reads::records(w);
     let mut values = [0u8; Entries::SIZE];
     copy_in(&w[Entries::AT..Changes::AT], &mut values, 0);
-    let left = log::withdraw(
+    let left = change_log::withdraw(
         &mut values,
         &mut w[Log::AT..layout::Window::SIZE],
         records,

@@ -1,4 +1,5 @@
 // Locks and permits handed over in a copy of the two tables, judged there, and taken over by the window with the log.
+#![tactic(auto)]
 ghost use Rattle.std.specs.Prelude.{◌≡◌, true, ℕ, ◌≤◌, length, take, drop};
 ghost use Rattle.rules.specs.Window.{Window};
 ghost use Rattle.rules.specs.Locks.{clashes_permitted};
@@ -84,7 +85,7 @@ pub fn take_over(
 {
     let records = reads::records(w);
     copy_in(tables, w, Locks::AT);
-    log::hand_over(
+    change_log::hand_over(
         &mut w[Log::AT..layout::Window::SIZE],
         records,
         from,

@@ -1,4 +1,5 @@
 // What a call that enters a record in a table does when it is not refused, on the bytes of a sound window. The numbers of changes and entries, operations and kinds that are not refused fit a byte.
+#![tactic(auto)]
 ghost use Rattle.std.specs.Prelude.{◌≡◌, true, false, ◌≤◌, ◌<◌, length};
 ghost use Rattle.rules.specs.Base.{exceeds};
 ghost use Rattle.rules.specs.Window.{limits, with_log, with_permits, with_ties};
@@ -23,7 +24,7 @@ fn log_record(w: &mut [u8], count: usize, change: u8, entry: u8, before: u32)
     requires count_bound { count < 2048 }
     ensures { w.new ≡ encode (with_log (decode w.old) (add_record change entry before (decode w.old).log)) }
 {
-    log::append(&mut w[Log::AT..Window::SIZE], count, change, entry, before);
+    change_log::append(&mut w[Log::AT..Window::SIZE], count, change, entry, before);
     store_figure(&mut w[Header::AT..Entries::AT], 2, (count + 1) as u16);
 }
 

@@ -1,4 +1,5 @@
 // What a call gives: an answer and a second number.
+#![tactic(auto)]
 ghost use Rattle.std.specs.Prelude.{◌≡◌};
 
 #[repr(C)]

@@ -58,6 +58,7 @@ module _ {ℓ} {A : Type ℓ} where
   -- who is kept stood there and passes
   pub keep_member : (q : A → Bool) (l : List A) {x : A} → Memᴰ x (keep q l) → Memᴰ x l × (q x ≡ true)
   unfolding keep
+  keep_member q [] {x = x} m = elim m [ ]
   keep_member q (y ∷ l) {x} m = go (q y) refl m (λ h. keep_member q l h)
     where
       go : (b : Bool) → q y ≡ b → Memᴰ x (cond b (y ∷ keep q l) (keep q l)) → (Memᴰ x (keep q l) → Memᴰ x l × (q x ≡ true)) → Memᴰ x (y ∷ l) × (q x ≡ true)

@@ -1,4 +1,5 @@
 // The calls that a script asks for, by call number.
+#![tactic(auto)]
 ghost use Rattle.std.specs.Prelude.{◌≡◌};
 ghost use Rattle.replies.specs.Gives.{Gives};
 ghost use Rattle.script_calls.specs.Fields.{call_of, reply_of, last_field};

@@ -1,4 +1,5 @@
 // A script's lines: which call a line asks for, and its reply.
+#![tactic(auto)]
 ghost use Rattle.std.specs.Prelude.{◌≡◌, ◌≤◌, length, take, drop};
 ghost use Rattle.replies.specs.Gives.{Gives};
 ghost use Rattle.text.specs.Decimal.{number as number_of};

@@ -1,4 +1,5 @@
 // Text as bytes.
+#![tactic(auto)]
 ghost use Rattle.std.specs.Prelude.{◌≡◌, cond, ◌+◌, ◌≤◌, length, drop};
 ghost use Rattle.rules.specs.Base.{all};
 ghost use Rattle.layout.specs.Memory.{same_bytes};

@@ -25,5 +25,5 @@ returns-2 c =
     lowest_left (members a.clashing) (members a.permitting) (words_have with.new.0) (members rest.result) a.change with.ensures.1 rest.ensures none.result c.lowest.result
     none.ensures c.before.if1.false c.lowest.ensures
 
-pub blocker-spec : {M : Type 1} → statement M
-blocker-spec = tie.close (tie.spec (λ c κs. search rules) (λ c κs. search rules) (λ c κs. search rules) returns (λ c κs. search rules) returns-2)
+pub blocker_spec : {M : Type 1} → statement M
+blocker_spec = tie.close (tie.spec (λ c κs. search rules) (λ c κs. search rules) (λ c κs. search rules) returns (λ c κs. search rules) returns-2)

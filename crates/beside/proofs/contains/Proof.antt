@@ -8,5 +8,5 @@ returns : tie.Need-returns
 unfolding contains
 returns c = refl
 
-pub contains-spec : {M : Type 1} → statement M
-contains-spec = tie.close (tie.spec returns)
+pub contains_spec : {M : Type 1} → statement M
+contains_spec = tie.close (tie.spec returns)

@@ -12,5 +12,5 @@ returns c =
     let a = c.before.before.args in
     ap₂ (λ (read write : Bool). a.reads && read || a.writes && write) c.before.contains.ensures c.contains2.ensures
 
-pub contains-held-spec : {M : Type 1} → statement M
-contains-held-spec = tie.close (tie.spec (λ c κs. search rules) (λ c κs. search rules) returns)
+pub contains_held_spec : {M : Type 1} → statement M
+contains_held_spec = tie.close (tie.spec (λ c κs. search rules) (λ c κs. search rules) returns)

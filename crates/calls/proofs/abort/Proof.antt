@@ -21,8 +21,8 @@ abort-requires c κs = lent_window c.before.before.before.before.before.args.mem
 returns-2 : tie.Need-returns-2
 returns-2 c = on_memory c.before.before.before.before.before.before.before.before.args.memory.now (Abort c.before.before.before.before.before.before.before.before.args.change) (sym c.before.before.before.before.before.sound-memory.ensures ∙ not-false _ c.before.before.before.before.if1.false) _ _ c.before.before.abort.ensures
 
-pub abort-spec : {M : Type 1} → statement M
-abort-spec =
+pub abort_spec : {M : Type 1} → statement M
+abort_spec =
     tie.close
     (tie.spec
     (λ c κs. search rules)

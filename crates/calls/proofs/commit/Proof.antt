@@ -21,8 +21,8 @@ commit-requires c κs = lent_window c.before.before.before.before.before.args.me
 returns-2 : tie.Need-returns-2
 returns-2 c = on_memory c.before.before.before.before.before.before.before.before.args.memory.now (Commit c.before.before.before.before.before.before.before.before.args.change) (sym c.before.before.before.before.before.sound-memory.ensures ∙ not-false _ c.before.before.before.before.if1.false) _ _ c.before.before.commit.ensures
 
-pub commit-spec : {M : Type 1} → statement M
-commit-spec =
+pub commit_spec : {M : Type 1} → statement M
+commit_spec =
     tie.close
     (tie.spec
     (λ c κs. search rules)

@@ -21,8 +21,8 @@ delegate-requires c κs = lent_window c.before.before.before.before.before.args.
 returns-2 : tie.Need-returns-2
 returns-2 c = on_memory c.before.before.before.before.before.before.before.before.args.memory.now (Delegate c.before.before.before.before.before.before.before.before.args.from c.before.before.before.before.before.before.before.before.args.to c.before.before.before.before.before.before.before.before.args.entry) (sym c.before.before.before.before.before.sound-memory.ensures ∙ not-false _ c.before.before.before.before.if1.false) _ _ c.before.before.delegate.ensures
 
-pub delegate-spec : {M : Type 1} → statement M
-delegate-spec =
+pub delegate_spec : {M : Type 1} → statement M
+delegate_spec =
     tie.close
     (tie.spec
     (λ c κs. search rules)

@@ -21,8 +21,8 @@ depend-requires c κs = lent_window c.before.before.before.before.before.args.me
 returns-2 : tie.Need-returns-2
 returns-2 c = on_memory c.before.before.before.before.before.before.before.before.args.memory.now (Depend c.before.before.before.before.before.before.before.before.args.kind c.before.before.before.before.before.before.before.before.args.leader c.before.before.before.before.before.before.before.before.args.follower) (sym c.before.before.before.before.before.sound-memory.ensures ∙ not-false _ c.before.before.before.before.if1.false) _ _ c.before.before.depend.ensures
 
-pub depend-spec : {M : Type 1} → statement M
-depend-spec =
+pub depend_spec : {M : Type 1} → statement M
+depend_spec =
     tie.close
     (tie.spec
     (λ c κs. search rules)

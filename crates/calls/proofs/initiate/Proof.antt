@@ -21,8 +21,8 @@ initiate-requires c κs = lent_window c.before.before.before.before.before.args.
 returns-2 : tie.Need-returns-2
 returns-2 c = on_memory c.before.before.before.before.before.before.before.before.args.memory.now (Initiate c.before.before.before.before.before.before.before.before.args.parent) (sym c.before.before.before.before.before.sound-memory.ensures ∙ not-false _ c.before.before.before.before.if1.false) _ _ c.before.before.initiate.ensures
 
-pub initiate-spec : {M : Type 1} → statement M
-initiate-spec =
+pub initiate_spec : {M : Type 1} → statement M
+initiate_spec =
     tie.close
     (tie.spec
     (λ c κs. search rules)

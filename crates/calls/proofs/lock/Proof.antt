@@ -21,8 +21,8 @@ lock-requires c κs = lent_window c.before.before.before.before.before.args.memo
 returns-2 : tie.Need-returns-2
 returns-2 c = on_memory c.before.before.before.before.before.before.before.before.args.memory.now (Lock c.before.before.before.before.before.before.before.before.args.change c.before.before.before.before.before.before.before.before.args.entry c.before.before.before.before.before.before.before.before.args.mode) (sym c.before.before.before.before.before.sound-memory.ensures ∙ not-false _ c.before.before.before.before.if1.false) _ _ c.before.before.lock.ensures
 
-pub lock-spec : {M : Type 1} → statement M
-lock-spec =
+pub lock_spec : {M : Type 1} → statement M
+lock_spec =
     tie.close
     (tie.spec
     (λ c κs. search rules)

@@ -7,8 +7,8 @@ use Rattle.calls.proofs.make_fresh.Tie as tie
 returns : tie.Need-returns
 returns c = made-fresh c.before.before.before.before.before.before.before.before.before.args.w.now c.before.before.before.before.before.before.before.before.before.requires c.before.before.before.before.before.before.before.before.before.args.entries _ _ c.before.before.before.before.before.before.clear.ensures c.before.before.store-figure.ensures
 
-pub make-fresh-spec : {M : Type 1} → statement M
-make-fresh-spec =
+pub make_fresh_spec : {M : Type 1} → statement M
+make_fresh_spec =
     tie.close
     (tie.spec
     (λ c κs. search rules)

@@ -21,8 +21,8 @@ parent-requires c κs = lent_window c.before.before.before.before.args.memory.no
 returns-2 : tie.Need-returns-2
 returns-2 c = looked_at c.before.before.before.before.before.args.memory.now (Parent c.before.before.before.before.before.args.change) (sym c.before.before.before.sound-memory.ensures ∙ not-false _ c.before.before.if1.false) _ c.parent.ensures
 
-pub parent-spec : {M : Type 1} → statement M
-parent-spec =
+pub parent_spec : {M : Type 1} → statement M
+parent_spec =
     tie.close
     (tie.spec
     (λ c κs. search rules)

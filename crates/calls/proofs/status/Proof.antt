@@ -21,8 +21,8 @@ status-requires c κs = lent_window c.before.before.before.before.args.memory.no
 returns-2 : tie.Need-returns-2
 returns-2 c = looked_at c.before.before.before.before.before.args.memory.now (Status c.before.before.before.before.before.args.change) (sym c.before.before.before.sound-memory.ensures ∙ not-false _ c.before.before.if1.false) _ c.status.ensures
 
-pub status-spec : {M : Type 1} → statement M
-status-spec =
+pub status_spec : {M : Type 1} → statement M
+status_spec =
     tie.close
     (tie.spec
     (λ c κs. search rules)

@@ -36,8 +36,8 @@ returns-3 c =
     let l = c.before.before.loop in let a = c.before.before.before.before.before.args in
     block_last a.s.now a.from l.i 1024 a.to _ (omega arith) (omega arith) l.invariant.2 c.run-zero2.ensures
 
-pub all-zero-spec : {M : Type 1} → statement M
-all-zero-spec =
+pub all_zero_spec : {M : Type 1} → statement M
+all_zero_spec =
     tie.close
     (tie.spec
     invariant-loop

@@ -21,8 +21,8 @@ returns-3 c =
     let half = block_passed a.s.now a.from a.from 512 _ (omega arith) (rw (sub_self a.from) refl) c.before.before.run-zero2.ensures c.before.if2.false in
     block_last a.s.now a.from (a.from + 512) 512 a.to _ (omega arith) (omega arith) half c.run-zero3.ensures
 
-pub few-zero-spec : {M : Type 1} → statement M
-few-zero-spec =
+pub few_zero_spec : {M : Type 1} → statement M
+few_zero_spec =
     tie.close
     (tie.spec
     (λ c. search rules)

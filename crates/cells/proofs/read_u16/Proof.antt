@@ -12,7 +12,7 @@ unfolding num
 returns c =
     let a = c.before.before.before.before.args in c.join2.ensures ∙ rw (part2 a.s.now a.at (search rules)) (omega arith)
 
-pub read-u16-spec : {M : Type 1} → statement M
-read-u16-spec =
+pub read_u16_spec : {M : Type 1} → statement M
+read_u16_spec =
     tie.close
     (tie.spec (λ c. search rules) (λ c. search rules) (λ c. search rules) (λ c κs. search rules) returns)

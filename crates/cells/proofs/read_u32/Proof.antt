@@ -12,8 +12,8 @@ unfolding num
 returns c =
     let a = c.before.before.before.before.before.before.args in c.join4.ensures ∙ rw (part4 a.s.now a.at (search rules)) (omega arith)
 
-pub read-u32-spec : {M : Type 1} → statement M
-read-u32-spec =
+pub read_u32_spec : {M : Type 1} → statement M
+read_u32_spec =
     tie.close
     (tie.spec
     (λ c. search rules)

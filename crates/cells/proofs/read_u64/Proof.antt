@@ -25,8 +25,8 @@ returns c =
     let g8 = more 7 _ c.wide8.result c.wide8.ensures g7 in
     eight_bytes a.s.now a.at _ g8
 
-pub read-u64-spec : {M : Type 1} → statement M
-read-u64-spec =
+pub read_u64_spec : {M : Type 1} → statement M
+read_u64_spec =
     tie.close
     (tie.spec
     (λ c. search rules)

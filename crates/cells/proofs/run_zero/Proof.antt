@@ -30,7 +30,7 @@ returns c =
     let l = c.before.loop in
     let done : l.i ≡ c.before.before.args.n = omega arith in l.invariant.1 ∙ rw done
 
-pub run-zero-spec : {M : Type 1} → statement M
-run-zero-spec =
+pub run_zero_spec : {M : Type 1} → statement M
+run_zero_spec =
     tie.close
     (tie.spec invariant-loop decreases-loop loop-holds (λ c. search rules) (λ c. search rules) (λ c. search rules) (λ c. search rules) loop-again returns)

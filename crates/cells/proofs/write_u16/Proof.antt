@@ -11,6 +11,6 @@ returns : tie.Need-returns
 unfolding le
 returns c = patch2 c.args.s.now c.args.at _ _ c.requires
 
-pub write-u16-spec : {M : Type 1} → statement M
-write-u16-spec =
+pub write_u16_spec : {M : Type 1} → statement M
+write_u16_spec =
     tie.close (tie.spec (λ c. search rules) (λ c. search rules) (λ c. search rules) (λ c. search rules) (λ c. simp length-set (omega arith)) (λ c. search rules) returns)

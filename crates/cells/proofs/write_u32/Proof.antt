@@ -11,8 +11,8 @@ returns : tie.Need-returns
 unfolding le
 returns c = patch4 c.args.s.now c.args.at _ _ _ _ c.requires
 
-pub write-u32-spec : {M : Type 1} → statement M
-write-u32-spec =
+pub write_u32_spec : {M : Type 1} → statement M
+write_u32_spec =
     tie.close
     (tie.spec
     (λ c. search rules)

@@ -9,8 +9,8 @@ use Rattle.cells.proofs.write_u64.Tie as tie
 returns : tie.Need-returns
 returns c = rw (le_eight c.args.v) (patch8 c.args.s.now c.args.at _ _ _ _ _ _ _ _ c.requires)
 
-pub write-u64-spec : {M : Type 1} → statement M
-write-u64-spec =
+pub write_u64_spec : {M : Type 1} → statement M
+write_u64_spec =
     tie.close
     (tie.spec
     (λ c. search rules)

@@ -65,8 +65,8 @@ returns-2 c W h =
     let l = c.before.loop in
     turns_done W.entries (entry_permitted W) l.entry (l.invariant.3 W h) (rw h.entry-count (omega arith)) ∙ sym (by_pairs W)
 
-pub all-permitted-spec : {M : Type 1} → statement M
-all-permitted-spec =
+pub all_permitted_spec : {M : Type 1} → statement M
+all_permitted_spec =
     tie.close
     (tie.spec
     invariant-loop

@@ -9,5 +9,5 @@ returns c =
     let s = c.before.before in
     any-loaded s.args.locks.now s.args.at s.requires (λ i. (c.before.shared-slice-known.given i).fits) c.run-zero.result c.run-zero.ensures
 
-pub any-held-spec : {M : Type 1} → statement M
-any-held-spec = tie.close (tie.spec (λ c κs. search rules) returns)
+pub any_held_spec : {M : Type 1} → statement M
+any_held_spec = tie.close (tie.spec (λ c κs. search rules) returns)

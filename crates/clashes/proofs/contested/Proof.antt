@@ -30,8 +30,8 @@ returns-3 c held e =
     contested-writers (in_mode 1 (held a.entry)) (in_mode 2 (held a.entry)) (members c.before.before.writers.result) (c.before.before.writers.ensures held e) (sym w ∙ not-false _ c.before.before.before.before.before.if1.false) (sym r ∙ c.before.before.before.if2.false)
     (members c.before.rest.result) c.before.rest.ensures c.is-empty.result c.is-empty.ensures
 
-pub contested-spec : {M : Type 1} → statement M
-contested-spec =
+pub contested_spec : {M : Type 1} → statement M
+contested_spec =
     tie.close
     (tie.spec
     (λ c. search rules)

@@ -14,8 +14,8 @@ returns-2 c held e =
     let a = c.before.before.before.before.before.before.before.args in
     entry_found a.permits.now a.from a.to (c.before.before.before.before.readers.ensures held e) (c.before.before.before.writers.ensures held e) c.many-permitted.ensures
 
-pub entry-permitted-spec : {M : Type 1} → statement M
-entry-permitted-spec =
+pub entry_permitted_spec : {M : Type 1} → statement M
+entry_permitted_spec =
     tie.close
     (tie.spec
     (λ c κs. search rules)

@@ -41,8 +41,8 @@ returns-2 c =
     let l = c.before.loop in
     first-nothing (from_entry a.entry) a.permits.now a.start a.count l.j l.invariant.0 (omega arith) l.invariant.2
 
-pub first-from-spec : {M : Type 1} → statement M
-first-from-spec =
+pub first_from_spec : {M : Type 1} → statement M
+first_from_spec =
     tie.close
     (tie.spec
     invariant-loop

@@ -18,8 +18,8 @@ returns-2 c = λ ts n len is ends.
     let h = c.before.has-arrow in
     acyclic_none s.args.ties.now ts s.args.count (λ i. omega (arith, c.before.before.shared-slice-known.given i)) len is s.requires.0 h.result h.ensures c.if1.false n ends
 
-pub acyclic-spec : {M : Type 1} → statement M
-acyclic-spec =
+pub acyclic_spec : {M : Type 1} → statement M
+acyclic_spec =
     tie.close
     (tie.spec
     (λ c κs. search rules)

@@ -100,8 +100,8 @@ loop-again c =
           (lists (linked t)) (linked t).link-ties.ensures.1 r.new.1.1.1.1.0 (words_have r.new.1.1.1.1.1.0) r.ensures.1,
     )
 
-pub eliminate-spec : {M : Type 1} → statement M
-eliminate-spec =
+pub eliminate_spec : {M : Type 1} → statement M
+eliminate_spec =
     tie.close
     (tie.spec
     invariant-loop

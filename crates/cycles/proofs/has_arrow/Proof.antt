@@ -39,8 +39,8 @@ returns-2 c =
     let e : l.place ≡ a.count = omega arith in
     sym (rw e at l.invariant.1)
 
-pub has-arrow-spec : {M : Type 1} → statement M
-has-arrow-spec =
+pub has_arrow_spec : {M : Type 1} → statement M
+has_arrow_spec =
     tie.close
     (tie.spec
     invariant-loop

@@ -19,8 +19,8 @@ returns-3 c =
     let a = c.before.before.args in
     joined_none a.kind a.leader a.follower a.labels.now c.if1.false
 
-pub join-spec : {M : Type 1} → statement M
-join-spec =
+pub join_spec : {M : Type 1} → statement M
+join_spec =
     tie.close
     (tie.spec
     (λ c. search rules)

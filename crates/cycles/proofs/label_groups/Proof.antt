@@ -39,8 +39,8 @@ returns c =
     let e : l.i ≡ a.count = omega arith in
     l.invariant.1 ∙ ap (λ (i : ℕ). labelled (tie_at a.ties.now) i own_labels) e
 
-pub label-groups-spec : {M : Type 1} → statement M
-label-groups-spec =
+pub label_groups_spec : {M : Type 1} → statement M
+label_groups_spec =
     tie.close
     (tie.spec
     invariant-loop

@@ -14,8 +14,8 @@ returns c =
     let s = lists_of a.heads.now a.next.now a.incoming.now a.leaders.now a.blocked.now in
     (record { leading = l.ensures.0; led = h.ensures.0 }, with_arrow_lem a.j a.from a.to s _ refl refl refl l.ensures.1 h.ensures.1)
 
-pub link-arrow-spec : {M : Type 1} → statement M
-link-arrow-spec =
+pub link_arrow_spec : {M : Type 1} → statement M
+link_arrow_spec =
     tie.close
     (tie.spec
     (λ c. search rules)

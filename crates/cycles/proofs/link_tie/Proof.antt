@@ -22,8 +22,8 @@ returns c =
 returns-2 : tie.Need-returns-2
 returns-2 c = (c.before.before.before.before.before.before.requires.2, tie_passed _ (is_arrow c.before.before.before.before.before.before.args.kind) _ _ _ _ c.if1.false c.before.is-arrow.ensures)
 
-pub link-tie-spec : {M : Type 1} → statement M
-link-tie-spec =
+pub link_tie_spec : {M : Type 1} → statement M
+link_tie_spec =
     tie.close
     (tie.spec
     (λ c κs. search rules)

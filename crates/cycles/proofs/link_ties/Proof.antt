@@ -55,8 +55,8 @@ began c = blank_room _ _ _ _ _ _ c.requires.0
 returns : tie.Need-returns invariant-loop decreases-loop
 returns c = let l = c.before.loop in let e : l.j ≡ c.before.before.before.before.before.before.before.args.count = omega arith in (l.invariant.2, rw e at l.invariant.3)
 
-pub link-ties-spec : {M : Type 1} → statement M
-link-ties-spec =
+pub link_ties_spec : {M : Type 1} → statement M
+link_ties_spec =
     tie.close
     (tie.spec
     invariant-loop

@@ -11,5 +11,5 @@ returns : tie.Need-returns
 unfolding sources members
 returns c = c.lowest.ensures ∙ lowest_ext (members c.before.minus.result) _ 256 (λ k h. c.before.minus.ensures k)
 
-pub lowest-source-spec : {M : Type 1} → statement M
-lowest-source-spec = tie.close (tie.spec (λ c κs. search rules) (λ c κs. search rules) returns)
+pub lowest_source_spec : {M : Type 1} → statement M
+lowest_source_spec = tie.close (tie.spec (λ c κs. search rules) (λ c κs. search rules) returns)

@@ -21,8 +21,8 @@ returns : tie.Need-returns invariant-loop decreases-loop
 unfolding own_labels
 returns c = let l = c.before.loop in filled_all (λ k. k) c.before.before.args.labels.now l.labels l.k 256 l.invariant.1 (omega arith) c.before.before.requires
 
-pub own-labels-spec : {M : Type 1} → statement M
-own-labels-spec =
+pub own_labels_spec : {M : Type 1} → statement M
+own_labels_spec =
     tie.close
     (tie.spec
     invariant-loop

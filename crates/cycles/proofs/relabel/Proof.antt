@@ -32,8 +32,8 @@ returns c =
     filled_all (λ k. instead s.args.old s.args.new (get_or s.args.labels.now k 0)) s.args.labels.now l.labels l.k 256 l.invariant.1 (omega arith) s.requires
     ∙ map-table (instead s.args.old s.args.new) s.args.labels.now 256 s.requires
 
-pub relabel-spec : {M : Type 1} → statement M
-relabel-spec =
+pub relabel_spec : {M : Type 1} → statement M
+relabel_spec =
     tie.close
     (tie.spec
     invariant-loop

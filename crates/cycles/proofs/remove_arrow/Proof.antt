@@ -11,8 +11,8 @@ returns c = (c.remove.ensures.0, (refl, last_gone _ _ _ _ c.before.before.if1.tr
 returns-2 : tie.Need-returns-2
 returns-2 c = (c.before.before.before.requires.0.1, (refl, more_left _ _ _ c.if1.false))
 
-pub remove-arrow-spec : {M : Type 1} → statement M
-remove-arrow-spec =
+pub remove_arrow_spec : {M : Type 1} → statement M
+remove_arrow_spec =
     tie.close
     (tie.spec
     (λ c. search rules)

@@ -51,8 +51,8 @@ turn c =
 returns : tie.Need-returns invariant-loop decreases-loop
 returns c = let l = c.before.loop in (l.invariant.0, removing_all l.invariant.1 (omega arith))
 
-pub remove-arrows-spec : {M : Type 1} → statement M
-remove-arrows-spec =
+pub remove_arrows_spec : {M : Type 1} → statement M
+remove_arrows_spec =
     tie.close
     (tie.spec
     invariant-loop

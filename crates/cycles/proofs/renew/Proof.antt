@@ -12,5 +12,5 @@ returns-2 : tie.Need-returns-2
 unfolding instead
 returns-2 c = rw (ne_eqb _ _ c.if1.false)
 
-pub renew-spec : {M : Type 1} → statement M
-renew-spec = tie.close (tie.spec returns returns-2)
+pub renew_spec : {M : Type 1} → statement M
+renew_spec = tie.close (tie.spec returns returns-2)

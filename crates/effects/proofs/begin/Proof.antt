@@ -15,8 +15,8 @@ returns : tie.Need-returns
 unfolding effect
 returns c = c.before.before.set-status.ensures
 
-pub begin-spec : {M : Type 1} → statement M
-begin-spec =
+pub begin_spec : {M : Type 1} → statement M
+begin_spec =
     tie.close
     (tie.spec
     set-status-requires

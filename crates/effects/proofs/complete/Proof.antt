@@ -26,5 +26,5 @@ returns c =
     let l = c.before.before.before.before.before.before.leave-line in
     complete_given s.args.w.now s.requires.1.0 s.args.change _ l.ensures _ _ c.before.before.set-status.ensures
 
-pub complete-spec : {M : Type 1} → statement M
-complete-spec = tie.close (tie.spec leave-line-requires set-status-requires (λ c. search rules) returns)
+pub complete_spec : {M : Type 1} → statement M
+complete_spec = tie.close (tie.spec leave-line-requires set-status-requires (λ c. search rules) returns)

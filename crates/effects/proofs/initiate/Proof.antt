@@ -27,8 +27,8 @@ returns c =
     let k = c.before.before.before.store-figure in
     initiate_given d.args.w.now d.requires.1.0 c.done.result n.result d.args.parent n.ensures.0 s.new.0 p.new.0 k.new.0 s.ensures p.ensures k.ensures c.done.ensures
 
-pub initiate-spec : {M : Type 1} → statement M
-initiate-spec =
+pub initiate_spec : {M : Type 1} → statement M
+initiate_spec =
     tie.close
     (tie.spec
     given-requires

@@ -21,8 +21,8 @@ returns c =
     let left = c.before.before.before.before.before.before.leave in
     line_back (decode w) (sym (bytes_again w s.requires.1.0)) (left.ensures.1 (decode w).line (sym count.ensures.0)) c.before.before.store-figure.ensures
 
-pub leave-line-spec : {M : Type 1} → statement M
-leave-line-spec =
+pub leave_line_spec : {M : Type 1} → statement M
+leave_line_spec =
     tie.close
     (tie.spec
     (λ c κs. search rules)

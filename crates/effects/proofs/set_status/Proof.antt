@@ -13,8 +13,8 @@ cast-store-status c = let s = c.before.before in record { fits = change_fits_lem
 returns : tie.Need-returns
 returns c = let s = c.before.before.before.before.before.before in status-given s.args.w.now s.requires.1.0 c.done.result s.args.change s.args.s _ c.before.before.before.store-status.ensures c.done.ensures
 
-pub set-status-spec : {M : Type 1} → statement M
-set-status-spec =
+pub set_status_spec : {M : Type 1} → statement M
+set_status_spec =
     tie.close
     (tie.spec
     (λ c. lit≤ tt)

@@ -10,8 +10,8 @@ returns c =
     let s = c.before.before.before.before.before.before.before.before.before in
     aborted s.args.w.now s.requires.1 (members s.args.ended) c.before.before.before.before.before.before.withdraw.ensures.0 c.before.before.end_rest.ensures
 
-pub abort-all-spec : {M : Type 1} → statement M
-abort-all-spec =
+pub abort_all_spec : {M : Type 1} → statement M
+abort_all_spec =
     tie.close
     (tie.spec
     (λ c κs. search rules)

@@ -10,8 +10,8 @@ returns c =
     let s = c.before.before.before.before.before.before.before.before.before in
     committed s.args.w.now s.requires.1 (members s.args.ended) c.before.before.before.before.before.before.drop-log.ensures.0 c.before.before.end_rest.ensures
 
-pub commit-all-spec : {M : Type 1} → statement M
-commit-all-spec =
+pub commit_all_spec : {M : Type 1} → statement M
+commit_all_spec =
     tie.close
     (tie.spec
     (λ c κs. search rules)

@@ -10,8 +10,8 @@ returns c =
     let left = c.before.before.before.before.before.before.drop_all in
     λ W n e. line_back W e (left.ensures.1 W.line (sym n)) c.before.before.store-figure.ensures
 
-pub drop-line-spec : {M : Type 1} → statement M
-drop-line-spec =
+pub drop_line_spec : {M : Type 1} → statement M
+drop_line_spec =
     tie.close
     (tie.spec
     (λ c. search rules)

@@ -27,8 +27,8 @@ returns c =
     let is = log_back (decode w) (sym (bytes_again w s.requires.1)) (left.ensures (decode w).log (sym count.ensures.0)) c.before.before.store-figure.ensures in
     (is, dropped w s.requires.1 (members s.args.ended) is)
 
-pub drop-log-spec : {M : Type 1} → statement M
-drop-log-spec =
+pub drop_log_spec : {M : Type 1} → statement M
+drop_log_spec =
     tie.close
     (tie.spec
     (λ c κs. search rules)

@@ -10,8 +10,8 @@ returns c =
     let left = c.before.before.before.before.before.before.drop-ended in
     λ W n e. permits_back W e (left.ensures.1 W.permits (sym n)) c.before.before.store-figure.ensures
 
-pub drop-permits-spec : {M : Type 1} → statement M
-drop-permits-spec =
+pub drop_permits_spec : {M : Type 1} → statement M
+drop_permits_spec =
     tie.close
     (tie.spec
     (λ c. search rules)

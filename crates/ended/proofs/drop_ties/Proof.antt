@@ -10,8 +10,8 @@ returns c =
     let left = c.before.before.before.before.before.before.drop-ended in
     λ W n e. ties_back W e (left.ensures.1 W.ties (sym n)) c.before.before.store-figure.ensures
 
-pub drop-ties-spec : {M : Type 1} → statement M
-drop-ties-spec =
+pub drop_ties_spec : {M : Type 1} → statement M
+drop_ties_spec =
     tie.close
     (tie.spec
     (λ c. search rules)

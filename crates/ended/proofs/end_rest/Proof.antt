@@ -15,8 +15,8 @@ returns c =
     rest_ended s.args.w.now s.requires.1 (members s.args.ended) s.args.how entries.result permits.result ties.result waiters.result entries.ensures.0 permits.ensures.0 ties.ensures.0 waiters.ensures.0
     c.before.before.before.before.before.before.before.before.before.before.before.before.before.before.drop-permits.ensures c.before.before.before.before.before.before.before.before.before.before.drop-ties.ensures c.before.before.before.before.before.before.drop-line.ensures c.before.before.set_ended.ensures
 
-pub end-rest-spec : {M : Type 1} → statement M
-end-rest-spec =
+pub end_rest_spec : {M : Type 1} → statement M
+end_rest_spec =
     tie.close
     (tie.spec
     (λ c κs. search rules)

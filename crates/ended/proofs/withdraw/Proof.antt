@@ -61,8 +61,8 @@ returns c =
     withdrawn s.args.w.now s.requires.0 copy.new.1.0 copy.ensures s.requires.1 (members s.args.ended) count.result left.result count.ensures.0 left.ensures.0 left.ensures.1
     c.before.before.before.before.before.before.copy-in2.ensures c.before.before.store-figure.ensures
 
-pub withdraw-spec : {M : Type 1} → statement M
-withdraw-spec =
+pub withdraw_spec : {M : Type 1} → statement M
+withdraw_spec =
     tie.close
     (tie.spec
     (λ c κs. search rules)

@@ -55,8 +55,8 @@ returns-3 c =
     (members ended.result) (end_set_read w s.requires.1.0 s.args.change ties.result ties.ensures.0 (members ended.result) ended.ensures)
     count.result count.ensures c.done2.result c.done2.ensures _ c.before.before.before.before.abort-all.ensures
 
-pub abort-spec : {M : Type 1} → statement M
-abort-spec =
+pub abort_spec : {M : Type 1} → statement M
+abort_spec =
     tie.close
     (tie.spec
     (λ c κs. search rules)

@@ -16,8 +16,8 @@ returns c =
     blockers_read s.args.w.now s.requires.1 given.result ties.result (members s.args.group) (members completed.result) (members unfinished.result) (members leaders.result) (members c.unite.result)
     given.ensures.0 ties.ensures.0 completed.ensures leaders.ensures unfinished.ensures c.unite.ensures
 
-pub blockers-spec : {M : Type 1} → statement M
-blockers-spec =
+pub blockers_spec : {M : Type 1} → statement M
+blockers_spec =
     tie.close
     (tie.spec
     (λ c. search rules)

@@ -74,8 +74,8 @@ returns-4 c =
     (members blockers.result) blockers.ensures empty.result empty.ensures (not-false _ c.before.before.before.before.before.before.if3.false)
     count.result count.ensures c.done2.result c.done2.ensures _ c.before.before.before.before.commit-all.ensures
 
-pub commit-spec : {M : Type 1} → statement M
-commit-spec =
+pub commit_spec : {M : Type 1} → statement M
+commit_spec =
     tie.close
     (tie.spec
     (λ c κs. search rules)

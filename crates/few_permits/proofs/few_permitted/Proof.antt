@@ -67,8 +67,8 @@ returns-2 c =
     let l = c.before.loop in
     walk_done (members a.writers) blocker (members l.left) l.writer l.invariant (omega arith)
 
-pub few-permitted-spec : {M : Type 1} → statement M
-few-permitted-spec =
+pub few_permitted_spec : {M : Type 1} → statement M
+few_permitted_spec =
     tie.close
     (tie.spec
     invariant-loop

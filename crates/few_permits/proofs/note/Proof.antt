@@ -46,8 +46,8 @@ returns-3 c =
           c.before.before.if1.false write.result write.ensures (c.note-one2.ensures.1 k),
     )
 
-pub note-spec : {M : Type 1} → statement M
-note-spec =
+pub note_spec : {M : Type 1} → statement M
+note_spec =
     tie.close
     (tie.spec
     (λ c. search rules)

@@ -42,8 +42,8 @@ returns c =
     let e : l.j ≡ a.count = omega arith in
     (l.invariant.1, λ k n. l.invariant.2 k n ∙ ap (λ m. words_have a.noted.now k || any_of m (permit_at a.permits.now) (beside (words_have a.readers.now) (words_have a.writers.now) a.writer k)) e)
 
-pub note-all-spec : {M : Type 1} → statement M
-note-all-spec =
+pub note_all_spec : {M : Type 1} → statement M
+note_all_spec =
     tie.close
     (tie.spec
     invariant-loop

@@ -16,5 +16,5 @@ returns-2 c =
     let a = c.before.args in
     (c.before.requires, λ k. nothing_added (words_have a.noted.now k) (eqb a.c k) a.test c.if1.false)
 
-pub note-one-spec : {M : Type 1} → statement M
-note-one-spec = tie.close (tie.spec (λ c κs. search rules) returns returns-2)
+pub note_one_spec : {M : Type 1} → statement M
+note_one_spec = tie.close (tie.spec (λ c κs. search rules) returns returns-2)

@@ -15,5 +15,5 @@ returns-2 c =
     let a = c.before.args in
     (c.before.requires.0, λ k. nothing_added (words_have a.noted.now k) (words_have a.set.now k) a.test c.if1.false)
 
-pub note-set-spec : {M : Type 1} → statement M
-note-set-spec = tie.close (tie.spec (λ c κs. search rules) returns returns-2)
+pub note_set_spec : {M : Type 1} → statement M
+note_set_spec = tie.close (tie.spec (λ c κs. search rules) returns returns-2)

@@ -17,5 +17,5 @@ returns c =
     blocker_noted a.count (permit_at a.permits.now) (words_have a.readers.now) (words_have a.writers.now) a.writer (members a.holders) (members none.result) (words_have noted.new.0) c.blocker.result
     s.requires.0.2 none.ensures noted.ensures.1 c.blocker.ensures
 
-pub writer-blocker-spec : {M : Type 1} → statement M
-writer-blocker-spec = tie.close (tie.spec (λ c κs. search rules) (λ c κs. search rules) (λ c κs. search rules) returns)
+pub writer_blocker_spec : {M : Type 1} → statement M
+writer_blocker_spec = tie.close (tie.spec (λ c κs. search rules) (λ c κs. search rules) (λ c κs. search rules) returns)

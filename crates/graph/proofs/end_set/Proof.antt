@@ -8,5 +8,5 @@ returns : tie.Need-returns
 unfolding relation
 returns c = c.reached.ensures
 
-pub end-set-spec : {M : Type 1} → statement M
-end-set-spec = tie.close (tie.spec (λ c κs. search rules) returns)
+pub end_set_spec : {M : Type 1} → statement M
+end_set_spec = tie.close (tie.spec (λ c κs. search rules) returns)

@@ -8,5 +8,5 @@ returns : tie.Need-returns
 unfolding relation
 returns c = c.reached.ensures
 
-pub group-spec : {M : Type 1} → statement M
-group-spec = tie.close (tie.spec (λ c κs. search rules) returns)
+pub group_spec : {M : Type 1} → statement M
+group_spec = tie.close (tie.spec (λ c κs. search rules) returns)

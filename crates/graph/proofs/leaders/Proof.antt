@@ -37,8 +37,8 @@ returns c =
     λ ts len e k. l.invariant.1 k ∙ ap (λ (j : ℕ). any_below j (λ i. leads_to (members a.followers) k (tie_at a.ties.now i))) q
     ∙ leaders_of_lem a.ties.now ts a.count (members a.followers) k (search rules) len e
 
-pub leaders-spec : {M : Type 1} → statement M
-leaders-spec =
+pub leaders_spec : {M : Type 1} → statement M
+leaders_spec =
     tie.close
     (tie.spec
     invariant-loop

@@ -9,5 +9,5 @@ returns : tie.Need-returns
 unfolding relation
 returns c = λ ts len e n ends. c.has.ensures ∙ c.before.reached.ensures ts len e n ends c.before.before.before.args.to
 
-pub leads-spec : {M : Type 1} → statement M
-leads-spec = tie.close (tie.spec (λ c κs. search rules) (λ c κs. search rules) returns)
+pub leads_spec : {M : Type 1} → statement M
+leads_spec = tie.close (tie.spec (λ c κs. search rules) (λ c κs. search rules) returns)

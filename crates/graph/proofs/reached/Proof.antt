@@ -14,5 +14,5 @@ returns c =
     (one_added a.c (members c.before.before.empty.result) (members c.before.add.result) c.before.before.empty.ensures c.before.add.ensures)
     (λ i. omega (arith, c.before.before.before.shared-slice-known.given i)) (search rules) len e ends (c.close.ensures ts len e)
 
-pub reached-spec : {M : Type 1} → statement M
-reached-spec = tie.close (tie.spec (λ c κs. search rules) (λ c κs. search rules) (λ c κs. search rules) returns)
+pub reached_spec : {M : Type 1} → statement M
+reached_spec = tie.close (tie.spec (λ c κs. search rules) (λ c κs. search rules) (λ c κs. search rules) returns)

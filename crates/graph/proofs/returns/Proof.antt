@@ -19,5 +19,5 @@ returns-2 c =
     ap₂ (λ (x y : Bool). not (beq x y)) (c.before.before.leads.ensures ts len e n ends) (c.leads2.ensures ts len e n ends)
     ∙ group_made n ts ends a.kind a.leader a.follower hl hf h c.before.if1.false
 
-pub returns-spec : {M : Type 1} → statement M
-returns-spec = tie.close (tie.spec (λ c κs. search rules) returns (λ c κs. search rules) returns-2)
+pub returns_spec : {M : Type 1} → statement M
+returns_spec = tie.close (tie.spec (λ c κs. search rules) returns (λ c κs. search rules) returns-2)

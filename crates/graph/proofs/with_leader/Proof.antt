@@ -15,5 +15,5 @@ returns c k =
     c.add-if.ensures k ∙ ap (λ (b : Bool). members a.s k || b)
     (ap (λ (t : Bool). eqb a.leader k && t) (ap₂ ◌&&◌ c.before.before.is-arrow.ensures c.before.has.ensures) ∙ leads_where (tie_of a.kind a.leader a.follower) (members a.followers) k)
 
-pub with-leader-spec : {M : Type 1} → statement M
-with-leader-spec = tie.close (tie.spec (λ c κs. search rules) (λ c κs. search rules) (λ c κs. search rules) returns)
+pub with_leader_spec : {M : Type 1} → statement M
+with_leader_spec = tie.close (tie.spec (λ c κs. search rules) (λ c κs. search rules) (λ c κs. search rules) returns)

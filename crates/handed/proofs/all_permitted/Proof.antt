@@ -22,8 +22,8 @@ all-permitted-requires c κs = (sym c.before.all-permitted-arg.given.1, (sym c.a
 returns : tie.Need-returns
 returns c = λ W h. c.all-permitted.ensures W (with_entries h c.before.before.before.entries.ensures.0)
 
-pub all-permitted-spec : {M : Type 1} → statement M
-all-permitted-spec =
+pub all_permitted_spec : {M : Type 1} → statement M
+all_permitted_spec =
     tie.close
     (tie.spec
     entries-requires

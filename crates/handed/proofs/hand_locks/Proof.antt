@@ -16,8 +16,8 @@ returns-2 c = λ held modes none is.
     let a = c.before.before.before.before.before.before.args in
     c.before.before.hand-over.ensures held modes is ∙ ap (λ on. lock_section (move_held a.from a.to on held)) (on_one a.every a.entry c.before.before.before.before.if1.false)
 
-pub hand-locks-spec : {M : Type 1} → statement M
-hand-locks-spec =
+pub hand_locks_spec : {M : Type 1} → statement M
+hand_locks_spec =
     tie.close
     (tie.spec
     (λ c κs. (c.before.before.before.requires.0, c.before.before.before.requires.1))

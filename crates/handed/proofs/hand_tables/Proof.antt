@@ -43,8 +43,8 @@ returns c = (
       (λ q. c.before.before.hand-over.ensures.1 (decode bs).permits (sym c.before.before.before.before.before.before.before.before.permits.ensures.0) q (bytes-sound bs s.requires.1.0).permit_order),
 )
 
-pub hand-tables-spec : {M : Type 1} → statement M
-hand-tables-spec =
+pub hand_tables_spec : {M : Type 1} → statement M
+hand_tables_spec =
     tie.close
     (tie.spec
     entries-requires

@@ -42,8 +42,8 @@ returns c = λ h.
     taken_over (decode bs) a.from a.to (on_entries a.every a.entry) a.count bs a.tables.now c.before.before.before.before.before.before.before.before.before.before.copy-in.new.1.0 c.before.before.before.before.before.before.hand-over.new.0 c.before.before.store-figure.new.0 (bytes_again bs s.requires.1.0) h
     c.before.before.before.before.before.before.before.before.before.before.copy-in.ensures (c.before.before.before.before.before.before.hand-over.ensures (decode bs).log (sym c.before.before.before.before.before.before.before.before.before.before.before.before.records.ensures.0)) c.before.before.store-figure.ensures
 
-pub take-over-spec : {M : Type 1} → statement M
-take-over-spec =
+pub take_over_spec : {M : Type 1} → statement M
+take_over_spec =
     tie.close
     (tie.spec
     records-requires

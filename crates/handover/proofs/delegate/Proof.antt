@@ -48,8 +48,8 @@ returns-3 c =
     let a = s.args in
     handed-over a.w.now s.requires.1 a.from a.to a.entry _ c.before.before.before.before.before.before.before.delegate.ensures _ c.before.before.before.before.before.before.if1.false _ c.before.before.before.before.hand-over.new.0 c.before.before.before.before.hand-over.ensures.0 c.before.before.before.before.hand-over.ensures.1 (not-false _ c.before.if2.false) c.done.ensures
 
-pub delegate-spec : {M : Type 1} → statement M
-delegate-spec =
+pub delegate_spec : {M : Type 1} → statement M
+delegate_spec =
     tie.close
     (tie.spec
     delegate-requires

@@ -66,8 +66,8 @@ returns-2 c =
     let h = c.before.before.before.before.before.before.before.before.before.before.hand-tables.ensures.1 (copied_out bs s.requires.1.0 s.requires.0 _ c.before.before.before.before.before.before.before.before.before.before.before.before.before.before.copy-in.ensures) in
     (sym (not-false _ c.before.before.before.before.before.if1.false) ∙ c.before.before.before.before.before.before.all-permitted.ensures (hand_over (decode bs) a.from a.to on) (handed_tables (decode bs) a.from a.to on (bytes-sound bs s.requires.1.0) s.requires.1.1 _ _ h), c.before.before.take-over.ensures h)
 
-pub hand-over-spec : {M : Type 1} → statement M
-hand-over-spec =
+pub hand_over_spec : {M : Type 1} → statement M
+hand_over_spec =
     tie.close
     (tie.spec
     (λ c. lit≤ tt)

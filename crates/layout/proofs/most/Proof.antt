@@ -8,5 +8,5 @@ returns : tie.Need-returns
 unfolding limits
 returns c = record { entries = refl; changes = refl; records = refl; permits = refl; ties = refl }
 
-pub most-spec : {M : Type 1} → statement M
-most-spec = tie.close (tie.spec returns)
+pub most_spec : {M : Type 1} → statement M
+most_spec = tie.close (tie.spec returns)

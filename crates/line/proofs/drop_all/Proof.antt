@@ -45,8 +45,8 @@ returns c =
     let done : l.i ≡ a.count = omega arith in
     line_left_lem (words_have a.leaving.words) a.count a.line.now s.requires.1 l.j d.new.0 (moved_all q a.count a.line.now l.line l.j (rw done at l.invariant.3) d.new.0 d.ensures)
 
-pub drop-all-spec : {M : Type 1} → statement M
-drop-all-spec =
+pub drop_all_spec : {M : Type 1} → statement M
+drop_all_spec =
     tie.close
     (tie.spec
     invariant-loop

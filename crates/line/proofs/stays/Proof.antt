@@ -11,5 +11,5 @@ returns : tie.Need-returns
 unfolding row_stays row_at
 returns c = ap (λ (x : Bool). not x) c.among.ensures
 
-pub stays-spec : {M : Type 1} → statement M
-stays-spec = tie.close (tie.spec (λ c. search rules) (λ c. search rules) (λ c κs. search rules) returns)
+pub stays_spec : {M : Type 1} → statement M
+stays_spec = tie.close (tie.spec (λ c. search rules) (λ c. search rules) (λ c κs. search rules) returns)

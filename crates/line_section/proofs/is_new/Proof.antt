@@ -8,5 +8,5 @@ use Rattle.line_section.proofs.is_new.Tie as tie
 returns : tie.Need-returns
 returns c = (ap (λ (x : Bool). not x) c.before.before.among.ensures, c.insert.ensures)
 
-pub is-new-spec : {M : Type 1} → statement M
-is-new-spec = tie.close (tie.spec (λ c κs. search rules) (λ c κs. search rules) returns)
+pub is_new_spec : {M : Type 1} → statement M
+is_new_spec = tie.close (tie.spec (λ c κs. search rules) (λ c κs. search rules) returns)

@@ -20,5 +20,5 @@ returns-2 c = λ st pa is.
     let p = c.before.before.before.before.before.before.before.before.requires in
     places_passed (line-sound a.line.now (λ i. (c.before.before.before.before.before.before.before.shared-slice-known.given i).fits) p.0 a.count a.entries p.1.0 a.changes.now st pa is) (c.before.before.standing.ensures c.before.before.before.before.before.empty.ensures) c.before.if1.false c.all-zero.ensures
 
-pub line-spec : {M : Type 1} → statement M
-line-spec = tie.close (tie.spec (λ c κs. search rules) (λ c κs. search rules) returns (λ c. search rules) (λ c κs. search rules) returns-2)
+pub line_spec : {M : Type 1} → statement M
+line_spec = tie.close (tie.spec (λ c κs. search rules) (λ c κs. search rules) returns (λ c. search rules) (λ c κs. search rules) returns-2)

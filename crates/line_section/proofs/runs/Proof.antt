@@ -8,5 +8,5 @@ returns : tie.Need-returns
 unfolding run_in
 returns c = rw c.before.index.ensures
 
-pub runs-spec : {M : Type 1} → statement M
-runs-spec = tie.close (tie.spec (λ c κs. search rules) (λ c. search rules) (λ c. search rules) returns)
+pub runs_spec : {M : Type 1} → statement M
+runs_spec = tie.close (tie.spec (λ c κs. search rules) (λ c. search rules) (λ c. search rules) returns)

@@ -40,8 +40,8 @@ loop-again c =
 returns-3 : tie.Need-returns-3 invariant-loop decreases-loop
 returns-3 c = λ e. turns_done _ _ _ (c.before.loop.invariant.2 e).passed (omega arith)
 
-pub standing-spec : {M : Type 1} → statement M
-standing-spec =
+pub standing_spec : {M : Type 1} → statement M
+standing_spec =
     tie.close
     (tie.spec
     invariant-loop

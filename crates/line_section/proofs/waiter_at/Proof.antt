@@ -11,8 +11,8 @@ returns : tie.Need-returns
 unfolding waiter_fits waiter_sound waiter_at outside
 returns c = rw (c.before.before.before.runs.ensures, c.before.index.ensures)
 
-pub waiter-at-spec : {M : Type 1} → statement M
-waiter-at-spec =
+pub waiter_at_spec : {M : Type 1} → statement M
+waiter_at_spec =
     tie.close
     (tie.spec
     (λ c. search rules)

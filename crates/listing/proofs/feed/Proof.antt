@@ -48,8 +48,8 @@ returns c =
     let a = c.before.before.before.before.before.before in
     fed-all a.args.input.now a.args.line.now a.args.memory.now a.args.out.now a.args.s l.line l.memory l.out l.at l.i l.invariant (omega arith)
 
-pub feed-spec : {M : Type 1} → statement M
-feed-spec =
+pub feed_spec : {M : Type 1} → statement M
+feed_spec =
     tie.close
     (tie.spec
     invariant-loop

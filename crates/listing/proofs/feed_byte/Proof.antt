@@ -46,8 +46,8 @@ returns-3 c =
       ),
     )
 
-pub feed-byte-spec : {M : Type 1} → statement M
-feed-byte-spec =
+pub feed_byte_spec : {M : Type 1} → statement M
+feed_byte_spec =
     tie.close
     (tie.spec
     (λ c κs. search rules)

@@ -34,8 +34,8 @@ returns-2 c =
       ),
     )
 
-pub first-ended-spec : {M : Type 1} → statement M
-first-ended-spec =
+pub first_ended_spec : {M : Type 1} → statement M
+first_ended_spec =
     tie.close
     (tie.spec
     slice-aggregate-same

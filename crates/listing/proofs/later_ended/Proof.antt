@@ -26,8 +26,8 @@ returns c =
       ),
     )
 
-pub later-ended-spec : {M : Type 1} → statement M
-later-ended-spec =
+pub later_ended_spec : {M : Type 1} → statement M
+later_ended_spec =
     tie.close
     (tie.spec
     slice-aggregate-answer

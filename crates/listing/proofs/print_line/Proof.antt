@@ -54,8 +54,8 @@ returns c =
           one.1.1 two.1.1 three.1.1,
     )
 
-pub print-line-spec : {M : Type 1} → statement M
-print-line-spec =
+pub print_line_spec : {M : Type 1} → statement M
+print_line_spec =
     tie.close
     (tie.spec
     (λ c. search rules)

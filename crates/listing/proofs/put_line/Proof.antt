@@ -14,8 +14,8 @@ returns c =
           (omega (arith, s.requires)) (omega (arith, c.before.before.before.before.before.before.text2.given)) p.print-line.ensures.1 c.before.before.copy-in.ensures,
     )
 
-pub put-line-spec : {M : Type 1} → statement M
-put-line-spec =
+pub put_line_spec : {M : Type 1} → statement M
+put_line_spec =
     tie.close
     (tie.spec
     (λ c. search rules)

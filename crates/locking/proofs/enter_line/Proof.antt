@@ -29,8 +29,8 @@ returns c =
     let enter = c.before.before.before.before.before.before.enter in
     line_back (decode w) (sym (bytes_again w s.requires.1.0)) (enter.ensures.1 (decode w).line (sym count.ensures.0)) c.before.before.store-figure.ensures
 
-pub enter-line-spec : {M : Type 1} → statement M
-enter-line-spec =
+pub enter_line_spec : {M : Type 1} → statement M
+enter_line_spec =
     tie.close
     (tie.spec
     (λ c κs. search rules)

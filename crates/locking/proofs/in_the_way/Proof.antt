@@ -20,5 +20,5 @@ returns-3 : tie.Need-returns-3
 returns-3 c = let s = c.before.before.before.before.before in let a = s.args in
     way_first (decode a.w.now) a.change a.entry a.mode _ c.before.before.before.lock-blocker.ensures c.before.before.if1.false _ c.before.first-in-line.ensures c.if2.false
 
-pub in-the-way-spec : {M : Type 1} → statement M
-in-the-way-spec = tie.close (tie.spec (λ c κs. c.before.requires) returns first-in-line-requires (λ c. search rules) returns-2 returns-3)
+pub in_the_way_spec : {M : Type 1} → statement M
+in_the_way_spec = tie.close (tie.spec (λ c κs. c.before.requires) returns first-in-line-requires (λ c. search rules) returns-2 returns-3)

@@ -34,8 +34,8 @@ returns-3 : tie.Need-returns-3
 returns-3 c = let s = c.before.before.before.before.before.before.before.before.before.before.before.before.before.before.before.before in
     lock_taken (decode s.args.w.now) s.args.change s.args.entry s.args.mode _ c.before.before.before.before.before.before.before.before.before.before.before.before.before.held.ensures c.done2.result _ c.before.before.before.before.before.before.before.before.before.before.before.before.if1.false _ c.before.before.before.before.before.before.before.before.before.before.in-the-way.ensures c.before.before.before.before.before.before.before.before.before.if2.false c.before.before.before.before.before.before.before.leave-line2.ensures _ c.before.before.before.grant.ensures c.done2.ensures
 
-pub lock-spec : {M : Type 1} → statement M
-lock-spec =
+pub lock_spec : {M : Type 1} → statement M
+lock_spec =
     tie.close
     (tie.spec
     (λ c κs. search rules)

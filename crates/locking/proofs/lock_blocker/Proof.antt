@@ -28,8 +28,8 @@ returns c = let s = c.before.before.before.before.before.before.before in
     blocker_known s.args.w.now s.requires.1.0 s.args.change s.args.entry s.args.mode _ (lock_known s.args.w.now s.requires.1.0 s.args.change s.args.entry s.args.mode s.requires.1.1).2 c.before.before.before.before.before.permits.ensures.0
     (members c.before.before.before.clashing.result) (members c.before.givers.result) c.blocker.result c.before.before.before.clashing.ensures c.before.givers.ensures c.blocker.ensures
 
-pub lock-blocker-spec : {M : Type 1} → statement M
-lock-blocker-spec =
+pub lock_blocker_spec : {M : Type 1} → statement M
+lock_blocker_spec =
     tie.close
     (tie.spec
     permits-requires

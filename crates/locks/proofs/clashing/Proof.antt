@@ -14,5 +14,5 @@ returns-2 : tie.Need-returns-2
 unfolding Modes
 returns-2 c held modes p e k = c.writers.ensures held e k ∙ row-clashing_other (held c.before.before.before.args.entry) (modes c.before.before.before.args.entry) c.before.before.before.args.mode p c.before.if1.false k
 
-pub clashing-spec : {M : Type 1} → statement M
-clashing-spec = tie.close (tie.spec (λ c κs. search rules) (λ c κs. search rules) returns returns-2)
+pub clashing_spec : {M : Type 1} → statement M
+clashing_spec = tie.close (tie.spec (λ c κs. search rules) (λ c κs. search rules) returns returns-2)

@@ -14,6 +14,6 @@ returns c held e =
     (c.before.before.before.before.with_mode.ensures (held a.entry) (c.before.before.before.before.before.load.ensures held e))
     ∙ ap lock_section (put2-row held a.entry a.change a.mode)
 
-pub grant-spec : {M : Type 1} → statement M
-grant-spec =
+pub grant_spec : {M : Type 1} → statement M
+grant_spec =
     tie.close (tie.spec (λ c κs. search rules) (λ c κs. search rules) (λ c κs. search rules) (λ c. search rules) returns)

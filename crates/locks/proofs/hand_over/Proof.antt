@@ -32,8 +32,8 @@ returns-2 c held modes e =
     c.before.before.store.ensures held (moved a.from a.to (held a.entry)) e (rw is at l)
     ∙ ap lock_section (on_entry (moved a.from a.to) held a.entry)
 
-pub hand-over-spec : {M : Type 1} → statement M
-hand-over-spec =
+pub hand_over_spec : {M : Type 1} → statement M
+hand_over_spec =
     tie.close
     (tie.spec
     (λ c κs. search rules)

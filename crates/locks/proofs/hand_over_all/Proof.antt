@@ -42,8 +42,8 @@ returns c held modes none e =
     let a = c.before.before.before.args in
     walked_all Modes (moved a.from a.to) a.locks.now _ l.i a.entries (omega arith) (moved_empty a.from a.to) l.invariant.2 held modes none e
 
-pub hand-over-all-spec : {M : Type 1} → statement M
-hand-over-all-spec =
+pub hand_over_all_spec : {M : Type 1} → statement M
+hand_over_all_spec =
     tie.close
     (tie.spec
     invariant-loop

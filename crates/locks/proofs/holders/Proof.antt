@@ -11,5 +11,5 @@ unfolding Modes
 returns c held modes e k =
     c.unite.ensures k ∙ rw (c.before.before.readers.ensures held e k, c.before.writers.ensures held e k) (row_holders (held c.before.before.before.before.args.entry) (modes c.before.before.before.before.args.entry) k)
 
-pub holders-spec : {M : Type 1} → statement M
-holders-spec = tie.close (tie.spec (λ c κs. search rules) (λ c κs. search rules) (λ c κs. search rules) returns)
+pub holders_spec : {M : Type 1} → statement M
+holders_spec = tie.close (tie.spec (λ c κs. search rules) (λ c κs. search rules) (λ c κs. search rules) returns)

@@ -7,8 +7,8 @@ use Rattle.locks.proofs.mode.Tie as tie
 returns : tie.Need-returns
 returns c held modes e = rw e (mode_read held c.before.before.args.entry c.before.before.args.change modes (search rules) (search rules))
 
-pub mode-spec : {M : Type 1} → statement M
-mode-spec =
+pub mode_spec : {M : Type 1} → statement M
+mode_spec =
     tie.close
     (tie.spec
     (λ c. search rules)

@@ -10,5 +10,5 @@ use Rattle.locks.proofs.readers.Tie as tie
 returns : tie.Need-returns
 returns c held e k = c.load.ensures k ∙ rw e (row_loaded held c.before.before.args.entry 0 (c.before.before.args.entry * 64) (search rules) (omega arith) (omega arith) k)
 
-pub readers-spec : {M : Type 1} → statement M
-readers-spec = tie.close (tie.spec (λ c. search rules) (λ c κs. search rules) returns)
+pub readers_spec : {M : Type 1} → statement M
+readers_spec = tie.close (tie.spec (λ c. search rules) (λ c κs. search rules) returns)

@@ -20,8 +20,8 @@ returns c held e =
     })
     ∙ ap lock_section (on_entry (put_all (members a.ended) 0) held a.entry)
 
-pub release-entry-spec : {M : Type 1} → statement M
-release-entry-spec =
+pub release_entry_spec : {M : Type 1} → statement M
+release_entry_spec =
     tie.close
     (tie.spec
     (λ c κs. search rules)

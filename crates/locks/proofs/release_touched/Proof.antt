@@ -14,8 +14,8 @@ returns-2 c held says e =
     let a = c.before.before.before.before.before.args in
     e ∙ untouched held a.entry (members a.ended) a.locks.now a.bytes.now (search rules) says e (sym c.before.touched.ensures ∙ c.if1.false)
 
-pub release-touched-spec : {M : Type 1} → statement M
-release-touched-spec =
+pub release_touched_spec : {M : Type 1} → statement M
+release_touched_spec =
     tie.close
     (tie.spec
     (λ c. search rules)

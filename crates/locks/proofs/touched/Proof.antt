@@ -31,8 +31,8 @@ returns c =
     let done : l.byte ≡ 32 = omega arith in
     ap not (gathered_all (holders_among a.locks.now a.at a.ended.now) l.acc (rw done at l.invariant.1)) ∙ not-not (any_below 256 (holders_among a.locks.now a.at a.ended.now))
 
-pub touched-spec : {M : Type 1} → statement M
-touched-spec =
+pub touched_spec : {M : Type 1} → statement M
+touched_spec =
     tie.close
     (tie.spec
     invariant-loop

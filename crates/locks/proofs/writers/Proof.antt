@@ -10,5 +10,5 @@ use Rattle.locks.proofs.writers.Tie as tie
 returns : tie.Need-returns
 returns c held e k = c.load.ensures k ∙ rw e (row_loaded held c.before.before.args.entry 1 (c.before.before.args.entry * 64 + 32) (search rules) (omega arith) (omega arith) k)
 
-pub writers-spec : {M : Type 1} → statement M
-writers-spec = tie.close (tie.spec (λ c. search rules) (λ c. search rules) (λ c κs. search rules) returns)
+pub writers_spec : {M : Type 1} → statement M
+writers_spec = tie.close (tie.spec (λ c. search rules) (λ c. search rules) (λ c κs. search rules) returns)

@@ -18,8 +18,8 @@ returns c k =
     let at = a.place * 4 in
     c.add-if.ensures k ∙ ap (λ (b : Bool). members a.s k || eqb (get_or a.permits.now (at + 1) 0) k && (eqb (get_or a.permits.now (at + 2) 0) 0 && b)) c.before.before.before.contains.ensures
 
-pub add-giver-spec : {M : Type 1} → statement M
-add-giver-spec =
+pub add_giver_spec : {M : Type 1} → statement M
+add_giver_spec =
     tie.close
     (tie.spec
     (λ c. search rules)

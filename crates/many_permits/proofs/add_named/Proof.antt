@@ -21,8 +21,8 @@ returns c k =
     c.add-if2.ensures k ∙ rw (c.before.add-if.ensures k)
     (named_added (members a.readers) (members a.writers) a.writer k (byte 1) (byte 2) (get_or a.permits.now (a.place * 4) 0) (byte 3) (members a.s k) served.result write.result (served.ensures ∙ ap₂ (contains_held (byte 3)) c.before.before.before.before.before.has.ensures c.before.before.before.before.has2.ensures) write.ensures)
 
-pub add-named-spec : {M : Type 1} → statement M
-add-named-spec =
+pub add_named_spec : {M : Type 1} → statement M
+add_named_spec =
     tie.close
     (tie.spec
     (λ c. search rules)

@@ -35,8 +35,8 @@ returns c k =
     let e : l.j ≡ a.count = omega arith in
     l.invariant.1 k ∙ ap (λ n. any_of n (permit_at a.permits.now) (permits_anybody a.mode k)) e
 
-pub givers-to-anybody-spec : {M : Type 1} → statement M
-givers-to-anybody-spec =
+pub givers_to_anybody_spec : {M : Type 1} → statement M
+givers_to_anybody_spec =
     tie.close
     (tie.spec
     invariant-loop

@@ -31,7 +31,7 @@ returns c =
     let l = c.before.loop in
     let done : l.i ≡ 64 = omega arith in l.invariant.1 ∙ rw done
 
-pub in-block-spec : {M : Type 1} → statement M
-in-block-spec =
+pub in_block_spec : {M : Type 1} → statement M
+in_block_spec =
     tie.close
     (tie.spec invariant-loop decreases-loop loop-holds (λ c. search rules) (λ c. search rules) (λ c. search rules) (λ c. search rules) (λ c. search rules) loop-again returns)

@@ -14,5 +14,5 @@ returns c =
     writers-entry a.count (permit_at a.permits.now) (members a.readers) (members a.writers) (members reading.result) (members writing.result) reading.ensures writing.ensures
     c.writers-permitted.result c.writers-permitted.ensures
 
-pub many-permitted-spec : {M : Type 1} → statement M
-many-permitted-spec = tie.close (tie.spec (λ c κs. search rules) (λ c κs. search rules) (λ c κs. search rules) returns)
+pub many_permitted_spec : {M : Type 1} → statement M
+many_permitted_spec = tie.close (tie.spec (λ c κs. search rules) (λ c κs. search rules) (λ c κs. search rules) returns)

@@ -55,8 +55,8 @@ returns c k =
     let e : l.j ≡ a.count = omega arith in
     l.invariant.1 k ∙ ap (λ n. any_of n (permit_at a.permits.now) (names (members a.readers) (members a.writers) a.writer k)) e
 
-pub named-spec : {M : Type 1} → statement M
-named-spec =
+pub named_spec : {M : Type 1} → statement M
+named_spec =
     tie.close
     (tie.spec
     invariant-loop

@@ -37,8 +37,8 @@ returns-2 c =
     let l = c.before.loop in
     first-nothing (involves a.change) a.permits.now a.start a.count l.j l.invariant.0 (omega arith) l.invariant.2
 
-pub next-involving-spec : {M : Type 1} → statement M
-next-involving-spec =
+pub next_involving_spec : {M : Type 1} → statement M
+next_involving_spec =
     tie.close
     (tie.spec
     invariant-loop

@@ -36,8 +36,8 @@ returns-2 c =
     let l = c.before.loop in
     none_before (involves a.change) a.permits.now a.start a.count l.j l.invariant.0 l.invariant.1 l.invariant.2
 
-pub skip-blocks-spec : {M : Type 1} → statement M
-skip-blocks-spec =
+pub skip_blocks_spec : {M : Type 1} → statement M
+skip_blocks_spec =
     tie.close
     (tie.spec
     invariant-loop

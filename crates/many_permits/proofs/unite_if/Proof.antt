@@ -11,5 +11,5 @@ returns c k = let a = c.before.before.args in unite_passed (members a.s k) (memb
 returns-2 : tie.Need-returns-2
 returns-2 c k = let a = c.before.args in nothing_added (members a.s k) (members a.other k) a.test c.if1.false
 
-pub unite-if-spec : {M : Type 1} → statement M
-unite-if-spec = tie.close (tie.spec (λ c κs. search rules) returns returns-2)
+pub unite_if_spec : {M : Type 1} → statement M
+unite_if_spec = tie.close (tie.spec (λ c κs. search rules) returns returns-2)

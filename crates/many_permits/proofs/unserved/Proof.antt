@@ -13,8 +13,8 @@ returns c k =
     b.before.before.before.has.ensures b.before.has2.ensures (b.before.before.unite-if.ensures k) (b.unite-if2.ensures k)
     (c.before.before.unite.ensures k) (c.before.without.ensures k) (c.minus.ensures k)
 
-pub unserved-spec : {M : Type 1} → statement M
-unserved-spec =
+pub unserved_spec : {M : Type 1} → statement M
+unserved_spec =
     tie.close
     (tie.spec
     (λ c κs. search rules)

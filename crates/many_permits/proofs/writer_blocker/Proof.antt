@@ -19,8 +19,8 @@ returns-2 c =
     lowest_unnamed a.count (permit_at a.permits.now) (members a.readers) (members a.writers) (members a.reading) (members a.writing) a.writer
     (members left.result) left.ensures (members c.before.named.result) c.before.named.ensures c.blocker.result c.blocker.ensures
 
-pub writer-blocker-spec : {M : Type 1} → statement M
-writer-blocker-spec =
+pub writer_blocker_spec : {M : Type 1} → statement M
+writer_blocker_spec =
     tie.close
     (tie.spec
     (λ c κs. search rules)

@@ -52,8 +52,8 @@ returns-2 c =
     let l = c.before.loop in
     walk_done (members a.writers) blocker (members l.left) l.writer l.invariant (omega arith)
 
-pub writers-permitted-spec : {M : Type 1} → statement M
-writers-permitted-spec =
+pub writers_permitted_spec : {M : Type 1} → statement M
+writers_permitted_spec =
     tie.close
     (tie.spec
     invariant-loop

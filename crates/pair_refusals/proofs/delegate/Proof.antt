@@ -73,8 +73,8 @@ returns-6 c =
     (passes refl (ne_eqb _ _ c4.if4.false)
     (passes (not_both c.before.before.is_live.ensures c.before.is-live2.ensures) c.if5.false all-passed)))))
 
-pub delegate-spec : {M : Type 1} → statement M
-delegate-spec =
+pub delegate_spec : {M : Type 1} → statement M
+delegate_spec =
     tie.close
     (tie.spec
     (λ c κs. search rules)

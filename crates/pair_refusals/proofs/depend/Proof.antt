@@ -71,8 +71,8 @@ returns-5 c =
     (passes c3.before.tie_returns.ensures c3.if3.false
     (passes refl (has_room c.before.tie-fits.ensures c.if4.false) all-passed)))
 
-pub depend-spec : {M : Type 1} → statement M
-depend-spec =
+pub depend_spec : {M : Type 1} → statement M
+depend_spec =
     tie.close
     (tie.spec
     (λ c κs. search rules)

@@ -53,8 +53,8 @@ returns-5 c =
     (passes c3.before.outside.ensures c3.if3.false
     (passes refl (ne_eqb _ _ c.if4.false) all-passed))))
 
-pub depend-numbers-spec : {M : Type 1} → statement M
-depend-numbers-spec =
+pub depend_numbers_spec : {M : Type 1} → statement M
+depend_numbers_spec =
     tie.close
     (tie.spec
     (λ c κs. search rules)

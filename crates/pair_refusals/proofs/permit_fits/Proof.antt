@@ -22,8 +22,8 @@ returns c o =
     let bs = s.args.w.now in
     c.fits2.ensures _ (sym c.before.before.permits.ensures.0) (permits_known bs s.requires.1.0) (bytes-sound bs s.requires.1.0).permit_order o
 
-pub permit-fits-spec : {M : Type 1} → statement M
-permit-fits-spec =
+pub permit_fits_spec : {M : Type 1} → statement M
+permit_fits_spec =
     tie.close
     (tie.spec
     (λ c κs. search rules)

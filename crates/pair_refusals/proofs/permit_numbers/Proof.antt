@@ -69,8 +69,8 @@ returns-6 c =
     (passes c4.before.outside.ensures c4.if4.false
     (passes refl (ne_eqb _ _ c.if5.false) all-passed)))))
 
-pub permit-numbers-spec : {M : Type 1} → statement M
-permit-numbers-spec =
+pub permit_numbers_spec : {M : Type 1} → statement M
+permit_numbers_spec =
     tie.close
     (tie.spec
     (λ c κs. search rules)

@@ -23,8 +23,8 @@ returns c =
     let bs = s.args.w.now in
     c.fits2.ensures _ (sym c.before.before.ties.ensures.0) (ties_known bs s.requires.1.0) (bytes-sound bs s.requires.1.0).tie_order
 
-pub tie-fits-spec : {M : Type 1} → statement M
-tie-fits-spec =
+pub tie_fits_spec : {M : Type 1} → statement M
+tie_fits_spec =
     tie.close
     (tie.spec
     (λ c κs. search rules)

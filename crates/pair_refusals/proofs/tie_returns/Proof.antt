@@ -26,8 +26,8 @@ returns c =
     let k = bytes-sound bs s.requires.1.0 in
     c.returns.ensures _ (sym c.before.before.ties.ensures.0) (ties_known bs s.requires.1.0) _ (ends_below_lem _ k.ties) (omega arith) (omega arith) s.requires.1.1.0 k.no_cycle_lem
 
-pub tie-returns-spec : {M : Type 1} → statement M
-tie-returns-spec =
+pub tie_returns_spec : {M : Type 1} → statement M
+tie_returns_spec =
     tie.close
     (tie.spec
     (λ c κs. search rules)

@@ -39,8 +39,8 @@ returns-3 c = λ z. (
   λ s. (c.log.ensures _ _ z).1 s.log,
 )
 
-pub back-spec : {M : Type 1} → statement M
-back-spec =
+pub back_spec : {M : Type 1} → statement M
+back_spec =
     tie.close
     (tie.spec
     (λ c. search rules)

@@ -33,8 +33,8 @@ returns-3 c = λ st pa is. (
   λ s. c.locks.ensures.1 s.locks,
 )
 
-pub front-spec : {M : Type 1} → statement M
-front-spec =
+pub front_spec : {M : Type 1} → statement M
+front_spec =
     tie.close
     (tie.spec
     (λ c. search rules)

@@ -33,8 +33,8 @@ returns-2 c = λ W l.
     let e = c.before.before.before.before.acyclic.ensures W.ties _ l.tie_count l.ties_stored l.ends in
     c.all-permitted.ensures W l.held ∙ ap (λ x. x && clashes_permitted W) (sym (not-false _ c.before.before.before.if1.false) ∙ e)
 
-pub related-spec : {M : Type 1} → statement M
-related-spec =
+pub related_spec : {M : Type 1} → statement M
+related_spec =
     tie.close
     (tie.spec
     (λ c. search rules)

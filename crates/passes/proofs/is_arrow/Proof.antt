@@ -8,5 +8,5 @@ returns : tie.Need-returns
 unfolding is_arrow is_wait is_fall
 returns c = refl
 
-pub is-arrow-spec : {M : Type 1} → statement M
-is-arrow-spec = tie.close (tie.spec returns)
+pub is_arrow_spec : {M : Type 1} → statement M
+is_arrow_spec = tie.close (tie.spec returns)

@@ -8,8 +8,8 @@ use Rattle.passes.proofs.note.Tie as tie
 returns : tie.Need-returns
 returns c = let a = c.before.args in noted a.rows.now a.a a.b c.before.requires (omega arith) (omega arith)
 
-pub note-spec : {M : Type 1} → statement M
-note-spec =
+pub note_spec : {M : Type 1} → statement M
+note_spec =
     tie.close
     (tie.spec
     (λ c. search rules)

@@ -34,8 +34,8 @@ returns-4 c x y =
     let a = c.before.before.args in
     along_none a.low (tie_of a.kind a.leader a.follower) x y (row_has a.rows.now x y) (no_true _ (λ e. absurd (omega (arith, follows_low a.low a.kind e)))) (no_true _ (λ e. absurd (omega (arith, is_group_lem a.kind e, c.before.before.requires.1))))
 
-pub note-tie-spec : {M : Type 1} → statement M
-note-tie-spec =
+pub note_tie_spec : {M : Type 1} → statement M
+note_tie_spec =
     tie.close
     (tie.spec
     (λ c κs. search rules)

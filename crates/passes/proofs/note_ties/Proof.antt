@@ -38,8 +38,8 @@ returns c =
     let e : l.next ≡ a.count = omega arith in
     λ x y. l.invariant.2 x y ∙ ap (λ (n : ℕ). row_has a.rows.now x y || gone_in a.low a.ties.now n x y) e
 
-pub note-ties-spec : {M : Type 1} → statement M
-note-ties-spec =
+pub note_ties_spec : {M : Type 1} → statement M
+note_ties_spec =
     tie.close
     (tie.spec
     invariant-loop

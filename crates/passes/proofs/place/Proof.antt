@@ -12,5 +12,5 @@ returns-2 : tie.Need-returns-2
 unfolding place_from
 returns-2 c = rw c.if1.false
 
-pub place-spec : {M : Type 1} → statement M
-place-spec = tie.close (tie.spec (λ c. search rules) (λ c. search rules) returns returns-2)
+pub place_spec : {M : Type 1} → statement M
+place_spec = tie.close (tie.spec (λ c. search rules) (λ c. search rules) returns returns-2)

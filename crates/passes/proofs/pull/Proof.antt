@@ -47,8 +47,8 @@ returns-6 c =
     let x : words_have a.words.now a.leader ≡ false = sym c.before.before.among.ensures ∙ c.before.if1.false in
     (c.before.before.before.before.requires, fun_ext (pulled_none a.low (tie_of a.kind a.leader a.follower) (words_have a.words.now) (λ _ q. absurd (true≢false (sym q ∙ x))) (λ g _. absurd (c.if4.false (is_group_lem a.kind g)))))
 
-pub pull-spec : {M : Type 1} → statement M
-pull-spec =
+pub pull_spec : {M : Type 1} → statement M
+pull_spec =
     tie.close
     (tie.spec
     (λ c κs. search rules)

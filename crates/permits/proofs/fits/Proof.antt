@@ -11,5 +11,5 @@ returns c ps len is rise operations =
     permits_fit ps a.count a.permits.now len is s.requires.1 a.giver a.taker a.entry operations c.fits2.result
     (c.fits2.ensures (permits-rising ps a.count a.permits.now len is s.requires.1 rise) operations)
 
-pub fits-spec : {M : Type 1} → statement M
-fits-spec = tie.close (tie.spec (λ c κs. search rules) returns)
+pub fits_spec : {M : Type 1} → statement M
+fits_spec = tie.close (tie.spec (λ c κs. search rules) returns)

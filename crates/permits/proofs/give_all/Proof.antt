@@ -46,8 +46,8 @@ returns c =
     let z : l.i ≡ 0 = omega arith in
     (l.invariant.1, λ rise fits. rw (z, given-all (rows a.n a.s.now) a.moved.now a.m a.to) at (l.invariant.3 rise fits))
 
-pub give-all-spec : {M : Type 1} → statement M
-give-all-spec =
+pub give_all_spec : {M : Type 1} → statement M
+give_all_spec =
     tie.close
     (tie.spec
     invariant-loop

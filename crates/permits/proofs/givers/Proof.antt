@@ -63,8 +63,8 @@ returns-2 c ps len is rise k =
     givers_permitted ps a.count a.permits.now len is s.requires.1 k a.taker a.entry a.mode (members l.set k)
     (walk_end a.permits.now a.count a.taker a.entry a.mode l.i (omega arith) k (members l.set k) _ ((l.invariant.1 up).1 k))
 
-pub givers-spec : {M : Type 1} → statement M
-givers-spec =
+pub givers_spec : {M : Type 1} → statement M
+givers_spec =
     tie.close
     (tie.spec
     invariant-loop

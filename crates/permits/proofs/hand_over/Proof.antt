@@ -37,8 +37,8 @@ returns c = (
       (g.ensures.1 (hand_rising ps a.count a.permits.now len is s.requires.1 a.from a.to on k.new.0 k.result d.new.0 d.result p rise) (hand_fits ps a.count a.permits.now len is s.requires.1 a.from a.to on k.new.0 k.result d.new.0 d.result p)),
 )
 
-pub hand-over-spec : {M : Type 1} → statement M
-hand-over-spec =
+pub hand_over_spec : {M : Type 1} → statement M
+hand_over_spec =
     tie.close
     (tie.spec
     (λ c. search rules)

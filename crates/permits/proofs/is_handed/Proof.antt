@@ -14,7 +14,7 @@ returns-2 : tie.Need-returns-2
 unfolding handed given_by on_entries row_at
 returns-2 c = rw c.if1.false
 
-pub is-handed-spec : {M : Type 1} → statement M
-is-handed-spec =
+pub is_handed_spec : {M : Type 1} → statement M
+is_handed_spec =
     tie.close
     (tie.spec (λ c. search rules) (λ c. search rules) (λ c. search rules) (λ c. search rules) (λ c. search rules) (λ c. search rules) returns returns-2)

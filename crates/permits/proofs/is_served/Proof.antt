@@ -17,5 +17,5 @@ returns c =
     let to = get_or a.s.now (4 * a.i + 2) 0 in
     ap (λ (b : Bool). (eqb to a.taker || eqb to 0) && b) c.contains.ensures
 
-pub is-served-spec : {M : Type 1} → statement M
-is-served-spec = tie.close (tie.spec (λ c. search rules) (λ c. search rules) (λ c. search rules) (λ c. search rules) (λ c. search rules) (λ c κs. search rules) returns)
+pub is_served_spec : {M : Type 1} → statement M
+is_served_spec = tie.close (tie.spec (λ c. search rules) (λ c. search rules) (λ c. search rules) (λ c. search rules) (λ c. search rules) (λ c κs. search rules) returns)

@@ -42,8 +42,8 @@ returns c =
     let done : l.i ≡ a.n = omega arith in
     moved_all q a.n a.s.now l.s l.j (rw done at l.invariant.3) d.new.0 d.ensures
 
-pub keep-handed-spec : {M : Type 1} → statement M
-keep-handed-spec =
+pub keep_handed_spec : {M : Type 1} → statement M
+keep_handed_spec =
     tie.close
     (tie.spec
     invariant-loop

@@ -8,5 +8,5 @@ returns : tie.Need-returns
 unfolding row_at
 returns c k = rw c.before.is-served.ensures at (c.add-if.ensures k)
 
-pub note-spec : {M : Type 1} → statement M
-note-spec = tie.close (tie.spec (λ c. search rules) (λ c. search rules) (λ c. search rules) (λ c κs. search rules) (λ c κs. search rules) returns)
+pub note_spec : {M : Type 1} → statement M
+note_spec = tie.close (tie.spec (λ c. search rules) (λ c. search rules) (λ c. search rules) (λ c κs. search rules) (λ c κs. search rules) returns)

@@ -9,5 +9,5 @@ returns : tie.Need-returns
 returns c =
     let s = c.before.before in let a = s.args in λ fs e t. c.read-u16.ensures ∙ figure_read a.head.now fs a.k e s.requires.1 t
 
-pub figure-spec : {M : Type 1} → statement M
-figure-spec = tie.close (tie.spec (λ c. search rules) (λ c κs. search rules) (λ c. search rules) returns)
+pub figure_spec : {M : Type 1} → statement M
+figure_spec = tie.close (tie.spec (λ c. search rules) (λ c κs. search rules) (λ c. search rules) returns)

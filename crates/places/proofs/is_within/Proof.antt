@@ -10,5 +10,5 @@ returns : tie.Need-returns
 unfolding in_range outside
 returns c = refl
 
-pub is-within-spec : {M : Type 1} → statement M
-is-within-spec = tie.close (tie.spec (λ c. search rules) (λ c. search rules) returns)
+pub is_within_spec : {M : Type 1} → statement M
+is_within_spec = tie.close (tie.spec (λ c. search rules) (λ c. search rules) returns)

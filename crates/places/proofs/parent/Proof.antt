@@ -8,5 +8,5 @@ returns : tie.Need-returns
 returns c =
     let s = c.before in let a = s.args in λ st pa e. parent_read a.changes.now st pa a.c e s.ranges.c.fits
 
-pub parent-spec : {M : Type 1} → statement M
-parent-spec = tie.close (tie.spec (λ c. search rules) (λ c. search rules) (λ c. search rules) returns)
+pub parent_spec : {M : Type 1} → statement M
+parent_spec = tie.close (tie.spec (λ c. search rules) (λ c. search rules) (λ c. search rules) returns)

@@ -49,8 +49,8 @@ returns c =
     let a = c.before.before.before.before.args in let l = c.before.loop in
     λ st pa e. l.invariant.2 st pa e ∙ statuses-all (members a.ended) (members l.left) l.member l.invariant.1 (omega arith) a.s st pa
 
-pub set-statuses-spec : {M : Type 1} → statement M
-set-statuses-spec =
+pub set_statuses_spec : {M : Type 1} → statement M
+set_statuses_spec =
     tie.close
     (tie.spec
     invariant-loop

@@ -8,5 +8,5 @@ returns : tie.Need-returns
 returns c =
     let s = c.before in let a = s.args in λ st pa e. status_read a.changes.now st pa a.c e s.ranges.c.fits
 
-pub status-spec : {M : Type 1} → statement M
-status-spec = tie.close (tie.spec (λ c. search rules) (λ c. search rules) returns)
+pub status_spec : {M : Type 1} → statement M
+status_spec = tie.close (tie.spec (λ c. search rules) (λ c. search rules) returns)

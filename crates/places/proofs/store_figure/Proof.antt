@@ -9,5 +9,5 @@ returns : tie.Need-returns
 returns c =
     let s = c.before.before.before.before.before in let a = s.args in λ fs e t. c.before.before.write-u16.ensures ∙ figure_store a.head.now fs a.k a.v e s.requires.1 t
 
-pub store-figure-spec : {M : Type 1} → statement M
-store-figure-spec = tie.close (tie.spec (λ c. search rules) (λ c κs. search rules) (λ c. search rules) returns)
+pub store_figure_spec : {M : Type 1} → statement M
+store_figure_spec = tie.close (tie.spec (λ c. search rules) (λ c κs. search rules) (λ c. search rules) returns)

@@ -12,5 +12,5 @@ returns : tie.Need-returns
 returns c =
     let a = c.before.before.args in λ st pa e k. c.within.ensures st pa e k ∙ ap (λ (b : Bool). ltb k (suc a.given) && b) (only-status a.s (st k))
 
-pub with-status-spec : {M : Type 1} → statement M
-with-status-spec = tie.close (tie.spec (λ c κs. search rules) returns)
+pub with_status_spec : {M : Type 1} → statement M
+with_status_spec = tie.close (tie.spec (λ c κs. search rules) returns)

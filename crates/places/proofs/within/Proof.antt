@@ -23,8 +23,8 @@ returns c =
     (word_cut s n 3 _ _ c.before.least4.ensures c.word-within4.ensures) k
     ∙ within_all a.changes.now a.low a.high a.given b.requires.1 st pa e k
 
-pub within-spec : {M : Type 1} → statement M
-within-spec =
+pub within_spec : {M : Type 1} → statement M
+within_spec =
     tie.close
     (tie.spec
     (λ c. search rules)

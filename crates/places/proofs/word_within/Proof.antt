@@ -31,8 +31,8 @@ returns c =
     let l = c.before.loop in let a = c.before.before.before.args in
     word_all (in_range a.changes.now a.low a.high) a.first l.c a.end l.w (omega arith) l.invariant.1 l.invariant.2
 
-pub word-within-spec : {M : Type 1} → statement M
-word-within-spec =
+pub word_within_spec : {M : Type 1} → statement M
+word_within_spec =
     tie.close
     (tie.spec
     invariant-loop

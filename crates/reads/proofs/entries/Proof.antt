@@ -7,6 +7,6 @@ use Rattle.reads.proofs.entries.Tie as tie
 returns : tie.Need-returns
 returns c = entries_read c.before.before.before.args.w.now c.before.before.before.requires.1 _ c.figure.ensures
 
-pub entries-spec : {M : Type 1} → statement M
-entries-spec =
+pub entries_spec : {M : Type 1} → statement M
+entries_spec =
     tie.close (tie.spec (λ c. search rules) (λ c. search rules) (λ c. search rules) (λ c κs. search rules) returns)

@@ -12,6 +12,6 @@ cast-first c = let s = c.before.before.before in record { fits = entry_fits_lem 
 returns : tie.Need-returns
 returns c = let s = c.before.before.before.before in let w = s.args.w.now in c.first.ensures _ (sym c.before.before.waiters.ensures.0) (line_known w s.requires.1.0)
 
-pub first-in-line-spec : {M : Type 1} → statement M
-first-in-line-spec =
+pub first_in_line_spec : {M : Type 1} → statement M
+first_in_line_spec =
     tie.close (tie.spec (λ c κs. search rules) (λ c. search rules) (λ c. search rules) (λ c. search rules) cast-first (λ c κs. search rules) returns)

@@ -7,6 +7,6 @@ use Rattle.reads.proofs.given.Tie as tie
 returns : tie.Need-returns
 returns c = given_read c.before.before.before.args.w.now c.before.before.before.requires.1 _ c.figure.ensures
 
-pub given-spec : {M : Type 1} → statement M
-given-spec =
+pub given_spec : {M : Type 1} → statement M
+given_spec =
     tie.close (tie.spec (λ c. search rules) (λ c. search rules) (λ c. search rules) (λ c κs. search rules) returns)

@@ -8,5 +8,5 @@ returns : tie.Need-returns
 unfolding running
 returns c = rw c.status.ensures
 
-pub is-running-spec : {M : Type 1} → statement M
-is-running-spec = tie.close (tie.spec (λ c κs. search rules) returns)
+pub is_running_spec : {M : Type 1} → statement M
+is_running_spec = tie.close (tie.spec (λ c κs. search rules) returns)

@@ -8,5 +8,5 @@ returns : tie.Need-returns
 unfolding no_change
 returns c = rw c.given.ensures.0
 
-pub no-change-spec : {M : Type 1} → statement M
-no-change-spec = tie.close (tie.spec (λ c κs. search rules) (λ c. search rules) returns)
+pub no_change_spec : {M : Type 1} → statement M
+no_change_spec = tie.close (tie.spec (λ c κs. search rules) (λ c. search rules) returns)

@@ -8,5 +8,5 @@ returns : tie.Need-returns
 unfolding no_entry
 returns c = rw c.entries.ensures.0
 
-pub no-entry-spec : {M : Type 1} → statement M
-no-entry-spec = tie.close (tie.spec (λ c κs. search rules) (λ c. search rules) returns)
+pub no_entry_spec : {M : Type 1} → statement M
+no_entry_spec = tie.close (tie.spec (λ c κs. search rules) (λ c. search rules) returns)

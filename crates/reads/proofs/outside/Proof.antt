@@ -7,5 +7,5 @@ use Rattle.reads.proofs.outside.Tie as tie
 returns : tie.Need-returns
 returns c = unfold isOutside in refl
 
-pub outside-spec : {M : Type 1} → statement M
-outside-spec = tie.close (tie.spec returns)
+pub outside_spec : {M : Type 1} → statement M
+outside_spec = tie.close (tie.spec returns)

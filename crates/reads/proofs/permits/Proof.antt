@@ -7,6 +7,6 @@ use Rattle.reads.proofs.permits.Tie as tie
 returns : tie.Need-returns
 returns c = permits_read c.before.before.before.args.w.now c.before.before.before.requires.1 _ c.figure.ensures
 
-pub permits-spec : {M : Type 1} → statement M
-permits-spec =
+pub permits_spec : {M : Type 1} → statement M
+permits_spec =
     tie.close (tie.spec (λ c. search rules) (λ c. search rules) (λ c. search rules) (λ c κs. search rules) returns)

@@ -14,8 +14,8 @@ returns c = sym ((decode_blank c.before.before.args.w.now).status c.before.befor
 returns-2 : tie.Need-returns-2
 returns-2 c = c.status.ensures _ _ (changes_known c.before.before.before.before.args.w.now c.before.before.before.before.requires.1)
 
-pub status-spec : {M : Type 1} → statement M
-status-spec =
+pub status_spec : {M : Type 1} → statement M
+status_spec =
     tie.close
     (tie.spec
     returns

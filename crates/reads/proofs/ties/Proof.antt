@@ -7,6 +7,6 @@ use Rattle.reads.proofs.ties.Tie as tie
 returns : tie.Need-returns
 returns c = ties_read c.before.before.before.args.w.now c.before.before.before.requires.1 _ c.figure.ensures
 
-pub ties-spec : {M : Type 1} → statement M
-ties-spec =
+pub ties_spec : {M : Type 1} → statement M
+ties_spec =
     tie.close (tie.spec (λ c. search rules) (λ c. search rules) (λ c. search rules) (λ c κs. search rules) returns)

@@ -16,6 +16,6 @@ returns : tie.Need-returns
 returns c = let s = c.before.before.before.before in let w = s.args.w.now in
     c.elsewhere.ensures _ (sym c.before.before.waiters.ensures.0) (line_known w s.requires.1.0) (bytes-sound w s.requires.1.0).line-once
 
-pub waits-elsewhere-spec : {M : Type 1} → statement M
-waits-elsewhere-spec =
+pub waits_elsewhere_spec : {M : Type 1} → statement M
+waits_elsewhere_spec =
     tie.close (tie.spec (λ c κs. search rules) (λ c. search rules) (λ c. search rules) (λ c. search rules) cast-elsewhere cast-elsewhere-2 (λ c κs. search rules) returns)

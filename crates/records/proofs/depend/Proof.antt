@@ -25,8 +25,8 @@ returns : tie.Need-returns
 unfolding effect
 returns c = given-done 0 _ c.done.result _ c.done.ensures c.before.before.before.enter-tie.ensures
 
-pub depend-spec : {M : Type 1} → statement M
-depend-spec =
+pub depend_spec : {M : Type 1} → statement M
+depend_spec =
     tie.close
     (tie.spec
     (λ c κs. search rules)

@@ -29,8 +29,8 @@ returns c =
     let k = c.before.before.store-figure in
     permit_entered d.args.w.now d.requires.1.0 d.args.giver d.args.taker d.args.entry d.args.operations d.args.before t.result d.requires.1.1.1.1 d.requires.1.1.0 t.new.0 k.new.0 t.ensures.1 k.ensures
 
-pub enter-permit-spec : {M : Type 1} → statement M
-enter-permit-spec =
+pub enter_permit_spec : {M : Type 1} → statement M
+enter_permit_spec =
     tie.close
     (tie.spec
     (λ c. lit≤ tt)

@@ -29,8 +29,8 @@ returns c =
     let k = c.before.before.store-figure in
     tie_entered d.args.w.now d.requires.1.0 d.args.kind d.args.leader d.args.follower d.args.before t.result d.requires.1.1.1.1 d.requires.1.1.0 t.new.0 k.new.0 t.ensures.1 k.ensures
 
-pub enter-tie-spec : {M : Type 1} → statement M
-enter-tie-spec =
+pub enter_tie_spec : {M : Type 1} → statement M
+enter_tie_spec =
     tie.close
     (tie.spec
     (λ c. lit≤ tt)

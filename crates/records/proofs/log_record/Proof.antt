@@ -33,8 +33,8 @@ returns c =
     let k = c.before.before.store-figure in
     record_logged d.args.w.now d.requires.1.0 d.args.change d.args.entry d.args.before d.args.count d.requires.1.1.0 l.new.0 k.new.0 l.ensures k.ensures
 
-pub log-record-spec : {M : Type 1} → statement M
-log-record-spec =
+pub log_record_spec : {M : Type 1} → statement M
+log_record_spec =
     tie.close
     (tie.spec
     (λ c. lit≤ tt)

@@ -13,5 +13,5 @@ returns-2 : tie.Need-returns-2
 unfolding ◌if◌
 returns-2 c = change_refusal (passes c.before.no_change.ensures c.if1.false all-passed)
 
-pub change-spec : {M : Type 1} → statement M
-change-spec = tie.close (tie.spec (λ c κs. search rules) returns returns-2)
+pub change_spec : {M : Type 1} → statement M
+change_spec = tie.close (tie.spec (λ c κs. search rules) returns returns-2)

@@ -9,5 +9,5 @@ returns : tie.Need-returns
 unfolding checks running
 returns c = c.in-status.ensures
 
-pub complete-spec : {M : Type 1} → statement M
-complete-spec = tie.close (tie.spec (λ c κs. search rules) returns)
+pub complete_spec : {M : Type 1} → statement M
+complete_spec = tie.close (tie.spec (λ c κs. search rules) returns)

@@ -28,5 +28,5 @@ returns-3 c =
     (passes c1.before.no_change.ensures c1.if1.false
     (passes refl (ap not (reads_same c.before.status.ensures _ c.if2.false)) all-passed))
 
-pub in-status-spec : {M : Type 1} → statement M
-in-status-spec = tie.close (tie.spec (λ c κs. search rules) returns (λ c κs. search rules) returns-2 returns-3)
+pub in_status_spec : {M : Type 1} → statement M
+in_status_spec = tie.close (tie.spec (λ c κs. search rules) returns (λ c κs. search rules) returns-2 returns-3)

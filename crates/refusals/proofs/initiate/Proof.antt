@@ -39,8 +39,8 @@ returns-4 c =
     (passes (unless_none c1.before.before.before.args.parent c2.before.is-running.ensures) c2.if2.false
     (passes refl (room c1.before.given.ensures.0 _ c.if3.false) all-passed)))
 
-pub initiate-spec : {M : Type 1} → statement M
-initiate-spec =
+pub initiate_spec : {M : Type 1} → statement M
+initiate_spec =
     tie.close
     (tie.spec
     (λ c κs. search rules)

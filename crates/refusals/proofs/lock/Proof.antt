@@ -77,8 +77,8 @@ returns-6 c =
     (passes (ap not c4.before.is-running.ensures) c4.if4.false
     (passes c.before.waits-elsewhere.ensures c.if5.false all-passed)))))
 
-pub lock-spec : {M : Type 1} → statement M
-lock-spec =
+pub lock_spec : {M : Type 1} → statement M
+lock_spec =
     tie.close
     (tie.spec
     (λ c κs. search rules)

@@ -39,5 +39,5 @@ returns-4 c =
     (passes c2.before.no-entry.ensures c2.if2.false
     (passes (ap not c.before.is-running.ensures) c.if3.false all-passed)))
 
-pub on-entry-spec : {M : Type 1} → statement M
-on-entry-spec = tie.close (tie.spec (λ c κs. search rules) returns (λ c κs. search rules) returns-2 (λ c κs. search rules) returns-3 returns-4)
+pub on_entry_spec : {M : Type 1} → statement M
+on_entry_spec = tie.close (tie.spec (λ c κs. search rules) returns (λ c κs. search rules) returns-2 (λ c κs. search rules) returns-3 returns-4)

@@ -9,8 +9,8 @@ returns : tie.Need-returns
 unfolding permit_at make_permit
 returns c = c.permit.ensures
 
-pub permit-at-spec : {M : Type 1} → statement M
-permit-at-spec =
+pub permit_at_spec : {M : Type 1} → statement M
+permit_at_spec =
     tie.close
     (tie.spec
     (λ c. search rules)

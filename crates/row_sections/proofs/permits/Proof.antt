@@ -20,6 +20,6 @@ returns-2 c =
     let p = c.before.before.before.before.before.before.requires in
     places_passed (permits-sound a.permits.now (λ i. (c.before.before.before.before.before.shared-slice-known.given i).fits) p.0 a.count a.entries (members a.live) p.1) c.before.before.standing-permits.ensures c.before.if1.false c.all-zero.ensures
 
-pub permits-spec : {M : Type 1} → statement M
-permits-spec =
+pub permits_spec : {M : Type 1} → statement M
+permits_spec =
     tie.close (tie.spec (λ c κs. search rules) returns (λ c. search rules) (λ c κs. search rules) returns-2)

@@ -37,8 +37,8 @@ loop-again c = (search rules, row_rises _ _ _ _ _ c.before.before.before.permit-
 returns-3 : tie.Need-returns-3 invariant-loop decreases-loop
 returns-3 c = turns_done _ _ _ c.before.loop.invariant.1.passed (omega arith)
 
-pub standing-permits-spec : {M : Type 1} → statement M
-standing-permits-spec =
+pub standing_permits_spec : {M : Type 1} → statement M
+standing_permits_spec =
     tie.close
     (tie.spec
     invariant-loop

@@ -37,8 +37,8 @@ loop-again c = (search rules, row_rises _ _ _ _ _ c.before.before.before.tie-at.
 returns-3 : tie.Need-returns-3 invariant-loop decreases-loop
 returns-3 c = turns_done _ _ _ c.before.loop.invariant.1.passed (omega arith)
 
-pub standing-ties-spec : {M : Type 1} → statement M
-standing-ties-spec =
+pub standing_ties_spec : {M : Type 1} → statement M
+standing_ties_spec =
     tie.close
     (tie.spec
     invariant-loop

@@ -10,5 +10,5 @@ returns : tie.Need-returns
 unfolding tie_sound outside is_group
 returns c = rw (c.before.among.ensures, c.among2.ensures)
 
-pub tie-spec : {M : Type 1} → statement M
-tie-spec = tie.close (tie.spec (λ c κs. search rules) (λ c κs. search rules) returns)
+pub tie_spec : {M : Type 1} → statement M
+tie_spec = tie.close (tie.spec (λ c κs. search rules) (λ c κs. search rules) returns)

@@ -8,8 +8,8 @@ returns : tie.Need-returns
 unfolding tie_at
 returns c = rw c.before.tie.ensures
 
-pub tie-at-spec : {M : Type 1} → statement M
-tie-at-spec =
+pub tie_at_spec : {M : Type 1} → statement M
+tie_at_spec =
     tie.close
     (tie.spec
     (λ c. search rules)

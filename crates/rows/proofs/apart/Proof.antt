@@ -10,8 +10,8 @@ returns : tie.Need-returns
 unfolding spared row_at
 returns c = ap₂ (λ (x y : Bool). not (x || y)) c.before.before.among.ensures c.among2.ensures
 
-pub apart-spec : {M : Type 1} → statement M
-apart-spec =
+pub apart_spec : {M : Type 1} → statement M
+apart_spec =
     tie.close
     (tie.spec
     (λ c. search rules)

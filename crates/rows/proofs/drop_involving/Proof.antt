@@ -44,8 +44,8 @@ returns c =
     let done : l.i ≡ a.n = omega arith in
     moved_all q a.n a.s.now l.s l.j (rw done at l.invariant.3) d.new.0 d.ensures
 
-pub drop-involving-spec : {M : Type 1} → statement M
-drop-involving-spec =
+pub drop_involving_spec : {M : Type 1} → statement M
+drop_involving_spec =
     tie.close
     (tie.spec
     invariant-loop

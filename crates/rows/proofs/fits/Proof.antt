@@ -19,5 +19,5 @@ returns-2 c e more =
     record { bytes = λ j. (c.before.before.before.shared-slice-known.given j).fits; small = record { s1 = omega arith; s2 = omega arith; s3 = omega arith }; within = f.ensures.0; found = f.ensures.1 e } in
     fits_full a.s.now a.n (row a.a a.b a.c more) f.result p a.most c.stands_at.result c.stands_at.ensures (omega arith)
 
-pub fits-spec : {M : Type 1} → statement M
-fits-spec = tie.close (tie.spec returns (λ c κs. search rules) (λ c κs. search rules) returns-2)
+pub fits_spec : {M : Type 1} → statement M
+fits_spec = tie.close (tie.spec returns (λ c κs. search rules) (λ c κs. search rules) returns-2)

@@ -7,8 +7,8 @@ use Rattle.rows.proofs.keep_row.Tie as tie
 returns : tie.Need-returns
 returns c = rw c.before.before.before.before.if1.true (refl, c.before.before.Move-row.ensures)
 
-pub keep-row-spec : {M : Type 1} → statement M
-keep-row-spec =
+pub keep_row_spec : {M : Type 1} → statement M
+keep_row_spec =
     tie.close
     (tie.spec
     (λ c κs. search rules)

@@ -10,8 +10,8 @@ unfolding row_at
 returns c =
     let s = c.before.before.before.before.before.before.before.before.before in rw (← row-part s.args.s.now s.args.i s.requires.0) c.before.before.write-row.ensures
 
-pub move-row-spec : {M : Type 1} → statement M
-move-row-spec =
+pub move_row_spec : {M : Type 1} → statement M
+move_row_spec =
     tie.close
     (tie.spec
     (λ c. search rules)

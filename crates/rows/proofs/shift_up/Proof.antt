@@ -40,8 +40,8 @@ returns c =
     let e : l.i ≡ a.from = omega arith in
     l.invariant.3 ∙ ap (lifted a.s.now 4 a.to) e
 
-pub shift-up-spec : {M : Type 1} → statement M
-shift-up-spec =
+pub shift_up_spec : {M : Type 1} → statement M
+shift_up_spec =
     tie.close
     (tie.spec
     invariant-loop

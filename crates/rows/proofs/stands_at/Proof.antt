@@ -15,5 +15,5 @@ returns-2 : tie.Need-returns-2
 unfolding stands_at
 returns-2 c = rw (lt-ltb _ _ c.before.before.if1.false) (ap₂ eqb c.before.key-at.ensures c.key.ensures)
 
-pub stands-at-spec : {M : Type 1} → statement M
-stands-at-spec = tie.close (tie.spec returns (λ c κs. search rules) (λ c κs. search rules) returns-2)
+pub stands_at_spec : {M : Type 1} → statement M
+stands_at_spec = tie.close (tie.spec returns (λ c κs. search rules) (λ c κs. search rules) returns-2)

@@ -18,8 +18,8 @@ returns-2 c =
     let a = c.before.before.args in
     sym (set-get_or a.s.now (4 * a.i + 3) 0) ∙ ap (set a.s.now (4 * a.i + 3)) (united_same _ a.more c.if1.false)
 
-pub unite-spec : {M : Type 1} → statement M
-unite-spec =
+pub unite_spec : {M : Type 1} → statement M
+unite_spec =
     tie.close
     (tie.spec
     (λ c. search rules)

@@ -11,8 +11,8 @@ returns : tie.Need-returns
 unfolding row_bytes
 returns c = patch4 _ _ _ _ _ _ c.requires
 
-pub write-row-spec : {M : Type 1} → statement M
-write-row-spec =
+pub write_row_spec : {M : Type 1} → statement M
+write_row_spec =
     tie.close
     (tie.spec
     (λ c. search rules)

@@ -20,5 +20,5 @@ returns-4 : tie.Need-returns-4
 unfolding last_field
 returns-4 c = simp (eq-eqb _ 0 c.before.before.if1.false, eq-eqb _ 0 c.before.if2.false, eq-eqb _ 0 c.if3.false)
 
-pub last-field-spec : {M : Type 1} → statement M
-last-field-spec = tie.close (tie.spec returns returns-2 returns-3 returns-4)
+pub last_field_spec : {M : Type 1} → statement M
+last_field_spec = tie.close (tie.spec returns returns-2 returns-3 returns-4)

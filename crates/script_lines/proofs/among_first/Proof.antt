@@ -30,8 +30,8 @@ returns-6 : tie.Need-returns-6
 unfolding names ascii
 returns-6 c = further _ _ _ 1 c.before.before.before.before.before.before.before.before.before.before.before.before.before.same.ensures c.before.before.before.before.before.before.before.before.before.before.before.before.if1.false (further _ _ _ 2 c.before.before.before.before.before.before.before.before.before.before.same2.ensures c.before.before.before.before.before.before.before.before.before.if2.false (further _ _ _ 3 c.before.before.before.before.before.before.before.same3.ensures c.before.before.before.before.before.before.if3.false (further _ _ _ 4 c.before.before.before.before.same4.ensures c.before.before.before.if4.false (further _ _ _ 5 c.before.same5.ensures c.if5.false (nowhere _ 6)))))
 
-pub among-first-spec : {M : Type 1} → statement M
-among-first-spec =
+pub among_first_spec : {M : Type 1} → statement M
+among_first_spec =
     tie.close
     (tie.spec
     (λ c. search rules)

@@ -30,8 +30,8 @@ returns-6 : tie.Need-returns-6
 unfolding names ascii
 returns-6 c = further _ _ _ 11 c.before.before.before.before.before.before.before.before.before.before.before.before.before.same.ensures c.before.before.before.before.before.before.before.before.before.before.before.before.if1.false (further _ _ _ 12 c.before.before.before.before.before.before.before.before.before.before.same2.ensures c.before.before.before.before.before.before.before.before.before.if2.false (further _ _ _ 13 c.before.before.before.before.before.before.before.same3.ensures c.before.before.before.before.before.before.if3.false (further _ _ _ 14 c.before.before.before.before.same4.ensures c.before.before.before.if4.false (further _ _ _ 15 c.before.same5.ensures c.if5.false (nowhere _ 16)))))
 
-pub among-last-spec : {M : Type 1} → statement M
-among-last-spec =
+pub among_last_spec : {M : Type 1} → statement M
+among_last_spec =
     tie.close
     (tie.spec
     (λ c. search rules)

@@ -30,8 +30,8 @@ returns-6 : tie.Need-returns-6
 unfolding names ascii
 returns-6 c = further _ _ _ 6 c.before.before.before.before.before.before.before.before.before.before.before.before.before.same.ensures c.before.before.before.before.before.before.before.before.before.before.before.before.if1.false (further _ _ _ 7 c.before.before.before.before.before.before.before.before.before.before.same2.ensures c.before.before.before.before.before.before.before.before.before.if2.false (further _ _ _ 8 c.before.before.before.before.before.before.before.same3.ensures c.before.before.before.before.before.before.if3.false (further _ _ _ 9 c.before.before.before.before.same4.ensures c.before.before.before.if4.false (further _ _ _ 10 c.before.same5.ensures c.if5.false (nowhere _ 11)))))
 
-pub among-middle-spec : {M : Type 1} → statement M
-among-middle-spec =
+pub among_middle_spec : {M : Type 1} → statement M
+among_middle_spec =
     tie.close
     (tie.spec
     (λ c. search rules)

@@ -35,8 +35,8 @@ returns-3 c =
     let s = t.before.before.before.before in
     arguments s.args.memory.now s.args.line.now t.before.if1.false f.call f.a f.b f.c f.d t.take-apart.ensures (not-false _ c.before.before.before.before.before.before.before.before.if2.false) c.before.before.make.ensures
 
-pub answer-spec : {M : Type 1} → statement M
-answer-spec =
+pub answer_spec : {M : Type 1} → statement M
+answer_spec =
     tie.close
     (tie.spec
     (λ c κs. search rules)

@@ -13,5 +13,5 @@ returns-2 c = among_next_five c.before.before.before.before.before.args.name.now
 returns-3 : tie.Need-returns-3
 returns-3 c = among_last_five c.before.before.before.before.before.before.args.name.now c.before.before.before.before.IsAmong-first.ensures c.before.before.before.if1.false c.before.before.among-middle.ensures c.before.if2.false c.among-last.ensures
 
-pub call-number-spec : {M : Type 1} → statement M
-call-number-spec = tie.close (tie.spec (λ c κs. search rules) returns (λ c κs. search rules) returns-2 (λ c κs. search rules) returns-3)
+pub call_number_spec : {M : Type 1} → statement M
+call_number_spec = tie.close (tie.spec (λ c κs. search rules) returns (λ c κs. search rules) returns-2 (λ c κs. search rules) returns-3)

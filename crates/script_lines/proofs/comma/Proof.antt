@@ -11,5 +11,5 @@ returns c = past_end c.before.before.args.line.now c.before.before.args.from _ c
 returns-2 : tie.Need-returns-2
 returns-2 c = found-next c.before.before.before.args.line.now c.before.before.before.args.from c.find.result c.before.if1.false c.find.ensures.0 c.find.ensures.1
 
-pub comma-spec : {M : Type 1} → statement M
-comma-spec = tie.close (tie.spec returns (λ c κs. search rules) returns-2)
+pub comma_spec : {M : Type 1} → statement M
+comma_spec = tie.close (tie.spec returns (λ c κs. search rules) returns-2)

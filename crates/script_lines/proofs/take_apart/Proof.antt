@@ -26,8 +26,8 @@ returns-2 c = let s = c.before.before in more_commas s.before.before.args.line.n
 returns-3 : tie.Need-returns-3
 returns-3 c = let s = c.before in fewer_commas s.before.before.args.line.now s.find-commas.result s.find-commas.ensures (omega arith)
 
-pub take-apart-spec : {M : Type 1} → statement M
-take-apart-spec =
+pub take_apart_spec : {M : Type 1} → statement M
+take_apart_spec =
     tie.close
     (tie.spec
     (λ c κs. search rules)

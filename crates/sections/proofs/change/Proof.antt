@@ -9,8 +9,8 @@ returns : tie.Need-returns
 unfolding change_fits outside
 returns c = rw c.before.before.index.ensures
 
-pub change-spec : {M : Type 1} → statement M
-change-spec =
+pub change_spec : {M : Type 1} → statement M
+change_spec =
     tie.close
     (tie.spec
     (λ c. search rules)

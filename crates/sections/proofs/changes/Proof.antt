@@ -25,8 +25,8 @@ returns-3 c =
       λ v. c.all-zero2.ensures ∙ (s.1 v).rest,
     )
 
-pub changes-spec : {M : Type 1} → statement M
-changes-spec =
+pub changes_spec : {M : Type 1} → statement M
+changes_spec =
     tie.close
     (tie.spec
     (λ c κs. search rules)

@@ -30,8 +30,8 @@ loop-again c = (search rules, turn_passed _ _ _ c.before.before.before.loop.inva
 returns-2 : tie.Need-returns-2 invariant-loop decreases-loop
 returns-2 c = turns_done _ _ _ c.before.loop.invariant.1 (omega arith)
 
-pub given-changes-spec : {M : Type 1} → statement M
-given-changes-spec =
+pub given_changes_spec : {M : Type 1} → statement M
+given_changes_spec =
     tie.close
     (tie.spec
     invariant-loop

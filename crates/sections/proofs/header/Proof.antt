@@ -58,8 +58,8 @@ returns-8 c =
       λ s. c.all-zero.ensures ∙ head_zeros bs s,
     )
 
-pub header-spec : {M : Type 1} → statement M
-header-spec =
+pub header_spec : {M : Type 1} → statement M
+header_spec =
     tie.close
     (tie.spec
     (λ c κs. search rules)

@@ -9,8 +9,8 @@ returns : tie.Need-returns
 unfolding writes unpack
 returns c = rw (c.before.before.index.ensures, c.before.index2.ensures)
 
-pub is-writer-spec : {M : Type 1} → statement M
-is-writer-spec =
+pub is_writer_spec : {M : Type 1} → statement M
+is_writer_spec =
     tie.close
     (tie.spec
     (λ c κs. search rules)

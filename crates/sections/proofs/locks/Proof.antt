@@ -18,5 +18,5 @@ returns-2 c =
     let p = c.before.before.before.before.requires in
     places_passed (locks-sound a.locks.now (λ i. (c.before.before.before.shared-slice-known.given i).fits) p.0 a.entries (members a.live) p.1) c.before.before.rows.ensures c.before.if1.false c.all-zero.ensures
 
-pub locks-spec : {M : Type 1} → statement M
-locks-spec = tie.close (tie.spec (λ c κs. search rules) returns (λ c. search rules) (λ c κs. search rules) returns-2)
+pub locks_spec : {M : Type 1} → statement M
+locks_spec = tie.close (tie.spec (λ c κs. search rules) returns (λ c. search rules) (λ c κs. search rules) returns-2)

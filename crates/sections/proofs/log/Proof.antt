@@ -17,6 +17,6 @@ returns-2 c = λ entries lives z.
     let p = c.before.before.before.before.before.requires in
     places_passed (log-sound a.log.now (λ i. (c.before.before.before.before.shared-slice-known.given i).fits) p.0 a.count p.1.0 a.locks.now entries lives z) c.before.before.standing-records.ensures c.before.if1.false c.all-zero.ensures
 
-pub log-spec : {M : Type 1} → statement M
-log-spec =
+pub log_spec : {M : Type 1} → statement M
+log_spec =
     tie.close (tie.spec (λ c κs. search rules) returns (λ c. search rules) (λ c κs. search rules) returns-2)

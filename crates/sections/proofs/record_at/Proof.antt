@@ -8,8 +8,8 @@ returns : tie.Need-returns
 unfolding record_fits
 returns c = c.is-writer.ensures
 
-pub record-at-spec : {M : Type 1} → statement M
-record-at-spec =
+pub record_at_spec : {M : Type 1} → statement M
+record_at_spec =
     tie.close
     (tie.spec
     (λ c. search rules)

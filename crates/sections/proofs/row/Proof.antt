@@ -31,8 +31,8 @@ returns c =
     let done : l.i ≡ 32 = omega arith in
     row_gathered a.locks.now (bytes_have a.live.now 0) a.e l.acc (rw done at l.invariant.1)
 
-pub row-spec : {M : Type 1} → statement M
-row-spec =
+pub row_spec : {M : Type 1} → statement M
+row_spec =
     tie.close
     (tie.spec
     invariant-loop

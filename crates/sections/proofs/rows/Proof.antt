@@ -11,5 +11,5 @@ returns c =
     let a = c.before.before.before.before.before.before.args in
     c.rows-against.ensures ∙ rows-stored a.locks.now a.entries (members a.live) _ _ refl c.before.before.before.store.ensures
 
-pub rows-spec : {M : Type 1} → statement M
-rows-spec = tie.close (tie.spec (λ c. search rules) (λ c κs. search rules) (λ c. search rules) (λ c κs. search rules) returns)
+pub rows_spec : {M : Type 1} → statement M
+rows_spec = tie.close (tie.spec (λ c. search rules) (λ c κs. search rules) (λ c. search rules) (λ c κs. search rules) returns)

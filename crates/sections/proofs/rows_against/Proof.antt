@@ -29,7 +29,7 @@ loop-again c = (search rules, turn_passed _ _ _ c.before.before.before.loop.inva
 returns-2 : tie.Need-returns-2 invariant-loop decreases-loop
 returns-2 c = turns_done _ _ _ c.before.loop.invariant.1 (omega arith)
 
-pub rows-against-spec : {M : Type 1} → statement M
-rows-against-spec =
+pub rows_against_spec : {M : Type 1} → statement M
+rows_against_spec =
     tie.close
     (tie.spec invariant-loop decreases-loop loop-holds (λ c κs. search rules) returns (λ c. search rules) (λ c. search rules) loop-again returns-2)

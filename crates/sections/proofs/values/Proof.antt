@@ -11,5 +11,5 @@ returns c =
     let s = values-sound a.values.now (λ i. (c.before.shared-slice-known.given i).fits) c.before.before.requires.0 a.entries in
     (λ e. s.0 (sym c.all-zero.ensures ∙ e), λ v. c.all-zero.ensures ∙ s.1 v)
 
-pub values-spec : {M : Type 1} → statement M
-values-spec = tie.close (tie.spec (λ c. search rules) (λ c κs. search rules) returns)
+pub values_spec : {M : Type 1} → statement M
+values_spec = tie.close (tie.spec (λ c. search rules) (λ c κs. search rules) returns)

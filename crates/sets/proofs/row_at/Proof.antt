@@ -7,8 +7,8 @@ use Rattle.sets.proofs.row_at.Tie as tie
 returns : tie.Need-returns
 returns c = let a = c.before.before.before.before.args in row-set a.rows.now a.c
 
-pub row-at-spec : {M : Type 1} → statement M
-row-at-spec =
+pub row_at_spec : {M : Type 1} → statement M
+row_at_spec =
     tie.close
     (tie.spec
     (λ c. search rules)

@@ -16,8 +16,8 @@ returns c = λ h. record {
   waiters = c.figure6.ensures _ h.bytes (omega (arith, h.waiters_most));
 }
 
-pub read-figures-spec : {M : Type 1} → statement M
-read-figures-spec =
+pub read_figures_spec : {M : Type 1} → statement M
+read_figures_spec =
     tie.close
     (tie.spec
     (λ c. search rules)

@@ -78,8 +78,8 @@ returns-5 c =
     (passed c.before.before.before.before.before.before.before.before.before.before.before.before.before.before.before.args.w.now c.before.before.before.before.before.before.before.before.before.before.before.before.before.before.before.requires h _ a (members c.before.before.before.before.before.live-set.result) c.before.before.before.before.before.live-set.ensures t _ c.before.before.before.before.front.ensures v _ c.before.before.back.ensures e _ c.related.ensures)
     (λ s. related_asked c.before.before.before.before.before.before.before.before.before.before.before.before.before.before.before.args.w.now c.before.before.before.before.before.before.before.before.before.before.read-figures.result c.before.before.before.before.before.before.before.before.before.before.read-figures.ensures s _ c.related.ensures)
 
-pub sound-spec : {M : Type 1} → statement M
-sound-spec =
+pub sound_spec : {M : Type 1} → statement M
+sound_spec =
     tie.close
     (tie.spec
     (λ c. search rules)

@@ -11,8 +11,8 @@ returns c = memory_short c.before.before.args.memory.now c.if1.true
 returns-2 : tie.Need-returns-2
 returns-2 c = c.sound.ensures ∙ memory-long c.before.before.before.before.args.memory.now c.before.before.if1.false
 
-pub sound-memory-spec : {M : Type 1} → statement M
-sound-memory-spec =
+pub sound_memory_spec : {M : Type 1} → statement M
+sound_memory_spec =
     tie.close
     (tie.spec
     returns

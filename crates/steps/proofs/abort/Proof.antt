@@ -16,8 +16,8 @@ abort-requires c κs = (c.before.before.before.before.before.requires.0, (c.befo
 returns-2 : tie.Need-returns-2
 returns-2 c = let_through (decode c.before.before.before.before.before.before.before.before.args.w.now) (Abort c.before.before.before.before.before.before.before.before.args.change) _ c.before.before.before.before.before.change.ensures.abort c.before.before.before.before.if1.false c.before.before.abort.ensures
 
-pub abort-spec : {M : Type 1} → statement M
-abort-spec =
+pub abort_spec : {M : Type 1} → statement M
+abort_spec =
     tie.close
     (tie.spec
     (λ c κs. search rules)

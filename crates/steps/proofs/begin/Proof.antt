@@ -16,8 +16,8 @@ begin-requires-2 c κs = (c.before.before.before.before.before.requires.0, (c.be
 returns-2 : tie.Need-returns-2
 returns-2 c = let_through (decode c.before.before.before.before.before.before.before.before.args.w.now) (Begin c.before.before.before.before.before.before.before.before.args.change) _ c.before.before.before.before.before.begin.ensures c.before.before.before.before.if1.false c.before.before.begin2.ensures
 
-pub begin-spec : {M : Type 1} → statement M
-begin-spec =
+pub begin_spec : {M : Type 1} → statement M
+begin_spec =
     tie.close
     (tie.spec
     (λ c κs. search rules)

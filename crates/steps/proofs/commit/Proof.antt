@@ -16,8 +16,8 @@ commit-requires c κs = (c.before.before.before.before.before.requires.0, (c.bef
 returns-2 : tie.Need-returns-2
 returns-2 c = let_through (decode c.before.before.before.before.before.before.before.before.args.w.now) (Commit c.before.before.before.before.before.before.before.before.args.change) _ c.before.before.before.before.before.change.ensures.commit c.before.before.before.before.if1.false c.before.before.commit.ensures
 
-pub commit-spec : {M : Type 1} → statement M
-commit-spec =
+pub commit_spec : {M : Type 1} → statement M
+commit_spec =
     tie.close
     (tie.spec
     (λ c κs. search rules)

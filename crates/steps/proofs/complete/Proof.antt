@@ -16,8 +16,8 @@ complete-requires-2 c κs = (c.before.before.before.before.before.requires.0, (c
 returns-2 : tie.Need-returns-2
 returns-2 c = let_through (decode c.before.before.before.before.before.before.before.before.args.w.now) (Complete c.before.before.before.before.before.before.before.before.args.change) _ c.before.before.before.before.before.complete.ensures c.before.before.before.before.if1.false c.before.before.complete2.ensures
 
-pub complete-spec : {M : Type 1} → statement M
-complete-spec =
+pub complete_spec : {M : Type 1} → statement M
+complete_spec =
     tie.close
     (tie.spec
     (λ c κs. search rules)

@@ -16,8 +16,8 @@ depend-requires-2 c κs = (c.before.before.before.before.before.requires.0, (c.b
 returns-2 : tie.Need-returns-2
 returns-2 c = let_through (decode c.before.before.before.before.before.before.before.before.args.w.now) (Depend c.before.before.before.before.before.before.before.before.args.kind c.before.before.before.before.before.before.before.before.args.leader c.before.before.before.before.before.before.before.before.args.follower) _ c.before.before.before.before.before.depend.ensures c.before.before.before.before.if1.false c.before.before.depend2.ensures
 
-pub depend-spec : {M : Type 1} → statement M
-depend-spec =
+pub depend_spec : {M : Type 1} → statement M
+depend_spec =
     tie.close
     (tie.spec
     (λ c κs. search rules)

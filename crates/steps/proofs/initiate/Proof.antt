@@ -16,8 +16,8 @@ initiate-requires-2 c κs = (c.before.before.before.before.before.requires.0, (c
 returns-2 : tie.Need-returns-2
 returns-2 c = let_through (decode c.before.before.before.before.before.before.before.before.args.w.now) (Initiate c.before.before.before.before.before.before.before.before.args.parent) _ c.before.before.before.before.before.initiate.ensures c.before.before.before.before.if1.false c.before.before.initiate2.ensures
 
-pub initiate-spec : {M : Type 1} → statement M
-initiate-spec =
+pub initiate_spec : {M : Type 1} → statement M
+initiate_spec =
     tie.close
     (tie.spec
     (λ c κs. search rules)

@@ -16,8 +16,8 @@ lock-requires-2 c κs = (c.before.before.before.before.before.requires.0, (c.bef
 returns-2 : tie.Need-returns-2
 returns-2 c = let_through (decode c.before.before.before.before.before.before.before.before.args.w.now) (Lock c.before.before.before.before.before.before.before.before.args.change c.before.before.before.before.before.before.before.before.args.entry c.before.before.before.before.before.before.before.before.args.mode) _ c.before.before.before.before.before.lock.ensures c.before.before.before.before.if1.false c.before.before.lock2.ensures
 
-pub lock-spec : {M : Type 1} → statement M
-lock-spec =
+pub lock_spec : {M : Type 1} → statement M
+lock_spec =
     tie.close
     (tie.spec
     (λ c κs. search rules)

@@ -18,8 +18,8 @@ returns-2 c =
     let_through (decode s.args.w.now) (Parent s.args.change) _ c.before.before.before.change.ensures.parent c.before.before.if1.false
     (looks s.args.w.now s.requires.1 _ _ c.done.ensures (Parent s.args.change) c.before.parent.ensures (unfold effect in refl))
 
-pub parent-spec : {M : Type 1} → statement M
-parent-spec =
+pub parent_spec : {M : Type 1} → statement M
+parent_spec =
     tie.close
     (tie.spec
     (λ c κs. search rules)

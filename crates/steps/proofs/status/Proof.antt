@@ -18,8 +18,8 @@ returns-2 c =
     let_through (decode s.args.w.now) (Status s.args.change) _ c.before.before.before.change.ensures.status c.before.before.if1.false
     (looks s.args.w.now s.requires.1 _ _ c.done.ensures (Status s.args.change) c.before.status.ensures (unfold effect in refl))
 
-pub status-spec : {M : Type 1} → statement M
-status-spec =
+pub status_spec : {M : Type 1} → statement M
+status_spec =
     tie.close
     (tie.spec
     (λ c κs. search rules)

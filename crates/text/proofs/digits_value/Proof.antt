@@ -38,8 +38,8 @@ loop-again c = reading_next c.before.before.before.before.loop.invariant (omega 
 returns-3 : tie.Need-returns-3 invariant-loop decreases-loop
 returns-3 c = reading_all c.before.loop.invariant (omega arith)
 
-pub digits-value-spec : {M : Type 1} → statement M
-digits-value-spec =
+pub digits_value_spec : {M : Type 1} → statement M
+digits_value_spec =
     tie.close
     (tie.spec
     invariant-loop

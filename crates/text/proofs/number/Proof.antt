@@ -32,8 +32,8 @@ returns-5 c =
     sym (number-value l _ c.before.digits_value.ensures (omega arith) (omega arith)
     (not_leading l (λ h z. ⊎_elim (λ w. w.2.left z) (λ w. omega arith) c.before.before.if3.branch)) (omega arith))
 
-pub number-spec : {M : Type 1} → statement M
-number-spec =
+pub number_spec : {M : Type 1} → statement M
+number_spec =
     tie.close
     (tie.spec
     returns

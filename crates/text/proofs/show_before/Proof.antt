@@ -36,8 +36,8 @@ returns c =
     let l = c.before.loop in let a = c.before.before.args in
     (l.invariant.low, (l.invariant.high, showing_all l.invariant (omega arith) ∙ ap (shown_before a.n) (drop-set-lt a.end a.text.now (a.end - 1) _ (omega arith))))
 
-pub show-before-spec : {M : Type 1} → statement M
-show-before-spec =
+pub show_before_spec : {M : Type 1} → statement M
+show_before_spec =
     tie.close
     (tie.spec
     invariant-loop

@@ -12,5 +12,5 @@ returns c =
     let d = c.before.before.drop-involving in
     ties_left_lem (members a.ended) a.count a.ties.now s.requires.1 d.result d.new.0 d.ensures
 
-pub drop-ended-spec : {M : Type 1} → statement M
-drop-ended-spec = tie.close (tie.spec (λ c κs. search rules) (λ c. search rules) returns)
+pub drop_ended_spec : {M : Type 1} → statement M
+drop_ended_spec = tie.close (tie.spec (λ c κs. search rules) (λ c. search rules) returns)

@@ -14,5 +14,5 @@ returns c ts len is rise =
     ties_fit ts a.count a.ties.now len is s.requires.1 (row a.kind e.result.leader e.result.follower 0) (make_tie a.kind a.leader a.follower) (tie_row_lem a.kind a.leader a.follower e.result.leader e.result.follower e.ensures.0 e.ensures.1)
     c.fits2.result (c.fits2.ensures (ties-rising ts a.count a.ties.now len is s.requires.1 rise) 0)
 
-pub fits-spec : {M : Type 1} → statement M
-fits-spec = tie.close (tie.spec (λ c κs. search rules) (λ c κs. search rules) returns)
+pub fits_spec : {M : Type 1} → statement M
+fits_spec = tie.close (tie.spec (λ c κs. search rules) (λ c κs. search rules) returns)

@@ -9,5 +9,5 @@ returns c = let a = c.before.args in ends_swapped a.kind a.leader a.follower c.i
 returns-2 : tie.Need-returns-2
 returns-2 c = let a = c.before.args in ends-kept a.kind a.leader a.follower c.if1.false
 
-pub stored-ends-spec : {M : Type 1} → statement M
-stored-ends-spec = tie.close (tie.spec returns returns-2)
+pub stored_ends_spec : {M : Type 1} → statement M
+stored_ends_spec = tie.close (tie.spec returns returns-2)

@@ -10,5 +10,5 @@ returns : tie.Need-returns
 unfolding words_have unpack
 returns c = refl
 
-pub among-spec : {M : Type 1} → statement M
-among-spec = tie.close (tie.spec (λ c. search rules) (λ c. search rules) (λ c. search rules) (λ c. search rules) (λ c. search rules) returns)
+pub among_spec : {M : Type 1} → statement M
+among_spec = tie.close (tie.spec (λ c. search rules) (λ c. search rules) (λ c. search rules) (λ c. search rules) (λ c. search rules) returns)

@@ -10,5 +10,5 @@ returns c = λ j h. bit-here c.before.args.c c.before.args.word j c.if1.true h
 returns-2 : tie.Need-returns-2
 returns-2 c = λ j h. bit_elsewhere c.before.args.c c.before.args.word j c.if1.false h
 
-pub bit-in-spec : {M : Type 1} → statement M
-bit-in-spec = tie.close (tie.spec (λ c. search rules) (λ c. search rules) returns returns-2)
+pub bit_in_spec : {M : Type 1} → statement M
+bit_in_spec = tie.close (tie.spec (λ c. search rules) (λ c. search rules) returns returns-2)

@@ -10,8 +10,8 @@ returns c =
     let s = c.before.before.before.before.before.before.before.before in
     insert_words s.args.words.now s.args.others.now s.requires.0 s.requires.1 _ refl
 
-pub insert-all-spec : {M : Type 1} → statement M
-insert-all-spec =
+pub insert_all_spec : {M : Type 1} → statement M
+insert_all_spec =
     tie.close
     (tie.spec
     (λ c. search rules)

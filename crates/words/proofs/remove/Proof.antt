@@ -14,8 +14,8 @@ returns c =
     let len : length a.words.now ≡ 4 = c.before.requires in
     (length-set a.words.now (a.c / 64) _ ∙ len, remove_word a.words.now a.c (omega arith))
 
-pub remove-spec : {M : Type 1} → statement M
-remove-spec =
+pub remove_spec : {M : Type 1} → statement M
+remove_spec =
     tie.close
     (tie.spec
     (λ c. search rules)

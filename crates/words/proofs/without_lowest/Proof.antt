@@ -19,5 +19,5 @@ shl-result c = low c
 returns : tie.Need-returns
 returns c j h = word_without c.args.w (count_trailing_zeros 64 c.args.w) j h
 
-pub without-lowest-spec : {M : Type 1} → statement M
-without-lowest-spec = tie.close (tie.spec cast-result shl-result returns)
+pub without_lowest_spec : {M : Type 1} → statement M
+without_lowest_spec = tie.close (tie.spec cast-result shl-result returns)

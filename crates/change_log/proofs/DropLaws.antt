@@ -18,7 +18,7 @@ use Rattle.cells.specs.Part.{part, patch}
 use Rattle.cells.proofs.PartLaws.{part_cons, sets_patch}
 use Rattle.cells.proofs.NumLaws.{part4}
 use Rattle.cells.proofs.CloseLaws.{Closing, keep-next, closing_none, closing_here, closing_turn, closing_all}
-use Rattle.log.proofs.LogLaws.{length_record}
+use Rattle.change_log.proofs.LogLaws.{length_record}
 
 -- A RECORD MOVED: its six bytes, as straight-line code reads them
 pub record_bytes_lem : (l : List ℕ) (at : ℕ) → at + 6 ≤ length l

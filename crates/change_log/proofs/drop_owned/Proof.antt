@@ -1,4 +1,4 @@
--- `log::drop_owned` meets its contract: i records were read, and those that stay are closed up. Assumes nothing.
+-- `change_log::drop_owned` meets its contract: i records were read, and those that stay are closed up. Assumes nothing.
 use mathlib.Core.Path.{◌≡◌, ap}
 use mathlib.Core.Bool.{not}
 use mathlib.Core.List.{List}
@@ -10,9 +10,9 @@ use Rattle.rules.specs.Window.{LogRecord}
 use Rattle.layout.specs.Codec.{log_section}
 use Rattle.words.specs.Members.{words_have}
 use Rattle.sets.specs.Members.{members}
-use Rattle.log.proofs.DropLaws.{left_most, Dropping, dropping_none, dropping_turn, dropping_all}
-use Rattle.log.proofs.drop_owned.Statement.{statement}
-use Rattle.log.proofs.drop_owned.Tie as tie
+use Rattle.change_log.proofs.DropLaws.{left_most, Dropping, dropping_none, dropping_turn, dropping_all}
+use Rattle.change_log.proofs.drop_owned.Statement.{statement}
+use Rattle.change_log.proofs.drop_owned.Tie as tie
 
 abbrev invariant-loop : tie.invariant-loop
 invariant-loop log₀ count words kept₀ i₀ log kept i =
@@ -43,8 +43,8 @@ returns c =
     let done : l.i ≡ a.count = omega arith in
     λ r e q. dropping_all (words_have a.ended.words) r l.log a.count l.auto _ e s.requires.1 (rw done at (l.invariant.3 r e q)) c.before.before.clear.ensures
 
-pub drop-owned-spec : {M : Type 1} → statement M
-drop-owned-spec =
+pub drop_owned_spec : {M : Type 1} → statement M
+drop_owned_spec =
     tie.close
     (tie.spec
     invariant-loop

@@ -1,4 +1,4 @@
--- `log::hand_over` meets its contract: the records before the next went over. Assumes nothing.
+-- `change_log::hand_over` meets its contract: the records before the next went over. Assumes nothing.
 use mathlib.Core.Path.{◌≡◌, ap, ◌∙◌}
 use mathlib.Core.List.{List}
 use Prim.Native.Nat.{◌-◌, ◌≤◌}
@@ -9,9 +9,9 @@ use Rattle.rules.specs.Window.{LogRecord}
 use Rattle.rules.specs.Effects.{moved_record}
 use Rattle.layout.specs.Codec.{log_section}
 use Rattle.sets.specs.Entries.{on_entries}
-use Rattle.log.proofs.MoveLaws.{first_moved, first_none, first_turn, first-all}
-use Rattle.log.proofs.hand_over.Statement.{statement}
-use Rattle.log.proofs.hand_over.Tie as tie
+use Rattle.change_log.proofs.MoveLaws.{first_moved, first_none, first_turn, first-all}
+use Rattle.change_log.proofs.hand_over.Statement.{statement}
+use Rattle.change_log.proofs.hand_over.Tie as tie
 
 abbrev invariant-loop : tie.invariant-loop
 invariant-loop log₀ count from to every entry next₀ log next =
@@ -39,8 +39,8 @@ returns c =
     let done : l.next ≡ a.count = omega arith in
     λ r e q. l.invariant.2 r e q ∙ ap log_section (rw done (first-all a.from a.to (on_entries a.every a.entry) r a.count e))
 
-pub hand-over-spec : {M : Type 1} → statement M
-hand-over-spec =
+pub hand_over_spec : {M : Type 1} → statement M
+hand_over_spec =
     tie.close
     (tie.spec
     invariant-loop

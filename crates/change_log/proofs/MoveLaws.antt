@@ -13,7 +13,7 @@ use Rattle.rules.specs.Window.{LogRecord}
 use Rattle.rules.specs.Effects.{move_log, moved_record}
 use Rattle.layout.specs.Codec.{no_record, log_section}
 use Rattle.sets.specs.Entries.{on_entries}
-use Rattle.log.proofs.LogLaws.{owner_read, entry_read, owner_store}
+use Rattle.change_log.proofs.LogLaws.{owner_read, entry_read, owner_store}
 
 -- ONE RECORD, by the test of its two bytes
 module _ (s : List ℕ) (l : List LogRecord) (i from to : ℕ) (all : Bool) (entry : ℕ) (e : s ≡ log_section l) (h : i < 2048) where

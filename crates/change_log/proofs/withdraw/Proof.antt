@@ -1,4 +1,4 @@
--- `log::withdraw` meets its contract: of the records read, those left are closed up, and the values and the entries undone are what they make of them. Assumes nothing.
+-- `change_log::withdraw` meets its contract: of the records read, those left are closed up, and the values and the entries undone are what they make of them. Assumes nothing.
 use mathlib.Core.Path.{◌≡◌, refl, ap, ◌∙◌}
 use mathlib.Core.List.{List}
 use Prim.Native.Nat.{ℕ, ◌-◌, ◌^◌, ◌≤◌, ◌<◌}
@@ -12,10 +12,10 @@ use Rattle.layout.specs.Codec.{no_record, value_section, log_section}
 use Rattle.words.specs.Members.{words_have}
 use Rattle.sets.specs.Members.{members}
 use Rattle.sets.proofs.MemberLaws.{blank_words}
-use Rattle.log.proofs.DropLaws.{left_most}
-use Rattle.log.proofs.WithdrawLaws.{Withdrawing, withdrawing_none, next_record, withdrawing_turn, withdrawing_values, withdrawing_all, undo-nothing}
-use Rattle.log.proofs.withdraw.Statement.{statement}
-use Rattle.log.proofs.withdraw.Tie as tie
+use Rattle.change_log.proofs.DropLaws.{left_most}
+use Rattle.change_log.proofs.WithdrawLaws.{Withdrawing, withdrawing_none, next_record, withdrawing_turn, withdrawing_values, withdrawing_all, undo-nothing}
+use Rattle.change_log.proofs.withdraw.Statement.{statement}
+use Rattle.change_log.proofs.withdraw.Tie as tie
 
 abbrev invariant-loop : tie.invariant-loop
 invariant-loop values₀ log₀ count words undone₀ left₀ at₀ values log undone left at =
@@ -66,8 +66,8 @@ returns c =
       λ r e q. withdrawing_all ended r (words_have l.undone) l.log a.count l.left _ e s.requires.1.1 (rw done at (l.invariant.5 r e q)) c.before.before.clear.ensures,
     )
 
-pub withdraw-spec : {M : Type 1} → statement M
-withdraw-spec =
+pub withdraw_spec : {M : Type 1} → statement M
+withdraw_spec =
     tie.close
     (tie.spec
     invariant-loop

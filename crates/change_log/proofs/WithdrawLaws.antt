@@ -18,8 +18,8 @@ use Rattle.layout.specs.Records.{Tabled}
 use Rattle.layout.specs.Codec.{no_record, record_bytes, value_section, log_section}
 use Rattle.cells.specs.Part.{part, patch}
 use Rattle.cells.proofs.CloseLaws.{take_next}
-use Rattle.log.specs.Undone.{Undone}
-use Rattle.log.proofs.DropLaws.{ClosingLog, log_none, log-here, log_turn, log-all}
+use Rattle.change_log.specs.Undone.{Undone}
+use Rattle.change_log.proofs.DropLaws.{ClosingLog, log_none, log-here, log_turn, log-all}
 
 -- THE LOOP: what is left of the first i, and the entries undone by them
 pub record Withdrawing (s : Set) (l : List LogRecord) (undone : Set) (log : List ℕ) (i j : ℕ) : Type 0 where

@@ -1,4 +1,5 @@
 // The log in its section: records read, appended, dropped, handed over and withdrawn.
+#![tactic(auto)]
 ghost use Rattle.std.specs.Prelude.{◌≡◌, cond, List, ℕ, ◌+◌, ◌*◌, ◌^◌, ◌≤◌, ◌<◌, length, get_or, set};
 ghost use Rattle.rules.specs.Window.{LogRecord};
 ghost use Rattle.rules.specs.Effects.{add_record, moved_record, move_log, unowned, undo, records_left};
@@ -8,7 +9,7 @@ ghost use Rattle.cells.specs.Part.{part, patch};
 ghost use Rattle.words.specs.Members.{words_have};
 ghost use Rattle.sets.specs.Members.{members};
 ghost use Rattle.sets.specs.Entries.{on_entries};
-ghost use Rattle.log.specs.Undone.{Undone};
+ghost use Rattle.change_log.specs.Undone.{Undone};
 
 use cells::{clear, read_u32, write_u32};
 use layout::Log;

@@ -1,8 +1,8 @@
--- `log::hand_record` meets its contract. Assumes nothing.
-use Rattle.log.proofs.MoveLaws.{hand_yes, hand_no}
+-- `change_log::hand_record` meets its contract. Assumes nothing.
+use Rattle.change_log.proofs.MoveLaws.{hand_yes, hand_no}
 use borrow.Author.Rules.{rules}
-use Rattle.log.proofs.hand_record.Statement.{statement}
-use Rattle.log.proofs.hand_record.Tie as tie
+use Rattle.change_log.proofs.hand_record.Statement.{statement}
+use Rattle.change_log.proofs.hand_record.Tie as tie
 
 returns : tie.Need-returns
 returns c =
@@ -14,8 +14,8 @@ returns-2 c =
     let s = c.before.before.before in let a = s.args in
     λ l t e. hand_no a.log.now l a.i a.from a.to a.every a.entry e s.requires.1 c.if1.false
 
-pub hand-record-spec : {M : Type 1} → statement M
-hand-record-spec =
+pub hand_record_spec : {M : Type 1} → statement M
+hand_record_spec =
     tie.close
     (tie.spec
     (λ c. search rules)

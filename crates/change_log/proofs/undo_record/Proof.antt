@@ -1,4 +1,4 @@
--- `log::undo_record` meets its contract: the entry is undone already, the owner lives on, or the record gives the value. Assumes nothing.
+-- `change_log::undo_record` meets its contract: the entry is undone already, the owner lives on, or the record gives the value. Assumes nothing.
 use mathlib.Core.Path.{sym, ap, ◌∙◌}
 use mathlib.Core.Bool.{◌||◌}
 use Prim.Native.Nat.{ℕ}
@@ -8,9 +8,9 @@ use borrow.Author.Tests.{not-true, not-false}
 use Rattle.rules.specs.Base.{put}
 use Rattle.layout.specs.Codec.{value_section}
 use Rattle.words.specs.Members.{words_have}
-use Rattle.log.proofs.WithdrawLaws.{undone_before, undone_not, undone_now}
-use Rattle.log.proofs.undo_record.Statement.{statement}
-use Rattle.log.proofs.undo_record.Tie as tie
+use Rattle.change_log.proofs.WithdrawLaws.{undone_before, undone_not, undone_now}
+use Rattle.change_log.proofs.undo_record.Statement.{statement}
+use Rattle.change_log.proofs.undo_record.Tie as tie
 
 returns : tie.Need-returns
 returns c =
@@ -48,8 +48,8 @@ returns-3 c =
           (λ k. insert.ensures.1 k ∙ ap (λ (x : ℕ). eqb k x || undone k) (entry.ensures q e)),
     )
 
-pub undo-record-spec : {M : Type 1} → statement M
-undo-record-spec =
+pub undo_record_spec : {M : Type 1} → statement M
+undo_record_spec =
     tie.close
     (tie.spec
     (λ c κs. search rules)
