@@ -1,0 +1,17 @@
+-- `cells::all_zero` meets its contract: all bytes below i are 0, and the last block has those that are left. Assumes nothing.
+use mathlib.Core.Path.{◌≡◌}
+use mathlib.Core.Bool.{true}
+use Prim.Native.Nat.{◌-◌, ◌≤◌}
+use native.Mathlib.Nat.{sub_self}
+use native.Mathlib.Omega.{arith}
+use borrow.Author.Rules.{rules}
+use Rattle.rules.specs.Base.{all_below}
+use Rattle.cells.specs.Part.{byte_is}
+use Rattle.cells.proofs.ZeroLaws.{block_passed, block_failed, block_last}
+use Rattle.cells.proofs.all_zero.Given as goal
+
+abbrev pub invariant-loop-i : goal.invariant-loop-i
+invariant-loop-i l = (l.from ≤ l.i) × (l.i ≤ l.to) × (all_below (l.i - l.from) (byte_is l.s l.from 0) ≡ true)
+
+abbrev pub decreases-loop-i : goal.decreases-loop-i
+decreases-loop-i l = l.to - l.i

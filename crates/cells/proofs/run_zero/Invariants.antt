@@ -1,0 +1,16 @@
+-- `cells::run_zero` meets its contract: the or of i bytes is 0 where they all are. Assumes nothing.
+use mathlib.Core.Path.{◌≡◌, refl, ◌∙◌}
+use Prim.Native.Nat.{◌-◌, ◌≤◌}
+use native.Mathlib.Omega.{arith}
+use lib.Dec.{eqb}
+use borrow.Author.Rules.{rules}
+use Rattle.rules.specs.Base.{all_below}
+use Rattle.cells.specs.Part.{byte_is}
+use Rattle.cells.proofs.ZeroLaws.{zero_more}
+use Rattle.cells.proofs.run_zero.Given as goal
+
+abbrev pub invariant-loop-i : goal.invariant-loop-i
+invariant-loop-i l = (l.i ≤ l.n) × (eqb l.acc 0 ≡ all_below l.i (byte_is l.s l.at 0))
+
+abbrev pub decreases-loop-i : goal.decreases-loop-i
+decreases-loop-i l = l.n - l.i
