@@ -13,7 +13,7 @@ use text::{same, show_before};
 pub const KEPT: usize = 65;
 
 // Where a listing stands: how many bytes of the line begun are kept, its place, whether the first line was broken, and how many bytes wait to be written.
-#[derive(Drop)]
+#[derive(Clone, Copy)]
 pub struct Stand {
     pub held: usize,
     pub place: u64,

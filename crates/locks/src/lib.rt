@@ -58,7 +58,7 @@ pub fn clashing(locks: &[u8], entry: u8, mode: u8) -> ChangeSet
 }
 
 // One entry's locks.
-#[derive(Drop)]
+#[derive(Clone, Copy)]
 struct EntryLocks {
     readers: ChangeSet,
     writers: ChangeSet,

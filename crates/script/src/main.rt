@@ -21,7 +21,7 @@ fn flush(out: &[u8], used: usize) -> bool
 }
 
 // Where the listing stands after a turn, and whether another one follows.
-#[derive(Drop)]
+#[derive(Clone, Copy)]
 struct Progress {
     stand: Stand,
     more: bool,

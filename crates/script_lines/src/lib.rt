@@ -93,7 +93,7 @@ fn call_number(name: &[u8]) -> u32
 }
 
 // The places of a line's first five commas, each after the one before it; the line's length where there is no more.
-#[derive(Drop)]
+#[derive(Clone, Copy)]
 struct Commas {
     first: usize,
     second: usize,
@@ -142,7 +142,7 @@ fn field(line: &[u8], from: usize, to: usize) -> u64
 }
 
 // What a line says: a call number, and four numbers that may be text::NO_NUMBER.
-#[derive(Drop)]
+#[derive(Clone, Copy)]
 struct Fields {
     call: u32,
     a: u64,

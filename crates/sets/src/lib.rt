@@ -17,13 +17,13 @@ use words::{among, bit_in, without_lowest};
 const FEW: usize = 32;
 
 // A set of change numbers (a bit set): bit c % 64 of word c / 64 says whether c is a member.
-#[derive(Drop)]
+#[derive(Clone, Copy)]
 pub struct ChangeSet {
     pub words: [u64; 4],
 }
 
 // The ties that a closure goes along: group ties either way; besides, from leader to follower, fall ties, or wait and fall ties.
-#[derive(Drop)]
+#[derive(Clone, Copy)]
 pub enum Along {
     Groups,
     Falls,

@@ -12,7 +12,7 @@ use parts::{back, front, related};
 use places::figure;
 
 // The figures of a header.
-#[derive(Drop)]
+#[derive(Clone, Copy)]
 struct Figures {
     entries: usize,
     given: usize,

@@ -14,7 +14,7 @@ use layout::Ties;
 use sets::ChangeSet;
 
 // The ends of a tie as they are stored.
-#[derive(Drop)]
+#[derive(Clone, Copy)]
 struct Ends {
     leader: u8,
     follower: u8,

@@ -6,22 +6,10 @@ use mir.Val.{Fits}
 use mir.Syntax.{w64}
 use lib.ListN.{length, get_or}
 use Rattle.sets.proofs.TestLaws.{empty_test}
-use Rattle.sets.proofs.ChangeSet.is_empty.Statement.{statement}
-use Rattle.sets.proofs.ChangeSet.is_empty.Tie as tie
+use Rattle.sets.proofs.ChangeSet.is_empty.Goals as goal
 
-returns : tie.Need-returns
-returns c =
-    let s = c.before.args.self in
+pub returns : goal.returns
+returns c = let s = c.args.self in
     let len : length s.words ≡ 4 = search rules in
     let fits : (i : ℕ) → Fits w64 (get_or s.words i 0) = search rules in
     empty_test s len (λ i. (fits i).fits)
-
-pub is_empty_spec : {M : Type 1} → statement M
-is_empty_spec =
-    tie.close
-    (tie.spec
-    (λ c. search rules)
-    (λ c. search rules)
-    (λ c. search rules)
-    (λ c. search rules)
-    returns)

@@ -6,29 +6,13 @@ use mir.Val.{Fits}
 use mir.Syntax.{w64}
 use lib.ListN.{length, get_or}
 use Rattle.sets.proofs.TestLaws.{equal_test}
-use Rattle.sets.proofs.ChangeSet.equal.Statement.{statement}
-use Rattle.sets.proofs.ChangeSet.equal.Tie as tie
+use Rattle.sets.proofs.ChangeSet.equal.Goals as goal
 
-returns : tie.Need-returns
-returns c =
-    let s = c.before.before.args.self in
-    let t = c.before.before.args.other in
+pub returns : goal.returns
+returns c = let s = c.args.self in
+    let t = c.args.other in
     let ls : length s.words ≡ 4 = search rules in
     let lt : length t.words ≡ 4 = search rules in
     let fs : (i : ℕ) → Fits w64 (get_or s.words i 0) = search rules in
     let ft : (i : ℕ) → Fits w64 (get_or t.words i 0) = search rules in
     equal_test s t ls lt (λ i. (fs i).fits) (λ i. (ft i).fits)
-
-pub equal-spec : {M : Type 1} → statement M
-equal-spec =
-    tie.close
-    (tie.spec
-    (λ c. search rules)
-    (λ c. search rules)
-    (λ c. search rules)
-    (λ c. search rules)
-    (λ c. search rules)
-    (λ c. search rules)
-    (λ c. search rules)
-    (λ c. search rules)
-    returns)

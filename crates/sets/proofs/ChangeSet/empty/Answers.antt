@@ -5,11 +5,7 @@ use Prim.Native.Nat.{ℕ}
 use lib.ListN.{get_or}
 use Rattle.sets.proofs.Words.{of_words, each_of_4}
 use Rattle.sets.proofs.MemberLaws.{words_none}
-use Rattle.sets.proofs.ChangeSet.empty.Statement.{statement}
-use Rattle.sets.proofs.ChangeSet.empty.Tie as tie
+use Rattle.sets.proofs.ChangeSet.empty.Goals as goal
 
-returns : tie.Need-returns
+pub returns : goal.returns
 returns c = words_none (of_words (0 ∷ 0 ∷ 0 ∷ 0 ∷ [])) refl (each_of_4 (λ (i : ℕ). get_or (0 ∷ 0 ∷ 0 ∷ 0 ∷ []) i 0 ≡ 0) refl refl refl refl)
-
-pub empty-spec : {M : Type 1} → statement M
-empty-spec = tie.close (tie.spec returns)

@@ -1,0 +1,7 @@
+-- `sets::row_at` meets its contract: the four words of the row. Assumes nothing.
+use borrow.Author.Rules.{rules}
+use Rattle.sets.proofs.SpreadLaws.{row-set}
+use Rattle.sets.proofs.row_at.Goals as goal
+
+pub returns : goal.returns
+returns c = let a = c.args in row-set a.rows.now a.c
