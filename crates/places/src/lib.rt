@@ -1,5 +1,6 @@
 // The tables with a fixed place for each number: the header's figures, the entries' values, the changes' statuses and parents.
 #![tactic(auto)]
+
 ghost use Rattle.std.specs.Prelude.{◌≡◌, List, not, ◌&&◌, ℕ, suc, min, ◌+◌, ◌<◌, ◌≤◌, ◌^◌, ltb, eqb, length, get_or, set};
 ghost use Rattle.rules.specs.Base.{put, outside};
 ghost use Rattle.rules.specs.Sets.{put_all};
