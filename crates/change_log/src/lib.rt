@@ -1,5 +1,6 @@
 // The log in its section: records read, appended, dropped, handed over and withdrawn.
 #![tactic(auto)]
+
 ghost use Rattle.std.specs.Prelude.{◌≡◌, cond, List, ℕ, ◌+◌, ◌*◌, ◌^◌, ◌≤◌, ◌<◌, length, get_or, set};
 ghost use Rattle.rules.specs.Window.{LogRecord};
 ghost use Rattle.rules.specs.Effects.{add_record, moved_record, move_log, unowned, undo, records_left};
