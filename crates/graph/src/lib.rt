@@ -1,5 +1,6 @@
 // Groups, end sets and leaders of changes, and whether a new tie would let a path return to its group: read from the first `count` ties of a section.
 #![tactic(auto)]
+
 ghost use Rattle.std.specs.Prelude.{◌≡◌, true, false, not, ◌||◌, List, ℕ, ◌*◌, ◌≤◌, ◌<◌, length};
 ghost use Rattle.rules.specs.Base.{outside};
 ghost use Rattle.rules.specs.Sets.{reach};

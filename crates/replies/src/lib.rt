@@ -1,5 +1,6 @@
 // What a call gives: an answer and a second number.
 #![tactic(auto)]
+
 ghost use Rattle.std.specs.Prelude.{◌≡◌};
 
 #[repr(C)]
