@@ -1,5 +1,6 @@
 // Numbers and runs of bytes at an offset of a slice.
 #![tactic(auto)]
+
 ghost use Rattle.std.specs.Prelude.{◌≡◌, ℕ, ◌+◌, ◌-◌, ◌*◌, ◌≤◌, ◌<◌, length, replicate};
 ghost use Rattle.rules.specs.Base.{all_below};
 ghost use Rattle.layout.specs.Codec.{unpack};

@@ -1,6 +1,7 @@
 // The largest figures and the places of a window's sections, as constants of the window's types.
 // `most`, `begins`, `sizes` and `size` tie them to the definitions, so that neither can drift.
 #![tactic(auto)]
+
 ghost use Rattle.std.specs.Prelude.{◌≡◌};
 ghost use Rattle.layout.specs.Codec.{head_at, head_size, values_at, values_size, changes_at, changes_size, line_at, line_size, locks_at, locks_size, permits_at, permits_size, ties_at, ties_size, log_at, log_size, window_size};
 ghost use Rattle.layout.specs.Figures.{AreLargest};

@@ -1,6 +1,7 @@
 // The ties of a section: which are arrows, what a pass over them adds to a set whose four words are lent, and what one notes in rows.
 // Rows have four words for each number: the numbers to which a tie is gone along from it.
 #![tactic(auto)]
+
 ghost use Rattle.std.specs.Prelude.{◌≡◌, ◌||◌, ◌&&◌, ℕ, ◌*◌, ◌<◌, ◌≤◌, eqb, length};
 ghost use Rattle.rules.specs.Ties.{is_arrow};
 ghost use Rattle.layout.specs.Records.{tie_of};

@@ -1,7 +1,7 @@
 -- Demand 2 of the second numbers, in words of the window: which changes a commit ends, how many an end has ended, who is in the way of a
 -- commit, which number a new change gets, what the calls that look at the window say, and whose number is always 0 or 0 unless blocked. Assumes nothing.
 use mathlib.Core.Path.{◌≡◌, refl, sym, ◌∙◌, ap}
-use mathlib.Core.Logic.{◌⊎◌, ⊎_elim, ◌≢◌}
+use mathlib.Core.Logic.{⊎_elim, ◌≢◌}
 use mathlib.Core.Bool.{Bool, true, false, not, cond, ◌&&◌, false≢true}
 use Prim.Native.Nat.{ℕ, zero, suc, ◌<◌}
 use native.Mathlib.Omega.{arith}

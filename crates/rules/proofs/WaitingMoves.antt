@@ -6,7 +6,7 @@ use Prim.Native.Nat.{ℕ, zero, suc, ◌<◌}
 use native.Mathlib.Omega.{arith}
 use lib.Dec.{eqb}
 use borrow.Author.Tests.{not-false, ne_eqb}
-use Rattle.rules.specs.Base.{put, all, keep, any_below}
+use Rattle.rules.specs.Base.{put, keep, any_below}
 use Rattle.rules.specs.Sets.{Set, only, put_all}
 use Rattle.rules.specs.Window.{Limits, Window, with_value, with_status, with_held, with_log, with_permits, with_ties, with_line, running}
 use Rattle.rules.specs.Ties.{group_of, end_set}

@@ -1,5 +1,6 @@
 // Sets of changes, in four 64-bit words by value.
 #![tactic(auto)]
+
 ghost use Rattle.std.specs.Prelude.{◌≡◌, false, not, ◌||◌, ◌&&◌, List, ℕ, ◌*◌, ◌≤◌, eqb, length};
 ghost use Rattle.rules.specs.Base.{any_below, all_below, lowest_below, count_below};
 ghost use Rattle.rules.specs.Sets.{closure};

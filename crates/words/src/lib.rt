@@ -1,5 +1,6 @@
 // A set of numbers below 256 in four 64-bit words that are lent and not copied; and single words of such a set.
 #![tactic(auto)]
+
 ghost use Rattle.std.specs.Prelude.{◌≡◌, not, ◌||◌, ◌&&◌, ℕ, ◌+◌, ◌*◌, ◌<◌, eqb, length};
 ghost use Rattle.std.specs.Int.Count.{count_trailing_zeros};
 ghost use Rattle.layout.specs.Codec.{unpack};

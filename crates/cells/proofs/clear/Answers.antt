@@ -1,11 +1,9 @@
 -- `cells::clear` meets its contract: what lies below i is zeros. Assumes nothing.
 use mathlib.Core.Path.{◌≡◌, refl, sym, ◌∙◌}
-use Prim.Native.Nat.{◌-◌, ◌≤◌}
 use native.Mathlib.Nat.{sub_self}
 use native.Mathlib.Omega.{arith}
-use lib.ListN.{length, replicate, length-set}
+use lib.ListN.{length-set}
 use borrow.Author.Rules.{rules}
-use Rattle.cells.specs.Part.{patch}
 use Rattle.cells.proofs.PartLaws.{patch_nil}
 use Rattle.cells.proofs.RunLaws.{fill_more}
 use Rattle.cells.proofs.clear.Goals as goal

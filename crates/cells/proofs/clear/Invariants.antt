@@ -1,13 +1,8 @@
 -- `cells::clear` meets its contract: what lies below i is zeros. Assumes nothing.
-use mathlib.Core.Path.{◌≡◌, refl, sym, ◌∙◌}
+use mathlib.Core.Path.{◌≡◌}
 use Prim.Native.Nat.{◌-◌, ◌≤◌}
-use native.Mathlib.Nat.{sub_self}
-use native.Mathlib.Omega.{arith}
-use lib.ListN.{length, replicate, length-set}
-use borrow.Author.Rules.{rules}
+use lib.ListN.{length, replicate}
 use Rattle.cells.specs.Part.{patch}
-use Rattle.cells.proofs.PartLaws.{patch_nil}
-use Rattle.cells.proofs.RunLaws.{fill_more}
 use Rattle.cells.proofs.clear.Given as goal
 
 abbrev pub invariant-loop-i : goal.invariant-loop-i

@@ -1,13 +1,8 @@
 -- `cells::copy_in` meets its contract: the first i bytes have been copied. Assumes nothing.
-use mathlib.Core.Path.{◌≡◌, refl, sym, ap, ◌∙◌}
+use mathlib.Core.Path.{◌≡◌}
 use Prim.Native.Nat.{◌-◌, ◌≤◌}
-use native.Mathlib.Omega.{arith}
-use lib.ListN.{length, take, length-set}
-use lib.Seq.{take_all}
-use borrow.Author.Rules.{rules}
+use lib.ListN.{length, take}
 use Rattle.cells.specs.Part.{patch}
-use Rattle.cells.proofs.PartLaws.{patch_nil}
-use Rattle.cells.proofs.RunLaws.{copy_more}
 use Rattle.cells.proofs.copy_in.Given as goal
 
 abbrev pub invariant-loop-i : goal.invariant-loop-i

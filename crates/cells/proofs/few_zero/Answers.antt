@@ -3,7 +3,6 @@ use mathlib.Core.Path.{refl}
 use Prim.Native.Nat.{◌+◌}
 use native.Mathlib.Nat.{sub_self}
 use native.Mathlib.Omega.{arith}
-use borrow.Author.Rules.{rules}
 use Rattle.rules.specs.Base.{all_below}
 use Rattle.cells.proofs.ZeroLaws.{block_passed, block_failed, block_last}
 use Rattle.cells.proofs.few_zero.Goals as goal

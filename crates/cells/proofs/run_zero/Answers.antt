@@ -1,11 +1,8 @@
 -- `cells::run_zero` meets its contract: the or of i bytes is 0 where they all are. Assumes nothing.
 use mathlib.Core.Path.{◌≡◌, refl, ◌∙◌}
-use Prim.Native.Nat.{◌-◌, ◌≤◌}
 use native.Mathlib.Omega.{arith}
-use lib.Dec.{eqb}
 use borrow.Author.Rules.{rules}
 use Rattle.rules.specs.Base.{all_below}
-use Rattle.cells.specs.Part.{byte_is}
 use Rattle.cells.proofs.ZeroLaws.{zero_more}
 use Rattle.cells.proofs.run_zero.Goals as goal
 

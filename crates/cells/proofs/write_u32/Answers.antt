@@ -3,7 +3,6 @@ use native.Mathlib.Omega.{arith}
 use lib.ListN.{length-set}
 use Rattle.cells.specs.Num.{le}
 use Rattle.cells.proofs.NumLaws.{patch4}
-use borrow.Author.Rules.{rules}
 use Rattle.cells.proofs.write_u32.Goals as goal
 
 pub returns : goal.returns

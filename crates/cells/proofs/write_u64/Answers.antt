@@ -1,6 +1,5 @@
 -- `cells::write_u64` meets its contract: eight stores are the eight bytes put in place. Assumes nothing.
 use native.Mathlib.Omega.{arith}
-use borrow.Author.Rules.{rules}
 use lib.ListN.{length-set}
 use Rattle.cells.proofs.WordLaws.{patch8, le_eight}
 use Rattle.cells.proofs.write_u64.Goals as goal

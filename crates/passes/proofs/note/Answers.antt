@@ -1,6 +1,5 @@
 -- `passes::note` meets its contract: the digit is set in its word of the row. Assumes nothing.
 use native.Mathlib.Omega.{arith}
-use borrow.Author.Rules.{rules}
 use Rattle.passes.proofs.NoteLaws.{noted}
 use Rattle.passes.proofs.note.Goals as goal
 

@@ -1,7 +1,6 @@
 -- `passes::note_tie` meets its contract: by whether the tie is gone along, and whether it is a group's. Assumes nothing.
 use mathlib.Core.Path.{◌∙◌}
 use native.Mathlib.Omega.{arith}
-use borrow.Author.Rules.{rules}
 use Rattle.rules.proofs.BaseLaws.{no_true}
 use Rattle.rules.proofs.TieLaws.{group_is, is_group_lem}
 use Rattle.layout.specs.Records.{tie_of}

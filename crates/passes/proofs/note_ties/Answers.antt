@@ -1,10 +1,9 @@
 -- `passes::note_ties` meets its contract: after some ties those are noted in the rows. The measure is what is left of the count. Assumes nothing.
 use mathlib.Core.Path.{◌≡◌, ap, ◌∙◌}
 use mathlib.Core.Bool.{◌||◌}
-use Prim.Native.Nat.{ℕ, ◌-◌, ◌≤◌}
+use Prim.Native.Nat.{ℕ}
 use native.Mathlib.Omega.{arith}
 use borrow.Author.Rules.{rules}
-use lib.ListN.{length}
 use Rattle.layout.specs.Records.{tie_at}
 use Rattle.passes.specs.TieRows.{gone_in, row_has}
 use Rattle.passes.proofs.NoteLaws.{ties_none, ties-more}
@@ -14,7 +13,7 @@ pub loop-next-init : goal.loop-next-init
 loop-next-init c = let s = c in (omega arith, s.requires.rows_len, λ x y. ties_none s.args.low s.args.ties.now x y (row_has s.args.rows.now x y))
 
 pub note_tie-requires : goal.note_tie-requires
-note_tie-requires c =  record { rows_len = c.loop-next.invariant.1; low_bound = omega arith }
+note_tie-requires c = record { rows_len = c.loop-next.invariant.1; low_bound = omega arith }
 
 pub loop-next-preserved : goal.loop-next-preserved
 unfolding tie_at

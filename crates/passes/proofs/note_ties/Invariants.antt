@@ -1,13 +1,9 @@
 -- `passes::note_ties` meets its contract: after some ties those are noted in the rows. The measure is what is left of the count. Assumes nothing.
-use mathlib.Core.Path.{◌≡◌, ap, ◌∙◌}
+use mathlib.Core.Path.{◌≡◌}
 use mathlib.Core.Bool.{◌||◌}
 use Prim.Native.Nat.{ℕ, ◌-◌, ◌≤◌}
-use native.Mathlib.Omega.{arith}
-use borrow.Author.Rules.{rules}
 use lib.ListN.{length}
-use Rattle.layout.specs.Records.{tie_at}
 use Rattle.passes.specs.TieRows.{gone_in, row_has}
-use Rattle.passes.proofs.NoteLaws.{ties_none, ties-more}
 use Rattle.passes.proofs.note_ties.Given as goal
 
 abbrev pub invariant-loop-next : goal.invariant-loop-next

@@ -1,9 +1,7 @@
 -- `passes::pass` meets its contract: after j ties, what the first j that it comes to add. The measure is what is left of the count. Assumes nothing.
 use mathlib.Core.Path.{◌≡◌, refl, ap, ◌∙◌}
-use Prim.Native.Nat.{ℕ, ◌-◌, ◌<◌, ◌≤◌}
+use Prim.Native.Nat.{ℕ, ◌<◌}
 use native.Mathlib.Omega.{arith}
-use borrow.Author.Rules.{rules}
-use lib.ListN.{length}
 use Rattle.layout.specs.Records.{tie_at}
 use Rattle.words.specs.Members.{words_have}
 use Rattle.passes.specs.Passes.{tie_from, passed}

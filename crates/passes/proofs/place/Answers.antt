@@ -1,5 +1,4 @@
 -- `passes::place` meets its contract: the definition by cases. Assumes nothing.
-use borrow.Author.Rules.{rules}
 use Rattle.passes.specs.Passes.{place_from}
 use Rattle.passes.proofs.place.Goals as goal
 

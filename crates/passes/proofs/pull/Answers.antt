@@ -2,7 +2,6 @@
 use mathlib.Core.Path.{◌≡◌, sym, fun_ext, ◌∙◌}
 use mathlib.Core.Bool.{true, false, true≢false}
 use native.Mathlib.Omega.{arith}
-use borrow.Author.Rules.{rules}
 use Rattle.rules.proofs.TieLaws.{group_is, is_group_lem}
 use Rattle.layout.specs.Records.{tie_of}
 use Rattle.words.specs.Members.{words_have}

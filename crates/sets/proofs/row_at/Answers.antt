@@ -1,5 +1,4 @@
 -- `sets::row_at` meets its contract: the four words of the row. Assumes nothing.
-use borrow.Author.Rules.{rules}
 use Rattle.sets.proofs.SpreadLaws.{row-set}
 use Rattle.sets.proofs.row_at.Goals as goal
 

@@ -1,6 +1,5 @@
 -- `words::among` meets its contract: the test is the definition. Assumes nothing.
 use mathlib.Core.Path.{refl}
-use borrow.Author.Rules.{rules}
 use Rattle.layout.specs.Codec.{unpack}
 use Rattle.words.specs.Members.{words_have}
 use Rattle.words.proofs.among.Goals as goal

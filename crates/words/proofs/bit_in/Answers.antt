@@ -1,5 +1,4 @@
 -- `words::bit_in` meets its contract: a word of the set of c alone is its bit or 0. Assumes nothing.
-use borrow.Author.Rules.{rules}
 use Rattle.words.proofs.BitLaws.{bit-here, bit_elsewhere}
 use Rattle.words.proofs.bit_in.Goals as goal
 

@@ -1,6 +1,5 @@
 -- `words::insert_all` meets its contract: the words are joined by `|`, one after the other. Assumes nothing.
 use mathlib.Core.Path.{refl}
-use borrow.Author.Rules.{rules}
 use Rattle.words.proofs.BitLaws.{insert_words}
 use Rattle.words.proofs.insert_all.Goals as goal
 

@@ -1,8 +1,5 @@
 -- `words::without_lowest` meets its contract: the bit that is taken away is the lowest. Assumes nothing.
-use Prim.Native.Nat.{◌<◌}
-use native.Mathlib.Omega.{arith}
 use lib.Count.{count_trailing_zeros}
-use Rattle.cells.proofs.Digits.{trailing_hit}
 use Rattle.words.proofs.BitLaws.{word_without}
 use Rattle.words.proofs.without_lowest.Goals as goal
 

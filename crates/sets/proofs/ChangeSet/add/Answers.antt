@@ -1,7 +1,6 @@
 -- `sets::ChangeSet::add` meets its contract: c alone is united with the set. Assumes nothing.
 use mathlib.Core.Path.{ap, ◌∙◌}
 use mathlib.Core.Bool.{Bool, ◌||◌}
-use borrow.Author.Rules.{rules}
 use Rattle.sets.specs.Members.{members}
 use Rattle.sets.proofs.ChangeSet.add.Goals as goal
 

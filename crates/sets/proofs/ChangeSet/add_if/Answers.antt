@@ -1,5 +1,4 @@
 -- `sets::ChangeSet::add_if` meets its contract: with the number where the test passed, as it was where it failed. Assumes nothing.
-use borrow.Author.Rules.{rules}
 use lib.Dec.{eqb}
 use Rattle.sets.specs.Members.{members}
 use Rattle.sets.proofs.MemberLaws.{add_passed, nothing_added}

@@ -1,13 +1,9 @@
 -- `sets::ChangeSet::close_few` meets its contract: passes keep what `Growing` says, and the last adds nothing. The measure is how many of 256 are no members. Assumes nothing.
-use mathlib.Core.Path.{◌≡◌, sym, ◌∙◌}
-use Prim.Native.Nat.{◌-◌, ◌<◌}
+use mathlib.Core.Path.{sym, ◌∙◌}
 use native.Mathlib.Omega.{arith}
 use borrow.Author.Rules.{rules}
-use lib.ListN.{length}
-use Rattle.rules.specs.Base.{count_below}
-use Rattle.layout.specs.Records.{tie_at}
 use Rattle.words.specs.Members.{words_have}
-use Rattle.passes.proofs.PassLaws.{Growing, growing_start}
+use Rattle.passes.proofs.PassLaws.{growing_start}
 use Rattle.sets.specs.Members.{members}
 use Rattle.sets.proofs.MemberLaws.{members-all, agree_at}
 use Rattle.sets.proofs.Words.{of_words}

@@ -1,17 +1,11 @@
 -- `sets::ChangeSet::close_few` meets its contract: passes keep what `Growing` says, and the last adds nothing. The measure is how many of 256 are no members. Assumes nothing.
-use mathlib.Core.Path.{◌≡◌, sym, ◌∙◌}
-use Prim.Native.Nat.{◌-◌, ◌<◌}
-use native.Mathlib.Omega.{arith}
-use borrow.Author.Rules.{rules}
+use mathlib.Core.Path.{◌≡◌}
+use Prim.Native.Nat.{◌-◌}
 use lib.ListN.{length}
 use Rattle.rules.specs.Base.{count_below}
 use Rattle.layout.specs.Records.{tie_at}
 use Rattle.words.specs.Members.{words_have}
-use Rattle.passes.proofs.PassLaws.{Growing, growing_start}
-use Rattle.sets.specs.Members.{members}
-use Rattle.sets.proofs.MemberLaws.{members-all, agree_at}
-use Rattle.sets.proofs.Words.{of_words}
-use Rattle.sets.proofs.ClosureLaws.{pass_less, pass_grows, closed_section}
+use Rattle.passes.proofs.PassLaws.{Growing}
 use Rattle.sets.proofs.ChangeSet.close_few.Given as goal
 
 abbrev pub invariant-loop-words : goal.invariant-loop-words

@@ -1,11 +1,9 @@
 -- `sets::ChangeSet::count` meets its contract: the ones of each word add up to the members. Assumes nothing.
-use Prim.Native.Nat.{ℕ, ◌≤◌}
-use native.Mathlib.Omega.{arith}
+use Prim.Native.Nat.{ℕ}
 use borrow.Author.Rules.{rules}
 use mir.Val.{Fits}
 use mir.Syntax.{w64}
 use lib.ListN.{get_or}
-use lib.Count.{ones, ones-le}
 use Rattle.sets.proofs.Words.{count_words}
 use Rattle.sets.proofs.ChangeSet.count.Goals as goal
 

@@ -1,5 +1,4 @@
 -- `sets::ChangeSet::has` meets its contract: a set has what its words have. Assumes nothing.
-use borrow.Author.Rules.{rules}
 use Rattle.sets.specs.Members.{members}
 use Rattle.sets.proofs.ChangeSet.has.Goals as goal
 

@@ -1,7 +1,6 @@
 -- `sets::ChangeSet::load` meets its contract: each word is gathered from eight bytes. Assumes nothing.
 use mathlib.Core.Path.{sym, ◌∙◌}
 use native.Mathlib.Omega.{arith}
-use borrow.Author.Rules.{rules}
 use Rattle.sets.proofs.Bytes.{loaded_short, loaded_words}
 use Rattle.sets.proofs.ChangeSet.load.Goals as goal
 

@@ -1,16 +1,13 @@
 -- `sets::ChangeSet::lowest` meets its contract: the first word that is not 0 holds the lowest member. Assumes nothing.
 use mathlib.Core.Path.{◌≡◌}
 use mathlib.Core.List.{List}
-use Prim.Native.Nat.{ℕ, ◌<◌, ◌+◌, ◌*◌}
+use Prim.Native.Nat.{ℕ}
 use native.Mathlib.Omega.{arith}
 use borrow.Author.Count.{below_none, below_more}
 use borrow.Author.Rules.{rules}
 use mir.Val.{Fits}
 use mir.Syntax.{w64}
 use lib.ListN.{length, get_or}
-use lib.Count.{count_trailing_zeros, trailing_le}
-use Rattle.rules.specs.Base.{lowest_below}
-use Rattle.sets.specs.Members.{members}
 use Rattle.sets.proofs.Words.{each_of_4}
 use Rattle.sets.proofs.TestLaws.{lowest_word, lowest_nothing}
 use Rattle.sets.proofs.ChangeSet.lowest.Goals as goal

@@ -1,20 +1,14 @@
 -- `sets::ChangeSet::rest` meets its contract: the first word that is not 0 loses its lowest bit. Assumes nothing.
 use mathlib.Core.Path.{◌≡◌, refl}
-use mathlib.Core.Bool.{not, ◌&&◌}
 use mathlib.Core.List.{List}
-use Prim.Native.Nat.{ℕ, ◌<◌}
+use Prim.Native.Nat.{ℕ}
 use native.Mathlib.Omega.{arith}
 use borrow.Author.Count.{below_none, below_more}
 use borrow.Author.Rules.{rules}
 use mir.Val.{Fits}
 use mir.Syntax.{w64}
 use lib.ListN.{length, get_or}
-use lib.Count.{count_trailing_zeros}
-use lib.Dec.{eqb}
-use Rattle.rules.specs.Base.{lowest_below}
-use Rattle.layout.specs.Codec.{unpack}
-use Rattle.sets.specs.Members.{members}
-use Rattle.sets.proofs.Words.{of_words, each_of_4}
+use Rattle.sets.proofs.Words.{each_of_4}
 use Rattle.sets.proofs.TestLaws.{rest_words, rest_nothing}
 use Rattle.sets.proofs.ChangeSet.rest.Goals as goal
 

@@ -1,6 +1,5 @@
 -- `sets::ChangeSet::single` meets its contract: the four words hold c alone. Assumes nothing.
 use native.Mathlib.Omega.{arith}
-use borrow.Author.Rules.{rules}
 use borrow.Author.Tests.{ne_eqb}
 use lib.Dec.{eqb}
 use Rattle.sets.proofs.MemberLaws.{four_words}

@@ -1,14 +1,9 @@
 -- `sets::ChangeSet::spread` meets its contract: the rows of the members that are not left have been taken in. The measure is how many of 256 are none of those. Assumes nothing.
-use mathlib.Core.Path.{◌≡◌}
-use mathlib.Core.Bool.{not, ◌&&◌}
-use Prim.Native.Nat.{◌-◌, ◌<◌}
 use native.Mathlib.Omega.{arith}
 use borrow.Author.Rules.{rules}
-use lib.ListN.{length}
-use Rattle.rules.specs.Base.{count_below}
 use Rattle.sets.specs.Members.{members}
 use Rattle.sets.proofs.MemberLaws.{members_above}
-use Rattle.sets.proofs.SpreadLaws.{Spreading, spreading_start, spreading_turn, spreading_end}
+use Rattle.sets.proofs.SpreadLaws.{spreading_start, spreading_turn, spreading_end}
 use Rattle.sets.proofs.ChangeSet.spread.Goals as goal
 
 pub loop-c-init : goal.loop-c-init
@@ -29,6 +24,8 @@ loop-c-smaller c =
 pub loop-c-preserved : goal.loop-c-preserved
 loop-c-preserved c =
     let a = c.args in
-    let l = c.loop-c in
-    (search rules, (spreading_turn a.rows.now (members a.self) (members l.s) (members l.left) l.c l.invariant.1 (omega arith) (members c.row_at-row.result) (members c.rest.result) (members c.minus.result) (members c.unite-left.result) (members c.unite-s.result)
-    c.row_at-row.ensures c.rest.ensures c.minus.ensures c.unite-left.ensures c.unite-s.ensures c.lowest-c-in-loop-c.result c.lowest-c-in-loop-c.ensures).1)
+    let l = c.loop-c in (
+      search rules,
+      (spreading_turn a.rows.now (members a.self) (members l.s) (members l.left) l.c l.invariant.1 (omega arith) (members c.row_at-row.result) (members c.rest.result) (members c.minus.result) (members c.unite-left.result) (members c.unite-s.result)
+          c.row_at-row.ensures c.rest.ensures c.minus.ensures c.unite-left.ensures c.unite-s.ensures c.lowest-c-in-loop-c.result c.lowest-c-in-loop-c.ensures).1,
+    )

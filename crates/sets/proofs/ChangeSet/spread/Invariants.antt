@@ -1,14 +1,11 @@
 -- `sets::ChangeSet::spread` meets its contract: the rows of the members that are not left have been taken in. The measure is how many of 256 are none of those. Assumes nothing.
 use mathlib.Core.Path.{◌≡◌}
 use mathlib.Core.Bool.{not, ◌&&◌}
-use Prim.Native.Nat.{◌-◌, ◌<◌}
-use native.Mathlib.Omega.{arith}
-use borrow.Author.Rules.{rules}
+use Prim.Native.Nat.{◌-◌}
 use lib.ListN.{length}
 use Rattle.rules.specs.Base.{count_below}
 use Rattle.sets.specs.Members.{members}
-use Rattle.sets.proofs.MemberLaws.{members_above}
-use Rattle.sets.proofs.SpreadLaws.{Spreading, spreading_start, spreading_turn, spreading_end}
+use Rattle.sets.proofs.SpreadLaws.{Spreading}
 use Rattle.sets.proofs.ChangeSet.spread.Given as goal
 
 abbrev pub invariant-loop-c : goal.invariant-loop-c

@@ -1,7 +1,6 @@
 -- `sets::ChangeSet::store` meets its contract: the four words are put in place one after the other. Assumes nothing.
 use mathlib.Core.Path.{sym}
 use native.Mathlib.Omega.{arith}
-use borrow.Author.Rules.{rules}
 use Rattle.sets.specs.Members.{members}
 use Rattle.sets.proofs.Bytes.{stored_words, stored_short}
 use Rattle.sets.proofs.ChangeSet.store.Goals as goal

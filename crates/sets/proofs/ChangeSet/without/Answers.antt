@@ -1,7 +1,6 @@
 -- `sets::ChangeSet::without` meets its contract: c alone is taken out of the set. Assumes nothing.
 use mathlib.Core.Path.{ap, ◌∙◌}
 use mathlib.Core.Bool.{Bool, not, ◌&&◌, and_comm}
-use borrow.Author.Rules.{rules}
 use lib.Dec.{eqb}
 use Rattle.sets.specs.Members.{members}
 use Rattle.sets.proofs.ChangeSet.without.Goals as goal
