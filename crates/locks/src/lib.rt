@@ -1,6 +1,7 @@
 // Locks in the lent section of a window: for each entry the set of its readers and the set of its writers.
 // The contracts speak of every `held`, the lock of each change on each entry, that the section is the bytes of.
 #![tactic(auto)]
+
 ghost use Rattle.std.specs.Prelude.{◌≡◌, ℕ, ◌+◌, ◌≤◌, ◌<◌, max, length};
 ghost use Rattle.rules.specs.Base.{any_below, put, put2};
 ghost use Rattle.rules.specs.Sets.{everything, only, put_all};

@@ -1,0 +1,7 @@
+-- `locks::mode` meets its contract: the two bits of the change are its lock. Assumes nothing.
+use borrow.Author.Rules.{rules}
+use Rattle.locks.proofs.SectionLaws.{mode_read}
+use Rattle.locks.proofs.mode.Goals as goal
+
+pub returns : goal.returns
+returns c held modes e = rw e (mode_read held c.args.entry c.args.change modes (search rules) (search rules))
