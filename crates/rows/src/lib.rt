@@ -1,5 +1,6 @@
 // Tables of rows of four bytes in a lent section, in rising order of their first three bytes.
 #![tactic(auto)]
+
 ghost use Rattle.std.specs.Prelude.{◌≡◌, true, cond, not, ℕ, ◌+◌, ◌-◌, ◌*◌, ◌≤◌, length, get_or, set};
 ghost use Rattle.rules.specs.Base.{rising, exceeds};
 ghost use Rattle.rules.specs.Locks.{contains};
