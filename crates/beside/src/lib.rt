@@ -1,5 +1,6 @@
 // The test for a clash: who is in the way of a change, by who has permitted; and whether a permit's operations contain a mode.
 #![tactic(auto)]
+
 ghost use Rattle.std.specs.Prelude.{◌≡◌};
 ghost use Rattle.rules.specs.Base.{lowest_or_zero};
 ghost use Rattle.rules.specs.Locks.{contains, blocking};
