@@ -1,7 +1,7 @@
 -- The first record of an entry or of a change in a list of lines: what the rules make of it, by its place. Assumes nothing.
-use mathlib.Core.Path.{◌≡◌, refl, sym, ap, ◌∙◌}
+use mathlib.Core.Path.{◌≡◌, refl, sym, ap, subst, ◌∙◌}
 use mathlib.Core.Logic.{◌≢◌}
-use mathlib.Core.Bool.{Bool, true, false, not, cond, ◌&&◌, ◌||◌, or-false}
+use mathlib.Core.Bool.{true, false, not, or-false}
 use mathlib.Core.List.{List, [], ◌∷◌, ◌++◌}
 use Prim.Native.Nat.{ℕ, zero, suc, ◌<◌}
 use native.Mathlib.Nat.{not-suc-le-zero, le_of_suc-le-suc}
@@ -41,8 +41,8 @@ pub elsewhere_at : (c e : ℕ) (l : List LineRecord) (i : ℕ) → i < length l 
 unfolding waits_elsewhere any distinct
 elsewhere_at c e [] i h d is = absurd (not-suc-le-zero h)
 elsewhere_at c e (r ∷ l) zero h d is =
-    let n = nowhere r.change e l (and_left (all (λ q. not (eqb q.change r.change)) l) (distinct (λ q. q.change) l) d) in
-    rw (eq-eqb r.change c is, ← is, n) (or-false (not (eqb r.entry e)))
+    let n : waits_elsewhere l c e ≡ false = subst (λ (x : ℕ). waits_elsewhere l x e ≡ false) is (nowhere r.change e l (and_left (all (λ q. not (eqb q.change r.change)) l) (distinct (λ q. q.change) l) d)) in
+    rw (eq-eqb r.change c is, n) (or-false (not (eqb r.entry e)))
 elsewhere_at c e (r ∷ l) (suc i) h d is =
     let n = eqb-false _ r.change (not-true _ (all_at (λ q. not (eqb q.change r.change)) no_waiter l (and_left (all (λ q. not (eqb q.change r.change)) l) (distinct (λ q. q.change) l) d) i (le_of_suc-le-suc h))) in
     rw (ne_eqb r.change c (λ z. n (is ∙ sym z))) (elsewhere_at c e l i (le_of_suc-le-suc h) (and_right (all (λ q. not (eqb q.change r.change)) l) (distinct (λ q. q.change) l) d) is)

@@ -1,15 +1,13 @@
 -- The line's section by its places: a record found, one entered, some taken out. Assumes nothing.
 use mathlib.Core.Path.{◌≡◌, refl, sym, ap, ◌∙◌, fun_ext}
 use mathlib.Core.Logic.{◌≢◌}
-use mathlib.Core.Bool.{Bool, true, false, not, cond, ◌&&◌}
+use mathlib.Core.Bool.{Bool, true, not, ◌&&◌}
 use mathlib.Core.List.{List, [], ◌∷◌, ◌++◌}
-use Prim.Native.Nat.{ℕ, zero, suc, ◌+◌, ◌-◌, ◌*◌, ◌≤◌, ◌<◌}
-use native.Mathlib.Nat.{not-suc-le-zero, le_of_suc-le-suc}
+use Prim.Native.Nat.{ℕ, ◌+◌, ◌-◌, ◌*◌, ◌≤◌, ◌<◌}
 use native.Mathlib.Omega.{arith}
 use lib.Dec.{ltb, eqb}
 use lib.ListN.{length, get_or, set, replicate, length-set, get_or-append, get_or-eq_default}
 use lib.Seq.{get_or_at, get_or-set_same, get_or-set_other}
-use borrow.Author.Tests.{eq-eqb, ne_eqb}
 use Rattle.rules.specs.Base.{table, distinct}
 use Rattle.rules.specs.Sets.{Set, only}
 use Rattle.rules.specs.Window.{LineRecord}
@@ -21,7 +19,7 @@ use Rattle.layout.specs.Records.{Tabled, waiter_at}
 use Rattle.layout.proofs.ReadLaws.{waiter_read}
 use Rattle.layout.proofs.RecordLaws.{placed, line_flat, first_byte}
 use Rattle.cells.specs.Part.{patch}
-use Rattle.places.proofs.PlaceLaws.{cell_store, place_store}
+use Rattle.places.proofs.PlaceLaws.{place_store}
 use Rattle.rows.specs.Rows.{row_key, row_bytes, Closed}
 use Rattle.rows.proofs.CloseLaws.{closed-few}
 use Rattle.rows.proofs.TableLaws.{TableOf, flat_rows, table-closed}

@@ -1,5 +1,6 @@
 // The lines of the entries in their section: who stands first, where a change stands, a change entered and taken out.
 #![tactic(auto)]
+
 ghost use Rattle.std.specs.Prelude.{◌≡◌, true, List, ◌+◌, ◌*◌, ◌≤◌, ◌<◌, length};
 ghost use Rattle.rules.specs.Sets.{only};
 ghost use Rattle.rules.specs.Window.{LineRecord};
