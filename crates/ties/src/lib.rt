@@ -1,5 +1,6 @@
 // The table of ties in its lent section: each stands once, in rising order of kind, leader, follower.
 #![tactic(auto)]
+
 ghost use Rattle.std.specs.Prelude.{◌≡◌, true, not, List, ◌≤◌, length};
 ghost use Rattle.rules.specs.Base.{rising, exceeds};
 ghost use Rattle.rules.specs.Window.{limits, TieRecord, tie_key};
