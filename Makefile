@@ -6,7 +6,7 @@ CFLAGS = -O2
 
 version = $(shell sed -n 's/^\#define WINDOW_VERSION //p' include/window.h)
 headers = include/window.h include/window_text.h
-sources = crates.txt $(shell find crates -name must-fail -prune -o -print)
+sources = crates.txt $(shell find crates \( -name must-fail -o -name out \) -prune -o -print)
 root = $(DESTDIR)$(PREFIX)
 
 target/libwindow.a: target/staticlib/libwindow.a target/window_text.o
@@ -20,8 +20,9 @@ target/window_text.o: src/window_text.c $(headers)
 
 # A crate's static library.
 target/staticlib/lib%.a: $(sources)
-	rt staticlib $*
-	touch $@
+	cd crates/$* && rt lib
+	mkdir -p target/staticlib
+	cp crates/$*/out/lib$*.a $@
 
 install: target/libwindow.a
 	install -d $(root)/include $(root)/lib/pkgconfig

@@ -4,8 +4,8 @@
 ghost use Rattle.std.specs.Prelude.{◌≡◌, ◌+◌, ◌≤◌, ◌<◌, ◌^◌, length};
 
 use layout::Window;
-use libc::{STDIN_FILENO, STDOUT_FILENO};
 use listing::{KEPT, Stand};
+use std::io::{Read, Stdin, Stdout, Write};
 
 // The most bytes of input that are read at a time: what they print fits the room for output.
 const PIECE: usize = 1024;
@@ -14,10 +14,17 @@ const PIECE: usize = 1024;
 const TURNS: u64 = 1125899906842624;
 
 // Writes what waits; whether to go on.
-fn flush(out: &[u8], used: usize) -> bool
+fn flush(mut output: Stdout, out: &[u8], used: usize) -> bool
     requires { used ≤ length out.now }
 {
-    io::write_all(STDOUT_FILENO, &out[0..used])
+    output.write_all(&out[0..used]).is_ok()
+}
+
+// Reads a piece of the input: how many bytes it put at the start. None at the end, and where the input cannot be read.
+fn read_piece(mut input: Stdin, piece: &mut [u8]) -> usize
+    ensures { result ≤ length piece.new }
+{
+    input.read(piece).unwrap_or(0)
 }
 
 // Where the listing stands after a turn, and whether another one follows.
@@ -29,7 +36,14 @@ struct Progress {
 
 // Reads a piece of the input, feeds it and writes what it printed. No turn follows at the end of the input, after a broken first line
 // and where the output cannot be written.
-fn turn(s: Stand, line: &mut [u8], memory: &mut [u8], out: &mut [u8]) -> Progress
+fn turn(
+    input: Stdin,
+    output: Stdout,
+    s: Stand,
+    line: &mut [u8],
+    memory: &mut [u8],
+    out: &mut [u8],
+) -> Progress
     requires line_len { length line.old ≡ 65 }
     requires held_bound { s.held ≤ 65 }
     requires used_value { s.used ≡ 0 }
@@ -39,18 +53,17 @@ fn turn(s: Stand, line: &mut [u8], memory: &mut [u8], out: &mut [u8]) -> Progres
     ensures used_value_2 { result.stand.used ≡ 0 }
     ensures place_bound_2 { result.stand.place ≤ s.place + 1024 }
 {
-    let mut input = [0u8; PIECE];
-    let got = libc::read(STDIN_FILENO, &mut input);
-    let count = io::count(got, &input);
+    let mut piece = [0u8; PIECE];
+    let count = read_piece(input, &mut piece);
     if count == 0 {
         return Progress {
             stand: s,
             more: false,
         };
     }
-    let fed = listing::feed(s, &input[..count], line, memory, out);
+    let fed = listing::feed(s, &piece[..count], line, memory, out);
     let used = fed.used;
-    let written = flush(out, used);
+    let written = flush(output, out, used);
     Progress {
         stand: Stand {
             held: fed.held,
@@ -63,7 +76,14 @@ fn turn(s: Stand, line: &mut [u8], memory: &mut [u8], out: &mut [u8]) -> Progres
 }
 
 // Turn after turn. A proved loop has to end, and nothing says that the input does: so the turns are counted down from a number that no run uses up.
-fn run(begun: Stand, line: &mut [u8], memory: &mut [u8], out: &mut [u8]) -> Stand
+fn run(
+    input: Stdin,
+    output: Stdout,
+    begun: Stand,
+    line: &mut [u8],
+    memory: &mut [u8],
+    out: &mut [u8],
+) -> Stand
     requires line_len { length line.old ≡ 65 }
     requires held_bound { begun.held ≤ 65 }
     requires used_value { begun.used ≡ 0 }
@@ -77,7 +97,7 @@ fn run(begun: Stand, line: &mut [u8], memory: &mut [u8], out: &mut [u8]) -> Stan
     let mut more = true;
     let mut turns: u64 = TURNS;
     while turns > 0 && more {
-        let p = turn(s, line, memory, out);
+        let p = turn(input, output, s, line, memory, out);
         s = p.stand;
         more = p.more;
         turns -= 1;
@@ -85,14 +105,16 @@ fn run(begun: Stand, line: &mut [u8], memory: &mut [u8], out: &mut [u8]) -> Stan
     s
 }
 
-fn main() {
+fn main(rt: HostRuntime) {
     let mut memory = [0u8; Window::SIZE];
     let mut line = [0u8; KEPT];
-    let mut out = io::large_buffer();
+    let mut out = [0u8; 65536];
     let begun = listing::start(&mut out);
     let used = begun.used;
-    flush(&out, used);
+    flush(rt.stdout(), &out, used);
     let s = run(
+        rt.stdin(),
+        rt.stdout(),
         Stand {
             held: begun.held,
             place: begun.place,
@@ -105,5 +127,5 @@ fn main() {
     );
     let last = listing::finish(s, &line, &mut memory, &mut out);
     let left = last.used;
-    flush(&out, left);
+    flush(rt.stdout(), &out, left);
 }
