@@ -1,5 +1,6 @@
 // An entry with few permits: for each writer one pass over them notes whom they let stand beside it.
 #![tactic(auto)]
+
 ghost use Rattle.std.specs.Prelude.{◌≡◌, ◌≢◌, ◌&&◌, ◌||◌, ℕ, ◌+◌, ◌*◌, ◌≤◌, eqb, length};
 ghost use Rattle.words.specs.Members.{words_have};
 ghost use Rattle.layout.specs.Records.{permit_at};
