@@ -1,5 +1,6 @@
 // Text as bytes.
 #![tactic(auto)]
+
 ghost use Rattle.std.specs.Prelude.{◌≡◌, cond, ◌+◌, ◌≤◌, length, drop};
 ghost use Rattle.rules.specs.Base.{all};
 ghost use Rattle.layout.specs.Memory.{same_bytes};
@@ -12,7 +13,7 @@ pub const NO_NUMBER: u64 = 4294967296;
 pub fn same(a: &[u8], b: &[u8]) -> bool
     ensures { result ≡ same_bytes a.now b.now }
 {
-    check::same(a, b)
+    a == b
 }
 
 // What at most ten digits say, or NO_NUMBER where another byte is among them.
