@@ -1,5 +1,6 @@
 // The table of permits in its lent section: one for each giver, taker and entry, in rising order of entry, giver, taker.
 #![tactic(auto)]
+
 ghost use Rattle.std.specs.Prelude.{◌≡◌, true, not, ◌&&◌, ◌||◌, ℕ, ◌+◌, ◌*◌, ◌≤◌, eqb, length};
 ghost use mathlib.Core.List.{List, map, foldr};
 ghost use Rattle.rules.specs.Base.{rising, exceeds};
