@@ -1,5 +1,6 @@
 // An entry with many permits: those to anybody by sets, and those that name a writer past blocks without its number.
 #![tactic(auto)]
+
 ghost use Rattle.std.specs.Prelude.{◌≡◌, ◌&&◌, ◌||◌, ℕ, ◌+◌, ◌*◌, ◌≤◌, length};
 ghost use Rattle.rules.specs.Base.{any_below};
 ghost use Rattle.layout.specs.Records.{permit_at};
