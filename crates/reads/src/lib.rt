@@ -1,6 +1,7 @@
 // What a sound window holds, read from its bytes. Numbers are as a caller gives them: a change or an entry that there cannot be has
 // status, parent, value and lock 0. The lines are asked of changes and entries that there are.
 #![tactic(auto)]
+
 ghost use Rattle.std.specs.Prelude.{◌≡◌, true, false, ◌≤◌, length};
 ghost use Rattle.rules.specs.Base.{outside as isOutside};
 ghost use Rattle.rules.specs.Window.{no_change, no_entry, live, running};

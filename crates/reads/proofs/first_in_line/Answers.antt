@@ -1,0 +1,11 @@
+-- `reads::first_in_line` meets its contract. Assumes nothing.
+use mathlib.Core.Path.{sym}
+use Rattle.layout.proofs.MemoryLaws.{bytes-sound, line_known}
+use Rattle.reads.proofs.ReadLaws.{entry_fits_lem}
+use Rattle.reads.proofs.first_in_line.Goals as goal
+
+pub returns : goal.returns
+returns c = let s = c in let w = s.args.w.now in c.first.ensures _ (sym c.waiters-count.ensures.value) (line_known w s.requires.w_value)
+
+pub overflow_cast-e : goal.overflow_cast-e
+overflow_cast-e c = record { fits = entry_fits_lem _ (bytes-sound c.args.w.now c.requires.w_value) c.args.e c.requires.e_value }
