@@ -1,5 +1,6 @@
 // Whether a section of lent bytes is that of a sound window: a function for each, but for the line, permits and ties.
 #![tactic(auto)]
+
 ghost use Rattle.std.specs.Prelude.{◌≡◌, true, ◌↔◌, ℕ, ◌+◌, ◌*◌, ◌≤◌, ◌<◌, length};
 ghost use Rattle.rules.specs.Base.{all_below};
 ghost use Rattle.rules.specs.Sets.{Set};
