@@ -1,5 +1,6 @@
 // What a call that changes a change does when it is not refused, and a place in line that is left, on the bytes of a sound window. The number of a change that is not refused fits a byte.
 #![tactic(auto)]
+
 ghost use Rattle.std.specs.Prelude.{◌≡◌, true, false, length};
 ghost use Rattle.rules.specs.Base.{put};
 ghost use Rattle.rules.specs.Window.{limits, with_status, no_change};
