@@ -17,6 +17,12 @@ pub mod LineOrder
 -- least closed sets and acyclic ties, by paths
 pub mod PathLaws
 pub mod SourceLaws
+-- orders of a set: the listed ones, how many, the lowest first, and by which bounds and relations they are the same
+pub mod OrderLaws
+pub mod OrderLists
+pub mod RankLaws
+pub mod WaysLaws
+pub mod AgreeLaws
 -- a call turned back changes nothing, a blocked one its place in line at most; figures for any table size
 pub mod RuleLaws
 pub mod SizeLaws
@@ -46,6 +52,9 @@ pub mod RefusalWords
 -- demand 2 in words of the window: the second numbers, and what a delegate moves
 pub mod Numbers
 pub mod DelegateLaws
+-- a sheet of commit order, which no call gives yet: its places, and the number of orders
+pub mod SheetLaws
+pub mod SheetOrders
 -- demand 3 of the rules (Demand.rules_kept); DemandAlike carries it to whatever answers alike
 pub mod DemandMoves
 pub mod DemandEnds

@@ -8,6 +8,9 @@ pub mod Locks
 pub mod Ties
 pub mod Line
 pub mod Sound
+-- orders of a set under a relation; a sheet of commit order, which no call gives yet
+pub mod Orders
+pub mod Sheet
 -- "The calls"
 pub mod Calls
 pub mod Effects

@@ -9,7 +9,7 @@ use lib.Dec.{eqb}
 use Rattle.rules.specs.Base.{any_below, count_below}
 use Rattle.rules.specs.Sets.{Set, Rel}
 use Rattle.rules.specs.Orders.{sum_below, without, free, ways}
-use Rattle.rules.proofs.BaseLaws.{same, over, below, eqb_iff}
+use Rattle.rules.proofs.BaseLaws.{eqb_iff}
 use Rattle.rules.proofs.BoundLaws.{any_ext}
 use Rattle.rules.proofs.OrderLaws.{free_in, rest_count}
 use Rattle.rules.proofs.OrderLists.{sum_ext}
@@ -31,7 +31,7 @@ module _ (n : ℕ) (r : Rel) where
   ways_ext zero s t e = refl
   ways_ext (suc k) s t e = sum_ext n _ _ (λ g h. rw (free_ext s t e g h, ways_ext k (without s g) (without t g) (λ d l. rw (e d l))))
 
-  -- "a window with none live has one"
+  -- 'a window with none live has one'
   pub ways-none : (s : Set) → count_below n s ≡ 0 → ways n r (count_below n s) s ≡ 1
   unfolding ways
   ways-none s e = rw e

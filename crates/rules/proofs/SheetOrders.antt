@@ -1,4 +1,4 @@
--- "the exact number of orders of the groups in which each stands after all its leader groups". Assumes nothing.
+-- 'the exact number of orders of the groups in which each stands after all its leader groups'. Assumes nothing.
 use mathlib.Core.Path.{◌≡◌, refl, ◌∙◌}
 use mathlib.Core.Bool.{Bool, true}
 use mathlib.Core.List.{Memᴰ}
@@ -27,7 +27,7 @@ module _ (W : Window) where
   unfolding order_count group_orders
   orders-ways = ways-orders (suc W.given) (leads_group W) (group_total W) (is_lowest W)
 
-  -- "a window with none live has one"
+  -- 'a window with none live has one'
   pub orders-none : ((c : ℕ) → live W c ≡ true → ⊥) → order_count W ≡ 1
   unfolding group_total is_lowest
   orders-none f = orders-ways ∙ ways-none (suc W.given) (leads_group W) (is_lowest W) none

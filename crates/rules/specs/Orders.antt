@@ -1,5 +1,5 @@
 -- The orders of a set of numbers in which each stands after all that lead it (the linear extensions of a relation), how many there are, and the one that takes the lowest first.
--- "The sheet of commit order" takes groups for numbers. Assumes nothing.
+-- A sheet of commit order takes groups for numbers. Assumes nothing.
 use Rattle.std.specs.Prelude.{◌≡◌, true, not, cond, ◌&&◌, List, [], ◌∷◌, ◌++◌, map, ℕ, zero, suc, ◌+◌, ◌<◌, ltb, eqb}
 use Rattle.rules.specs.Base.{any_below, lowest_below}
 use Rattle.rules.specs.Sets.{Set, Rel}
@@ -30,12 +30,12 @@ without s g d = s d && not (eqb d g)
 
 -- of a set of numbers below n, where r a b says that a leads b
 module _ (n : ℕ) (r : Rel) where
-  -- an order: each member stands once and nothing else does, "each stands after all its leader groups"
+  -- an order: each member stands once and nothing else does, 'each stands after all its leader groups'
   pub record Order (s : Set) (l : List ℕ) : Type 0 where
     pub once : (g : ℕ) → occurs g l ≡ cond (ltb g n && s g) 1 0
     pub after : (h g : ℕ) → h < n → g < n → s h ≡ true → s g ≡ true → r h g ≡ true → place_in l h < place_in l g
 
-  -- the members that no member leads: with the others of the set placed already, those "whose leader groups are all placed"
+  -- the members that no member leads: with the others of the set placed already, those 'whose leader groups are all placed'
   unfoldable pub free : Set → Set
   free s g = s g && not (any_below n (λ h. s h && r h g))
 
@@ -51,7 +51,7 @@ module _ (n : ℕ) (r : Rel) where
   ways zero s = 1
   ways (suc k) s = sum_below n (λ g. cond (free s g) (ways k (without s g)) 0)
 
-  -- "Among the groups whose leader groups are all placed, the one with the lowest change number comes next": k times over, where s are those not placed yet
+  -- 'Among the groups whose leader groups are all placed, the one with the lowest change number comes next': k times over, where s are those not placed yet
   unfoldable pub lowest_first : ℕ → Set → List ℕ
   lowest_first zero s = []
   lowest_first (suc k) s = lowest_below n (free s) ∷ lowest_first k (without s (lowest_below n (free s)))

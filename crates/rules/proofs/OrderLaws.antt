@@ -11,7 +11,7 @@ use lib.ListN.{length, get_or}
 use borrow.Author.Tests.{not-true, eqb-false, lt-ltb, ltb-true, ne_eqb}
 use Rattle.rules.specs.Base.{any_below, count_below, lowest_below}
 use Rattle.rules.specs.Sets.{Set, Rel}
-use Rattle.rules.specs.Orders.{occurs, place_in, without, Order, free, orders, lowest_first}
+use Rattle.rules.specs.Orders.{occurs, place_in, without, Order, free, lowest_first}
 use Rattle.rules.proofs.BaseLaws.{and_both, and_left, and_right, eqb_same, Same, same, other, same?, Below, under, over, below, any_intro, any_elim, none_below, Within}
 use Rattle.rules.proofs.BoundLaws.{count_ext, count_none, count-some, lowest_hit, lowest_below_lem}
 

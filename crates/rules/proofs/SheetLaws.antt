@@ -22,7 +22,7 @@ use Rattle.rules.proofs.SoundStep.{group_live}
 use Rattle.rules.proofs.SourceLaws.{source}
 use Rattle.rules.proofs.TieLaws.{tied-ends, grouped_both, group_seed, stands_tied}
 
--- what a sheet's places are: "Places count from 1; members of a group share one. Among the groups whose leader groups are all placed, the one with the lowest change number comes next"
+-- what a sheet's places are: 'Places count from 1; members of a group share one. Among the groups whose leader groups are all placed, the one with the lowest change number comes next'
 pub record Placed (W : Window) : Type 0 where
   pub range : (c : ℕ) → live W c ≡ true → (1 ≤ place_of W c) × (place_of W c ≤ group_total W)
   pub shared : (c d : ℕ) → live W c ≡ true → group_of W c d ≡ true → place_of W d ≡ place_of W c
