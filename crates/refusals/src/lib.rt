@@ -1,5 +1,6 @@
 // The number of the first refusal of a call that names one change or one entry, in checking order, and 0 where none applies: read from a sound window's bytes.
 #![tactic(auto)]
+
 ghost use Rattle.std.specs.Prelude.{◌≡◌, true, not, [], ◌∷◌, ℕ, eqb, length, take};
 ghost use Rattle.rules.specs.Window.{limits, no_change};
 ghost use Rattle.rules.specs.Calls.{Initiate, Begin, Complete, Lock, Read, Write, Value};
