@@ -1,5 +1,6 @@
 // Whether the lent sections of permits and of ties are those of a sound window: rows in rising order, each a sound record.
 #![tactic(auto)]
+
 ghost use Rattle.std.specs.Prelude.{◌≡◌, true, ◌&&◌, ◌↔◌, ◌+◌, ◌*◌, ◌≤◌, eqb, length, get_or};
 ghost use Rattle.rules.specs.Base.{all_below};
 ghost use Rattle.rules.specs.Locks.{make_permit};
