@@ -2,19 +2,18 @@
 use mathlib.Core.Path.{◌≡◌, refl, sym, ◌∙◌, ap}
 use mathlib.Core.Logic.{◌↔◌, ◌≢◌}
 use mathlib.Core.Bool.{Bool, true, false, not, ◌||◌, or_comm}
-use mathlib.Core.List.{List, [], ◌∷◌}
+use mathlib.Core.List.{List}
 use Prim.Native.Nat.{ℕ, zero, suc, ◌+◌, ◌*◌, ◌≤◌, ◌<◌}
-use native.Mathlib.Nat.{not-suc-le-zero, le_of_suc-le-suc}
 use native.Mathlib.Numerals.{add-one}
 use native.Mathlib.Omega.{arith}
 use lib.Dec.{eqb}
 use lib.ListN.{get_or, length, replicate}
-use borrow.Author.Tests.{eqb-true, eqb-false, ne_eqb, not-true, not-false}
-use Rattle.rules.specs.Base.{all_below, any_below, all, table}
+use borrow.Author.Tests.{eqb-true, eqb-false, not-true, not-false}
+use Rattle.rules.specs.Base.{all_below, any_below, table}
 use Rattle.rules.specs.Window.{LineRecord}
 use Rattle.rules.specs.Sound.{waiter_sound}
 use Rattle.rules.proofs.BaseLaws.{and_both, and_left, and_right, all_below_at, all_below_intro, any_below_none, none_below}
-use Rattle.rules.proofs.ListLaws.{all_at, all_places, all-table}
+use Rattle.rules.proofs.ListLaws.{all_at, all-table}
 use Rattle.rules.proofs.LineLaws.{waiter_on, distinct_places, distinct_apart}
 use Rattle.rules.proofs.TurnLaws.{none_yet, turn_failed, turn_passed}
 use Rattle.layout.specs.Codec.{no_waiter, waiter_bytes, line_byte, line_section, change_section}

@@ -1,5 +1,6 @@
 // Whether the lent section of the line is that of a sound window: each who stands in it runs, and stands once.
 #![tactic(auto)]
+
 ghost use Rattle.std.specs.Prelude.{◌≡◌, true, false, not, ◌||◌, ◌↔◌, ℕ, ◌+◌, ◌*◌, ◌≤◌, eqb, length};
 ghost use Rattle.rules.specs.Base.{all_below};
 ghost use Rattle.layout.specs.Codec.{changes_size, line_size, change_section};
