@@ -1,5 +1,6 @@
 // What a lock does when it is not refused, on the bytes of a sound window: it is covered, granted, or blocked and put in line. The numbers of a lock that is not refused fit a byte.
 #![tactic(auto)]
+
 ghost use Rattle.std.specs.Prelude.{◌≡◌, true, length};
 ghost use Rattle.rules.specs.Window.{limits};
 ghost use Rattle.rules.specs.Calls.{Lock};
