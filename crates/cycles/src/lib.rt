@@ -1,5 +1,6 @@
 // Whether the arrows between groups of changes close a cycle (a topological sort of the groups).
 #![tactic(auto)]
+
 ghost use Rattle.std.specs.Prelude.{◌≡◌, true, not, ◌&&◌, List, map, ℕ, ◌*◌, ◌-◌, ◌≤◌, ◌<◌, eqb, length, get_or, set};
 ghost use Rattle.rules.specs.Base.{any_below, lowest_below};
 ghost use Rattle.rules.specs.Window.{TieRecord};
