@@ -1,5 +1,6 @@
 // What becomes of a window when a set of changes ends: all that they have in the tables is gone; and, for an abort, their log records are withdrawn.
 #![tactic(auto)]
+
 ghost use Rattle.std.specs.Prelude.{◌≡◌, true, ◌≤◌, length};
 ghost use Rattle.rules.specs.Sets.{put_all};
 ghost use Rattle.rules.specs.Window.{Window, with_status, with_held, with_log, with_permits, with_ties, with_line};
