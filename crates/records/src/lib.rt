@@ -1,5 +1,6 @@
 // What a call that enters a record in a table does when it is not refused, on the bytes of a sound window. The numbers of changes and entries, operations and kinds that are not refused fit a byte.
 #![tactic(auto)]
+
 ghost use Rattle.std.specs.Prelude.{◌≡◌, true, false, ◌≤◌, ◌<◌, length};
 ghost use Rattle.rules.specs.Base.{exceeds};
 ghost use Rattle.rules.specs.Window.{limits, with_log, with_permits, with_ties};
