@@ -1,6 +1,7 @@
 // Whether each clashing pair of locks has a permit, in the lent sections of locks and of permits.
 // A clashing pair has a writer in it: each writer of an entry is held against the entry's other holders.
 #![tactic(auto)]
+
 ghost use Rattle.std.specs.Prelude.{◌≡◌, ℕ, ◌+◌, ◌-◌, ◌*◌, ◌≤◌, length};
 ghost use Rattle.rules.specs.Base.{any_below};
 ghost use Rattle.rules.specs.Window.{Window};
