@@ -1,5 +1,6 @@
 // The number of the first refusal of a call that names two changes, in checking order, and 0 where none applies: read from a sound window's bytes.
 #![tactic(auto)]
+
 ghost use Rattle.std.specs.Prelude.{◌≡◌, true, false, not, ℕ, suc, ◌≤◌, ◌<◌, length, take};
 ghost use Rattle.rules.specs.Base.{exceeds, outside as isOutside};
 ghost use Rattle.rules.specs.Window.{limits};
