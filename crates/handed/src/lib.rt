@@ -1,5 +1,6 @@
 // Locks and permits handed over in a copy of the two tables, judged there, and taken over by the window with the log.
 #![tactic(auto)]
+
 ghost use Rattle.std.specs.Prelude.{◌≡◌, true, ℕ, ◌≤◌, length, take, drop};
 ghost use Rattle.rules.specs.Window.{Window};
 ghost use Rattle.rules.specs.Locks.{clashes_permitted};
