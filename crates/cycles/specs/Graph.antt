@@ -1,5 +1,5 @@
 -- Arrows between groups (a directed graph): labels of groups, arrows by place, and what comes to a label. Assumes nothing.
-use Rattle.std.specs.Prelude.{Bool, not, cond, ◌&&◌, ◌||◌, List, map, ℕ, zero, suc, eqb, get_or}
+use Rattle.std.specs.Prelude.{◌≡◌, Bool, true, not, cond, ◌&&◌, ◌||◌, List, map, ℕ, zero, suc, ◌<◌, eqb, get_or}
 use Rattle.rules.specs.Base.{all_below, any_below, count_below, table}
 use Rattle.rules.specs.Sets.{Set, Rel, only, reach}
 use Rattle.rules.specs.Window.{TieRecord}
@@ -51,6 +51,11 @@ edge G m a b = any_below m (λ j. G.arrow j && eqb (G.from j) a && eqb (G.to j) 
 -- none of the first m arrows ends where they lead back to its beginning
 unfoldable pub no_cycle : Graph → ℕ → Bool
 no_cycle G m = all_below m (λ j. not (G.arrow j) || not (reach 256 (edge G m) (G.to j) (G.from j)))
+
+-- each of the first m arrows goes from a member of a set to a member
+pub record Between (G : Graph) (m : ℕ) (s : Set) : Type 0 where
+  pub leads : (j : ℕ) → j < m → G.arrow j ≡ true → s (G.from j) ≡ true
+  pub follows : (j : ℕ) → j < m → G.arrow j ≡ true → s (G.to j) ≡ true
 
 -- WHAT COMES TO A LABEL, AND WHAT GOES FROM IT
 -- how many of the first m arrows come to k from a set (its in-degree)
