@@ -1,5 +1,6 @@
 // Whether sections of lent bytes taken together are those of a sound window: values, line and locks; permits, ties and log; arrows and clashing pairs.
 #![tactic(auto)]
+
 ghost use Rattle.std.specs.Prelude.{◌≡◌, true, ◌&&◌, ◌↔◌, ℕ, suc, ◌≤◌, length};
 ghost use Rattle.rules.specs.Window.{Window};
 ghost use Rattle.rules.specs.Locks.{clashes_permitted};
