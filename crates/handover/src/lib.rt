@@ -1,5 +1,6 @@
 // The call delegate on a window's bytes: log ownership, locks and given permits go from one change to another.
 #![tactic(auto)]
+
 ghost use Rattle.std.specs.Prelude.{◌≡◌, true, cond, length};
 ghost use Rattle.rules.specs.Window.{limits, live};
 ghost use Rattle.rules.specs.Locks.{clashes_permitted};
