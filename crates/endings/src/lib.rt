@@ -1,5 +1,6 @@
 // Commit and abort on the bytes of a sound window, when the call is not refused.
 #![tactic(auto)]
+
 ghost use Rattle.std.specs.Prelude.{◌≡◌, true, ℕ, length};
 ghost use Rattle.rules.specs.Window.{limits};
 ghost use Rattle.rules.specs.Calls.{Commit, Abort};
