@@ -1,5 +1,6 @@
 // Whether lent bytes are a sound window.
 #![tactic(auto)]
+
 ghost use Rattle.std.specs.Prelude.{◌≡◌, length};
 ghost use Rattle.layout.specs.Codec.{head_at, head_size, window_size};
 ghost use Rattle.layout.specs.Memory.{sound_bytes, sound_memory};
