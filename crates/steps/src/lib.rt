@@ -1,5 +1,6 @@
 // Each call but open and delegate on a sound window's bytes: the first refusal that applies, or what the call does.
 #![tactic(auto)]
+
 ghost use Rattle.std.specs.Prelude.{◌≡◌, true, length};
 ghost use Rattle.rules.specs.Window.{limits};
 ghost use Rattle.rules.specs.Calls.{Initiate, Begin, Complete, Lock, Read, Write, Permit, Depend, Commit, Abort, Status, Parent, Value};
