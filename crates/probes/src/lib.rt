@@ -1,5 +1,6 @@
 // The soundness check of the inner crates, exported for the Rust tests and the benchmark.
 #![tactic(auto)]
+
 ghost use Rattle.std.specs.Prelude.{◌≡◌};
 ghost use Rattle.layout.specs.Memory.{sound_memory};
 
