@@ -26,7 +26,7 @@ bounds-known-0 c = omega (arith, c.requires)
 pub loop-left-init : goal.loop-left-init
 loop-left-init c = let s = c in
     let long : length s.args.known.now ≡ 4096 = s.requires.0 in
-    (length-set s.args.known.now 0 1 ∙ long, omega arith, pow_pos s.args.n, counted-first (leads s.args.masks.now) s.args.known.now (omega arith))
+    (length-set s.args.known.now 0 _ ∙ long, omega arith, pow_pos s.args.n, counted-first (leads s.args.masks.now) s.args.known.now (omega arith))
 
 pub bounds-blocked-left : goal.bounds-blocked-left
 bounds-blocked-left c = omega (arith, in_sets c.args.n c.loop-left.left c.requires.3 c.loop-left-test.true, c.block_sets.auto.blocked, c.requires.1)
