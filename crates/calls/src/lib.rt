@@ -1,6 +1,7 @@
 // The fifteen calls on lent memory. Each contract says: answer, second number and every byte afterwards are those of `perform`.
 // Read, status, parent and value take the memory only to read: every byte afterwards is the one at entry.
 #![tactic(auto)]
+
 ghost use Rattle.std.specs.Prelude.{◌≡◌, length};
 ghost use Rattle.rules.specs.Window.{fresh};
 ghost use Rattle.rules.specs.Calls.{Open, Initiate, Begin, Complete, Lock, Read, Write, Permit, Delegate, Depend, Commit, Abort, Status, Parent, Value};
