@@ -17,3 +17,6 @@ memory_short mem h = rw (lt-leb window_size (length mem) h)
 pub memory-long : (mem : List ℕ) → window_size ≤ length mem → sound_bytes (take window_size mem) ≡ sound_memory mem
 unfolding sound_memory long
 memory-long mem h = rw (le-leb window_size (length mem) h)
+
+-- both, for tactics
+pub ruleset memory_laws = (memory_short, memory-long)

@@ -62,6 +62,7 @@ fn sound(w: &[u8]) -> bool
 }
 
 // Whether lent memory begins with a sound window.
+#[tactic(auto, using(crate::proofs::MemoryLaws::memory_laws))]
 pub fn sound_memory(memory: &[u8]) -> bool
     ensures { result ≡ sound_memory memory.now }
 {

@@ -1,6 +1,6 @@
 -- `soundness::sound` meets its contract. Assumes nothing.
-use mathlib.Core.Path.{sym, ◌∙◌}
-use mathlib.Core.Bool.{false≢true}
+use mathlib.Core.Path.{◌≡◌, sym, ◌∙◌}
+use mathlib.Core.Bool.{true, false≢true}
 use native.Mathlib.Omega.{arith}
 use Rattle.rules.proofs.TurnLaws.{fails, passes}
 use Rattle.rules.proofs.BaseLaws.{no_true, both_ways}
@@ -10,8 +10,20 @@ use Rattle.cells.proofs.PartLaws.{length_part}
 use Rattle.sets.specs.Members.{members}
 use Rattle.soundness.proofs.Assembly.{head_known}
 use Rattle.soundness.proofs.CheckLaws.{changes_asked, front_asked, back_asked, related_asked, passed}
-use borrow.Author.Tests.{not-true, not-false}
+use borrow.Author.Rules.{rules}
+use borrow.Author.Tests.{not-true}
 use Rattle.soundness.proofs.sound.Goals as goal
+
+pub returns : goal.returns
+unfolding part
+returns c = let h = passes c.header.ensures c.if-not-header.false-raw in
+    let a = c.read_figures-f.ensures h in
+    let t = passes c.changes.ensures c.if-not-changes.false-raw in
+    let v : c.front.result ≡ true = search rules in
+    let e : c.back.result ≡ true = search rules in
+    both_ways _ _
+    (passed c.args.w.now c.requires h _ a (members c.live_set-live.result) c.live_set-live.ensures t _ c.front.ensures v _ c.back.ensures e _ c.related.ensures)
+    (λ s. related_asked c.args.w.now c.read_figures-f.result c.read_figures-f.ensures s _ c.related.ensures)
 
 pub returns-then-not-header : goal.returns-then-not-header
 unfolding part
@@ -54,14 +66,3 @@ pub related-requires : goal.related-requires
 unfolding part
 related-requires c = let h = passes c.header.ensures c.if-not-header.false-raw in
     let a = c.read_figures-f.ensures h in record { w_len = c.requires; entries_bound = (omega (arith, a.entries, h.entries_most), omega (arith, a.permits, h.permits_most), omega (arith, a.ties, h.ties_most)) }
-
-pub returns : goal.returns
-unfolding part
-returns c = let h = passes c.header.ensures c.if-not-header.false-raw in
-    let a = c.read_figures-f.ensures h in
-    let t = passes c.changes.ensures c.if-not-changes.false-raw in
-    let v = not-false _ c.if-not-front.false-raw in
-    let e = not-false _ c.if-not-back.false-raw in
-    both_ways _ _
-    (passed c.args.w.now c.requires h _ a (members c.live_set-live.result) c.live_set-live.ensures t _ c.front.ensures v _ c.back.ensures e _ c.related.ensures)
-    (λ s. related_asked c.args.w.now c.read_figures-f.result c.read_figures-f.ensures s _ c.related.ensures)
