@@ -84,7 +84,8 @@ fn join(labels: &mut [u8], kind: u8, leader: u8, follower: u8)
     requires { length labels.old ≡ 256 }
     ensures { labels.new ≡ joined (tie_of kind leader follower) labels.old }
 {
-    if kind == 3 {
+    let group: u8 = 3;
+    if kind == group {
         let new = labels[leader as usize];
         let old = labels[follower as usize];
         if new != old {
@@ -150,7 +151,8 @@ fn link_tie(
     ensures ends { Ends leaders.new blocked.new }
     ensures blocked_after { lists_of heads.new next.new incoming.new leaders.new blocked.new ≡ with_tie (is_arrow kind) j (get_or labels.now leader 0) (get_or labels.now follower 0) (lists_of heads.old next.old incoming.old leaders.old blocked.old) }
 {
-    if is_arrow(kind) {
+    let linked = is_arrow(kind);
+    if linked {
         let from = labels[leader as usize];
         let to = labels[follower as usize];
         link_arrow(heads, next, incoming, leaders, blocked, j, from, to);
@@ -201,7 +203,8 @@ fn remove_arrow(incoming: &mut [u16], blocked: &mut [u64; 4], k: u8)
     let a = k as usize;
     let n = incoming[a] - 1;
     incoming[a] = n;
-    if n == 0 {
+    let none: u16 = 0;
+    if n == none {
         remove(blocked, k);
     }
 }
@@ -266,7 +269,8 @@ fn eliminate(
     );
     loop {
         let v = lowest_source(left, blocked);
-        if v > 255 {
+        let last: u32 = 255;
+        if v > last {
             return ChangeSet { words: left }.is_empty();
         }
         remove(&mut left, v as u8);

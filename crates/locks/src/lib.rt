@@ -51,7 +51,8 @@ pub fn mode(locks: &[u8], entry: u8, change: u8) -> u8
 pub fn clashing(locks: &[u8], entry: u8, mode: u8) -> ChangeSet
     ensures { (held : ℕ → ℕ → ℕ) → Modes held → 0 < mode → locks.now ≡ lock_section held → (k : ℕ) → members result k ≡ clashes_with mode (held entry) k }
 {
-    if mode == 2 {
+    let write: u8 = 2;
+    if mode == write {
         holders(locks, entry)
     } else {
         writers(locks, entry)
@@ -165,7 +166,8 @@ pub fn release(locks: &mut [u8], entries: usize, ended: ChangeSet)
     requires { entries ≤ 256 }
     ensures { (held : ℕ → ℕ → ℕ) → NoneFrom entries held → locks.old ≡ lock_section held → locks.new ≡ lock_section (released (members ended) held) }
 {
-    if locks.len() < Locks::SIZE {
+    let short = locks.len() < Locks::SIZE;
+    if short {
         return;
     }
     let mut bytes = [0u8; Locks::SET];

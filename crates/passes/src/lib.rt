@@ -33,7 +33,8 @@ fn pull(words: &mut [u64; 4], low: u8, kind: u8, leader: u8, follower: u8)
         }
         return;
     }
-    if kind == 3 {
+    let group: u8 = 3;
+    if kind == group {
         if among(words, follower) {
             insert(words, leader);
         }
@@ -82,7 +83,8 @@ fn note_tie(rows: &mut [u64], low: u8, kind: u8, leader: u8, follower: u8)
         if kind <= 3 {
             note(rows, leader, follower);
             // A group tie.
-            if kind > 2 {
+            let fall: u8 = 2;
+            if kind > fall {
                 note(rows, follower, leader);
             }
         }

@@ -22,9 +22,9 @@ loop-blocked-init c = let e = c.link_ties in
     let r : Room e.new.heads e.new.next e.new.incoming = room c.requires e.auto.heads e.auto.next e.auto.incoming in
     (r.counts, e.ensures.ends, eliminating_none _ _ (lists_of e.new.heads e.new.next e.new.incoming e.new.leaders e.new.blocked) e.ensures.linked)
 
-pub returns-then-v-gt255 : goal.returns-then-v-gt255
+pub returns-then-v-last : goal.returns-then-v-last
 unfolding members
-returns-then-v-gt255 c = let a = c.args in
+returns-then-v-last c = let a = c.args in
     let l = c.loop-blocked in
     let f = c.lowest_source-v in
     let small : (i : ℕ) → get_or a.labels.now i 0 < 256 = λ i. omega (arith, c.type_inv.labels i) in
@@ -73,11 +73,11 @@ loop-blocked-preserved c = let t = c in
           (lists_of e.new.heads e.new.next e.new.incoming e.new.leaders e.new.blocked) e.ensures.linked r.new.incoming (words_have r.new.blocked) r.ensures.removed,
     )
 
-pub shape_of-heads-then-v-gt255 : goal.shape_of-heads-then-v-gt255
-shape_of-heads-then-v-gt255 c = c.link_ties.auto.heads
+pub shape_of-heads-then-v-last : goal.shape_of-heads-then-v-last
+shape_of-heads-then-v-last c = c.link_ties.auto.heads
 
-pub shape_of-next-then-v-gt255 : goal.shape_of-next-then-v-gt255
-shape_of-next-then-v-gt255 c = c.link_ties.auto.next
+pub shape_of-next-then-v-last : goal.shape_of-next-then-v-last
+shape_of-next-then-v-last c = c.link_ties.auto.next
 
-pub shape_of-incoming-then-v-gt255 : goal.shape_of-incoming-then-v-gt255
-shape_of-incoming-then-v-gt255 c = let b : Room c.args.heads.now c.args.next.now c.args.incoming.now = blank_room _ _ _ _ _ _ c.requires in c.loop-blocked.invariant.0 ∙ sym b.counts
+pub shape_of-incoming-then-v-last : goal.shape_of-incoming-then-v-last
+shape_of-incoming-then-v-last c = let b : Room c.args.heads.now c.args.next.now c.args.incoming.now = blank_room _ _ _ _ _ _ c.requires in c.loop-blocked.invariant.0 ∙ sym b.counts

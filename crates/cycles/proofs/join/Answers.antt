@@ -4,12 +4,12 @@ use Rattle.cycles.proofs.join.Goals as goal
 
 pub returns-then-new-old : goal.returns-then-new-old
 returns-then-new-old c = let a = c.args in
-    joined_new a.kind a.leader a.follower a.labels.now c.relabel.new.labels c.if-kind-eq3.true c.relabel.ensures
+    joined_new a.kind a.leader a.follower a.labels.now c.relabel.new.labels c.if-kind-group.true c.relabel.ensures
 
 pub returns-else-new-old : goal.returns-else-new-old
 returns-else-new-old c = let a = c.args in
-    joined_same a.kind a.leader a.follower a.labels.now c.if-kind-eq3.true c.if-new-old.false
+    joined_same a.kind a.leader a.follower a.labels.now c.if-kind-group.true c.if-new-old.false
 
-pub returns-else-kind-eq3 : goal.returns-else-kind-eq3
-returns-else-kind-eq3 c = let a = c.args in
-    joined_none a.kind a.leader a.follower a.labels.now c.if-kind-eq3.false
+pub returns-else-kind-group : goal.returns-else-kind-group
+returns-else-kind-group c = let a = c.args in
+    joined_none a.kind a.leader a.follower a.labels.now c.if-kind-group.false

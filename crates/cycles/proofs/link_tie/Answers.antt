@@ -7,14 +7,14 @@ use Rattle.cycles.proofs.link_tie.Goals as goal
 pub link_arrow-requires : goal.link_arrow-requires
 link_arrow-requires c = let p = c.requires in (p.1, p.2, p.3, p.4 _)
 
-pub returns-then-is_arrow : goal.returns-then-is_arrow
-returns-then-is_arrow c = let i = c in
+pub returns-then-linked : goal.returns-then-linked
+returns-then-linked c = let i = c in
     let a = i.args in
     let e = c.link_arrow in record {
       ends = e.ensures.ends;
       blocked_after = tie_linked _ (is_arrow a.kind) _ _ _ (lists_of a.heads.now a.next.now a.incoming.now a.leaders.now a.blocked.now)
-          (lists_of e.new.heads e.new.next e.new.incoming e.new.leaders e.new.blocked) i.if-is_arrow.true i.is_arrow.ensures e.ensures.blocked_after;
+          (lists_of e.new.heads e.new.next e.new.incoming e.new.leaders e.new.blocked) i.if-linked.true i.is_arrow-linked.ensures e.ensures.blocked_after;
     }
 
-pub returns-else-is_arrow : goal.returns-else-is_arrow
-returns-else-is_arrow c = record { ends = c.requires.2; blocked_after = tie_passed _ (is_arrow c.args.kind) _ _ _ _ c.if-is_arrow.false c.is_arrow.ensures }
+pub returns-else-linked : goal.returns-else-linked
+returns-else-linked c = record { ends = c.requires.2; blocked_after = tie_passed _ (is_arrow c.args.kind) _ _ _ _ c.if-linked.false c.is_arrow-linked.ensures }

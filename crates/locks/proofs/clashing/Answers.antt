@@ -4,10 +4,10 @@ use Rattle.locks.specs.Held.{Modes}
 use Rattle.locks.proofs.RowLaws.{row-clashing_write, row-clashing_other}
 use Rattle.locks.proofs.clashing.Goals as goal
 
-pub returns-then-mode-eq2 : goal.returns-then-mode-eq2
+pub returns-then-mode-write : goal.returns-then-mode-write
 unfolding Modes
-returns-then-mode-eq2 c held modes p e k = c.holders.ensures held modes e k ∙ rw c.if-mode-eq2.true (row-clashing_write (held c.args.entry) (modes c.args.entry) k)
+returns-then-mode-write c held modes p e k = c.holders.ensures held modes e k ∙ rw c.if-mode-write.true (row-clashing_write (held c.args.entry) (modes c.args.entry) k)
 
-pub returns-else-mode-eq2 : goal.returns-else-mode-eq2
+pub returns-else-mode-write : goal.returns-else-mode-write
 unfolding Modes
-returns-else-mode-eq2 c held modes p e k = c.writers.ensures held e k ∙ row-clashing_other (held c.args.entry) (modes c.args.entry) c.args.mode p c.if-mode-eq2.false k
+returns-else-mode-write c held modes p e k = c.writers.ensures held e k ∙ row-clashing_other (held c.args.entry) (modes c.args.entry) c.args.mode p c.if-mode-write.false k

@@ -17,8 +17,8 @@ use Rattle.locks.proofs.release.Goals as goal
 abbrev Any : (ℕ → ℕ → ℕ) → Type 0
 Any held = Unit
 
-pub returns-then-locks-lt-SIZE : goal.returns-then-locks-lt-SIZE
-returns-then-locks-lt-SIZE c held none e = absurd (omega (arith, ap length e, length-locks held))
+pub returns-then-short : goal.returns-then-short
+returns-then-short c held none e = absurd (omega (arith, ap length e, length-locks held))
 
 pub loop-entry-init : goal.loop-entry-init
 loop-entry-init c = let a = c.args in

@@ -9,14 +9,14 @@ use Rattle.passes.proofs.PassLaws.{follows_of, follows_low, follows_high}
 use Rattle.passes.proofs.NoteLaws.{along_both, along_one, along_none}
 use Rattle.passes.proofs.note_tie.Goals as goal
 
-pub returns-then-kind-gt2 : goal.returns-then-kind-gt2
-returns-then-kind-gt2 c x y = let a = c.args in
+pub returns-then-kind-fall : goal.returns-then-kind-fall
+returns-then-kind-fall c x y = let a = c.args in
     let n = c.note in
-    let m = c.note-then-kind-gt2 in
+    let m = c.note-then-kind-fall in
     m.ensures x y ∙ rw (n.ensures x y) (along_both a.low (tie_of a.kind a.leader a.follower) x y (row_has a.rows.now x y) (follows_of a.low a.kind (omega arith) (omega arith)) (group_is a.kind (omega arith)))
 
-pub returns-else-kind-gt2 : goal.returns-else-kind-gt2
-returns-else-kind-gt2 c x y = let a = c.args in
+pub returns-else-kind-fall : goal.returns-else-kind-fall
+returns-else-kind-fall c x y = let a = c.args in
     let n = c.note in
     n.ensures x y ∙ along_one a.low (tie_of a.kind a.leader a.follower) x y (row_has a.rows.now x y) (follows_of a.low a.kind (omega arith) (omega arith)) (no_true _ (λ e. absurd (omega (arith, is_group_lem a.kind e))))
 

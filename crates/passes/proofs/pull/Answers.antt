@@ -22,13 +22,13 @@ returns-else-low-kind c = let a = c.args in
 
 pub returns-then-among-2 : goal.returns-then-among-2
 returns-then-among-2 c = let a = c.args in
-    let y : words_have a.words.now a.follower ≡ true = sym c.among-then-kind-eq3.ensures ∙ c.if-among-2.true in record { words_len = c.insert-then-among-2.ensures.words_len; words_after = fun_ext (λ k. c.insert-then-among-2.ensures.by_index k ∙ pulled_add_leader a.low (tie_of a.kind a.leader a.follower) (words_have a.words.now) (group_is a.kind c.if-kind-eq3.true) y k) }
+    let y : words_have a.words.now a.follower ≡ true = sym c.among-then-kind-group.ensures ∙ c.if-among-2.true in record { words_len = c.insert-then-among-2.ensures.words_len; words_after = fun_ext (λ k. c.insert-then-among-2.ensures.by_index k ∙ pulled_add_leader a.low (tie_of a.kind a.leader a.follower) (words_have a.words.now) (group_is a.kind c.if-kind-group.true) y k) }
 
 pub returns-else-among-2 : goal.returns-else-among-2
 returns-else-among-2 c = let a = c.args in
     let x : words_have a.words.now a.leader ≡ false = sym c.among.ensures ∙ c.if-among.false in
-    let y : words_have a.words.now a.follower ≡ false = sym c.among-then-kind-eq3.ensures ∙ c.if-among-2.false in record { words_len = c.requires; words_after = fun_ext (pulled_none a.low (tie_of a.kind a.leader a.follower) (words_have a.words.now) (λ _ q. absurd (true≢false (sym q ∙ x))) (λ _ q. absurd (true≢false (sym q ∙ y)))) }
+    let y : words_have a.words.now a.follower ≡ false = sym c.among-then-kind-group.ensures ∙ c.if-among-2.false in record { words_len = c.requires; words_after = fun_ext (pulled_none a.low (tie_of a.kind a.leader a.follower) (words_have a.words.now) (λ _ q. absurd (true≢false (sym q ∙ x))) (λ _ q. absurd (true≢false (sym q ∙ y)))) }
 
-pub returns-else-kind-eq3 : goal.returns-else-kind-eq3
-returns-else-kind-eq3 c = let a = c.args in
-    let x : words_have a.words.now a.leader ≡ false = sym c.among.ensures ∙ c.if-among.false in record { words_len = c.requires; words_after = fun_ext (pulled_none a.low (tie_of a.kind a.leader a.follower) (words_have a.words.now) (λ _ q. absurd (true≢false (sym q ∙ x))) (λ g _. absurd (c.if-kind-eq3.false (is_group_lem a.kind g)))) }
+pub returns-else-kind-group : goal.returns-else-kind-group
+returns-else-kind-group c = let a = c.args in
+    let x : words_have a.words.now a.leader ≡ false = sym c.among.ensures ∙ c.if-among.false in record { words_len = c.requires; words_after = fun_ext (pulled_none a.low (tie_of a.kind a.leader a.follower) (words_have a.words.now) (λ _ q. absurd (true≢false (sym q ∙ x))) (λ g _. absurd (c.if-kind-group.false (is_group_lem a.kind g)))) }
