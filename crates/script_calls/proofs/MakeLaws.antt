@@ -9,9 +9,10 @@ use native.Mathlib.Omega.{arith}
 use borrow.Author.Tests.{ltb-true, leb-true, le-ltb, lt-leb, le-leb, ne_eqb}
 use lib.Dec.{eqb, ltb, leb}
 use lib.ListN.{get_or-eq_default}
-use Rattle.rules.specs.Calls.{Call}
+use Rattle.rules.specs.Calls.{Call, Read}
 use Rattle.rules.specs.Base.{all_below}
 use Rattle.rules.proofs.BaseLaws.{Below, under, over, below, all_below_at}
+use Rattle.layout.specs.Memory.{perform}
 use Rattle.replies.specs.declared.Reply.{Reply}
 use Rattle.replies.specs.Gives.{Gives}
 use Rattle.replies.proofs.GiveLaws.{handed_back}
@@ -127,3 +128,42 @@ module _ (k a b c d l : ℕ) (e : l ≡ last_field b c d) where
             let q : 1 + (l - 1) ≡ l = omega (arith, last-least b c d) in
             let row : all_below 4 (λ i. unread from to k (1 + i)) ≡ true = all_below_at 16 (λ j. all_below 4 (λ i. unread from to j (1 + i))) t k h in
             rw e at (more_used (rw q at (all_below_at 4 (λ i. unread from to k (1 + i)) row (l - 1) (omega (arith, last_most b c d)))) h)
+
+-- THE REPLY, by where the number stands in the decision
+module _ (mem : List ℕ) (k a b c d : ℕ) {r : Reply} {after : List ℕ} where
+  -- in an arm
+  pub arm : (K : ℕ) → K * 10 + 1 ≤ k * 10 + last_field b c d → k * 10 + last_field b c d < K * 10 + 1 + fields_read K
+      → Gives (reply_of mem (asked (placed K readings) a b c d)) r after → Gives (reply_of mem (call_of k a b c d)) r after
+  arm K lo hi g = rw (in_arm k a b c d (last_field b c d) refl K lo hi) g
+
+  -- in an arm of a call that reads one field
+  pub single : (K : ℕ) → fields_read K ≡ 1 → k * 10 + last_field b c d ≡ K * 10 + 1
+      → Gives (reply_of mem (asked (placed K readings) a b c d)) r after → Gives (reply_of mem (call_of k a b c d)) r after
+  single K n e = arm K (omega arith) (omega arith)
+
+-- in the arm of read
+pub read_made : (mem : List ℕ) (k a b c d : ℕ) → 61 ≤ k * 10 + last_field b c d → k * 10 + last_field b c d < 63 → reply_of mem (call_of k a b c d) ≡ perform mem (Read a b)
+unfolding fields_read fields_of asked placed readings reply_of
+read_made mem k a b c d lo hi = rw (in_arm k a b c d (last_field b c d) refl 6 lo hi)
+
+-- in no arm
+module _ (k a b c d : ℕ) where
+  gap : (from to : ℕ) → all_unread from to ≡ true → alone (k * 10 + last_field b c d) ≡ false → from ≤ k * 10 + last_field b c d → (k < 16 → k * 10 + last_field b c d < to) → call_of k a b c d ≡ none
+  gap from to t n lo hi = no_arm k a b c d (last_field b c d) refl from to lo hi n t
+
+  pub no_call : (x : ℕ) → x ≡ k * 10 + last_field b c d → alone x ≡ false → (51 ≤ x → 54 ≤ x) → (61 ≤ x → 63 ≤ x) → (71 ≤ x → 74 ≤ x) → (81 ≤ x → 85 ≤ x) → (91 ≤ x → 94 ≤ x) → (101 ≤ x → 104 ≤ x)
+      → call_of k a b c d ≡ none
+  unfolding all_unread unread alone fields_read fields_of placed readings all_below
+  no_call x e n h5 h6 h7 h8 h9 h10 = go (below x 51) (below x 61) (below x 71) (below x 81) (below x 91) (below x 101)
+    where
+      m : alone (k * 10 + last_field b c d) ≡ false
+      m = rw e at n
+
+      go : {p q s t u v : Bool} → Below x 51 p → Below x 61 q → Below x 71 s → Below x 81 t → Below x 91 u → Below x 101 v → call_of k a b c d ≡ none
+      go (under h) _ _ _ _ _ = gap 0 51 refl m (omega arith) (λ _. omega arith)
+      go (over g) (under h) _ _ _ _ = gap 54 61 refl m (omega (arith, h5 g)) (λ _. omega arith)
+      go (over _) (over g) (under h) _ _ _ = gap 63 71 refl m (omega (arith, h6 g)) (λ _. omega arith)
+      go (over _) (over _) (over g) (under h) _ _ = gap 74 81 refl m (omega (arith, h7 g)) (λ _. omega arith)
+      go (over _) (over _) (over _) (over g) (under h) _ = gap 85 91 refl m (omega (arith, h8 g)) (λ _. omega arith)
+      go (over _) (over _) (over _) (over _) (over g) (under h) = gap 94 101 refl m (omega (arith, h9 g)) (λ _. omega arith)
+      go (over _) (over _) (over _) (over _) (over _) (over g) = gap 104 160 refl m (omega (arith, h10 g)) (λ h. omega (arith, last_most b c d))

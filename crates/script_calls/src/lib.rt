@@ -1,5 +1,6 @@
 // The calls that a script asks for, by call number.
 #![tactic(auto)]
+
 ghost use Rattle.std.specs.Prelude.{◌≡◌};
 ghost use Rattle.replies.specs.Gives.{Gives};
 ghost use Rattle.script_calls.specs.Fields.{call_of, reply_of, last_field};
@@ -24,6 +25,7 @@ fn last_field(b: u32, c: u32, d: u32) -> u64
 
 // The call of a call number with its four fields, made; unused fields must be 0, or the line is broken.
 // The decision is over the call number with one digit more, the last field in use: 51..=53 is call 5, which reads three fields.
+#[tactic(auto, using(crate::proofs::MakeLaws::read_made))]
 pub fn make(memory: &mut [u8], call: u32, a: u32, b: u32, c: u32, d: u32) -> Reply
     ensures { Gives (reply_of memory.old (call_of call a b c d)) result memory.new }
 {
