@@ -1,6 +1,7 @@
 // The calls for C programs: a name for each, on the memory lent as a window. include/window.h says what they mean, docs/WINDOW.md what the bytes are.
 // Read, status, parent and value take the memory only to read.
 #![tactic(auto)]
+
 ghost use Rattle.rules.specs.Calls.{Open, Initiate, Begin, Complete, Lock, Read, Write, Permit, Delegate, Depend, Commit, Abort, Status, Parent, Value};
 ghost use Rattle.layout.specs.Memory.{perform};
 ghost use Rattle.replies.specs.Gives.{Gives};
