@@ -6,16 +6,26 @@ use mathlib.Core.Option.{none}
 use Prim.Native.Nat.{ℕ, suc, ◌+◌, ◌-◌, ◌≤◌, ◌<◌}
 use native.Mathlib.Omega.{arith}
 use lib.Dec.{eqb}
-use lib.ListN.{length, take, drop, length-drop}
-use lib.Seq.{take-length, take_all, drop-drop}
-use Rattle.rules.proofs.BaseLaws.{Below, under, over, below}
-use Rattle.bytes.specs.Bytes.{slice, index_after, index_of}
+use lib.ListN.{length, get_or, take, drop, length-drop, drop_of_length-le}
+use lib.Seq.{take_all, drop-drop, drop-cons}
+use borrow.Author.Tests.{ne_eqb}
+use Rattle.std.proofs.Common.{add-one}
+use Rattle.rules.proofs.BaseLaws.{Below, under, over, below, eqb_same}
 use Rattle.text.specs.Parts.{in_front, parted_by}
 use Rattle.text.specs.Decimal.{number}
 use Rattle.script_calls.specs.Fields.{readings, placed, made, call_of}
 use Rattle.script_lines.specs.Lines.{call_number, is_argument, numbered, fielded}
 use Rattle.script_lines.specs.Apart.{between, Next, Found}
 use Rattle.script_lines.specs.declared.Commas.{Commas}
+
+-- THE PLACE OF THE FIRST OF A BYTE, or the length where there is none
+unfoldable pub index_after : Bool → ℕ → ℕ
+index_after true n = 0
+index_after false n = suc n
+
+unfoldable pub index_of : ℕ → List ℕ → ℕ
+index_of s [] = 0
+index_of s (x ∷ l) = index_after (eqb x s) (index_of s l)
 
 -- AT THE FIRST OF A BYTE
 module _ (s : ℕ) where
@@ -58,10 +68,8 @@ module _ (l : List ℕ) (from i : ℕ) where
     last = λ g _. absurd (omega arith);
   }
 
-  pub found-next : from ≤ length l → i ≡ from + index_of 44 (slice from (length l) l) → i ≤ length l → Next l from i
-  unfolding slice
-  found-next h e w = let q : i ≡ from + index_of 44 (drop from l) = rw (take-length l) at e in
-      let n : length (drop from l) ≡ length l - from = length-drop from l in
+  pub found-next : from ≤ length l → i ≡ from + index_of 44 (drop from l) → i ≤ length l → Next l from i
+  found-next h q w = let n : length (drop from l) ≡ length l - from = length-drop from l in
       let d : i - from ≡ index_of 44 (drop from l) = omega arith in
       let k : i + 1 ≡ from + suc (index_of 44 (drop from l)) = omega arith in
       record {
@@ -70,6 +78,31 @@ module _ (l : List ℕ) (from i : ℕ) where
         parted = λ g. rw (d, k, ← drop-drop (suc (index_of 44 (drop from l))) from l) (parted_at 44 (drop from l) (omega arith));
         last = λ g z. rw (take_all (i - from) (drop from l) (omega arith)) (parted_none 44 (drop from l) (omega arith));
       }
+
+-- THE SEARCH FOR A BYTE
+-- none of it stands from a place up to another
+pub record Searched (s : ℕ) (l : List ℕ) (from i : ℕ) : Type 0 where
+  pub within : i ≤ length l
+  pub same : from + index_of s (drop from l) ≡ i + index_of s (drop i l)
+
+module _ (s : ℕ) (l : List ℕ) (from : ℕ) where
+  pub searched_none : from ≤ length l → Searched s l from from
+  searched_none h = record { within = h; same = refl }
+
+  module _ {i : ℕ} (h : Searched s l from i) where
+    pub searched_here : i < length l → get_or l i 0 ≡ s → i ≡ from + index_of s (drop from l)
+    unfolding index_of index_after
+    searched_here r e = let z : index_of s (drop i l) ≡ 0 = rw (drop-cons l i 0, e, eqb_same s) in omega (arith, h.same)
+
+    pub searched_more : i < length l → (get_or l i 0 ≡ s → ⊥) → Searched s l from (i + 1)
+    unfolding index_of index_after
+    searched_more r e =
+        let z : index_of s (drop i l) ≡ suc (index_of s (drop (i + 1) l)) = rw (drop-cons l i 0, ne_eqb (get_or l i 0) s e, add-one) in
+        record { within = omega arith; same = omega (arith, h.same) }
+
+    pub searched_all : length l ≤ i → i ≡ from + index_of s (drop from l)
+    unfolding index_of
+    searched_all r = let z : index_of s (drop i l) ≡ 0 = rw drop_of_length-le in omega (arith, h.same)
 
 -- no call has the number 0
 no_fields : numbered 0 0 0 0 0 ≡ none

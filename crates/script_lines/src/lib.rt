@@ -1,5 +1,6 @@
 // A script's lines: which call a line asks for, and its reply.
 #![tactic(auto)]
+
 ghost use Rattle.std.specs.Prelude.{◌≡◌, ◌≤◌, length, take, drop};
 ghost use Rattle.replies.specs.Gives.{Gives};
 ghost use Rattle.text.specs.Decimal.{number as number_of};
@@ -110,7 +111,14 @@ fn comma(line: &[u8], from: usize) -> usize
     if from > n {
         return n;
     }
-    bytes::scan::find(line, from, n, b',')
+    let mut i = from;
+    while i < n {
+        if line[i] == b',' {
+            return i;
+        }
+        i += 1;
+    }
+    n
 }
 
 // The first five commas of a line of at most 64 bytes.
