@@ -54,7 +54,8 @@ pub fn returns(ties: &[u8], count: usize, kind: u8, leader: u8, follower: u8) ->
     ensures { (ts : List TieRecord) → length ts ≡ count → ties.now ≡ tie_section ts → (n : ℕ) → ends_below n ts ≡ true → leader < n → follower < n → outside 1 3 kind ≡ false → acyclic n ts ≡ true → result ≡ not (acyclic n (add_tie (make_tie kind leader follower) ts)) }
 {
     let back = leads(ties, count, follower, leader);
-    if kind != 3 {
+    let group: u8 = 3;
+    if kind != group {
         return back;
     }
     back != leads(ties, count, leader, follower)

@@ -4,13 +4,13 @@ use mathlib.Core.Bool.{Bool, beq, not}
 use Rattle.graph.proofs.ReturnLaws.{arrow-made, group_made}
 use Rattle.graph.proofs.returns.Goals as goal
 
-pub returns-then-kind-ne3 : goal.returns-then-kind-ne3
-returns-then-kind-ne3 c = let a = c.args in
+pub returns-then-kind-group : goal.returns-then-kind-group
+returns-then-kind-group c = let a = c.args in
     λ ts len e n ends hl hf r h.
-    c.leads-back.ensures ts len e n ends ∙ arrow-made n ts ends a.kind a.leader a.follower hl hf h r c.if-kind-ne3.true
+    c.leads-back.ensures ts len e n ends ∙ arrow-made n ts ends a.kind a.leader a.follower hl hf h r c.if-kind-group.true
 
 pub returns : goal.returns
 returns c = let a = c.args in
     λ ts len e n ends hl hf r h.
     ap₂ (λ (x y : Bool). not (beq x y)) (c.leads-back.ensures ts len e n ends) (c.leads.ensures ts len e n ends)
-    ∙ group_made n ts ends a.kind a.leader a.follower hl hf h c.if-kind-ne3.false
+    ∙ group_made n ts ends a.kind a.leader a.follower hl hf h c.if-kind-group.false
