@@ -49,7 +49,8 @@ fn skip_blocks(permits: &[u8], count: usize, start: usize, change: u8) -> usize
 {
     let mut j = start;
     while BLOCK <= count - j {
-        if in_block(permits, j * Permits::RECORD, change) {
+        let present = in_block(permits, j * Permits::RECORD, change);
+        if present {
             return j;
         }
         j += BLOCK;
