@@ -25,7 +25,8 @@ struct Ends {
 fn stored_ends(kind: u8, leader: u8, follower: u8) -> Ends
     ensures { (result.leader ≡ (make_tie kind leader follower).leader) × (result.follower ≡ (make_tie kind leader follower).follower) }
 {
-    if (kind == 3) & (follower < leader) {
+    let turned = (kind == 3) & (follower < leader);
+    if turned {
         return Ends {
             leader: follower,
             follower: leader,

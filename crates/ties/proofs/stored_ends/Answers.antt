@@ -2,8 +2,8 @@
 use Rattle.ties.proofs.TieLaws.{ends_swapped, ends-kept}
 use Rattle.ties.proofs.stored_ends.Goals as goal
 
-pub returns-then-kind-follower : goal.returns-then-kind-follower
-returns-then-kind-follower c = let a = c.args in ends_swapped a.kind a.leader a.follower c.if-kind-follower.true
+pub returns-then-turned : goal.returns-then-turned
+returns-then-turned c = let a = c.args in ends_swapped a.kind a.leader a.follower c.if-turned.true
 
 pub returns : goal.returns
-returns c = let a = c.args in ends-kept a.kind a.leader a.follower c.if-kind-follower.false
+returns c = let a = c.args in ends-kept a.kind a.leader a.follower c.if-turned.false
