@@ -28,7 +28,8 @@ fn digits_value(l: &[u8]) -> u64
         if b < 48 {
             return NO_NUMBER;
         }
-        if b > 57 {
+        let high = b > 57;
+        if high {
             return NO_NUMBER;
         }
         v = 10 * v + (b - 48) as u64;
@@ -44,7 +45,8 @@ pub fn number(l: &[u8]) -> u64
     if l.len() == 0 {
         return NO_NUMBER;
     }
-    if l.len() > 10 {
+    let long = l.len() > 10;
+    if long {
         return NO_NUMBER;
     }
     if l.len() > 1 {
@@ -53,7 +55,8 @@ pub fn number(l: &[u8]) -> u64
         }
     }
     let v = digits_value(l);
-    if v > 4294967295 {
+    let large = v > 4294967295;
+    if large {
         return NO_NUMBER;
     }
     v

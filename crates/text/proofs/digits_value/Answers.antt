@@ -12,9 +12,9 @@ pub returns-then-b-lt48 : goal.returns-then-b-lt48
 unfolding no_number
 returns-then-b-lt48 c = sym (reading_low c.loop-i.invariant (omega arith) (omega arith))
 
-pub returns-then-b-gt57 : goal.returns-then-b-gt57
+pub returns-then-high : goal.returns-then-high
 unfolding no_number
-returns-then-b-gt57 c = sym (reading_high c.loop-i.invariant (omega arith) (omega arith))
+returns-then-high c = sym (reading_high c.loop-i.invariant (omega arith) (omega arith))
 
 pub loop-i-preserved : goal.loop-i-preserved
 loop-i-preserved c = reading_next c.loop-i.invariant (omega arith) (omega arith) (omega arith)

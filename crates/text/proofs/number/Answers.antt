@@ -12,17 +12,17 @@ pub returns-then-l-eq0 : goal.returns-then-l-eq0
 unfolding no_number
 returns-then-l-eq0 c = sym (number_empty c.args.l.now (omega arith))
 
-pub returns-then-l-gt10 : goal.returns-then-l-gt10
+pub returns-then-long : goal.returns-then-long
 unfolding no_number
-returns-then-l-gt10 c = sym (number-long c.args.l.now (omega arith))
+returns-then-long c = sym (number-long c.args.l.now (omega arith))
 
 pub returns-then-l-eq48 : goal.returns-then-l-eq48
 unfolding no_number
 returns-then-l-eq48 c = sym (number_zero c.args.l.now (omega arith) (omega arith))
 
-pub returns-then-v-gt4294967295 : goal.returns-then-v-gt4294967295
+pub returns-then-large : goal.returns-then-large
 unfolding no_number
-returns-then-v-gt4294967295 c = let l = c.args.l.now in
+returns-then-large c = let l = c.args.l.now in
     sym (number_above l _ c.digits_value-v.ensures (omega arith))
 
 pub returns : goal.returns
