@@ -1,5 +1,6 @@
 // The listing: what the script program prints, made while its input is fed in pieces.
 #![tactic(auto)]
+
 ghost use Rattle.std.specs.Prelude.{◌≡◌, List, ◌++◌, ℕ, ◌+◌, ◌*◌, ◌^◌, ◌≤◌, ◌<◌, length, take, drop};
 ghost use Rattle.listing.specs.Listing.{zero_memory, printed};
 ghost use Rattle.listing.specs.Feed.{start as started, first_ended, later_ended, line_ended, fed_byte, fed, ended};
