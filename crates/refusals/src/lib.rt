@@ -49,7 +49,8 @@ pub fn initiate(w: &[u8], parent: u32) -> u32
     if !((parent == 0) | is_running(w, parent)) {
         return 7;
     }
-    if Changes::MOST <= n {
+    let full = Changes::MOST <= n;
+    if full {
         return 11;
     }
     0
@@ -106,7 +107,8 @@ pub fn lock(w: &[u8], change: u32, entry: u32, mode: u32) -> u32
     if !is_running(w, change) {
         return 7;
     }
-    if waits_elsewhere(w, change, entry) {
+    let elsewhere = waits_elsewhere(w, change, entry);
+    if elsewhere {
         return 12;
     }
     0
@@ -140,7 +142,8 @@ pub fn read(w: &[u8], change: u32, entry: u32) -> u32
     if refused != 0 {
         return refused;
     }
-    if held(w, entry, change) == 0 {
+    let none: u8 = 0;
+    if held(w, entry, change) == none {
         return 8;
     }
     0
@@ -156,10 +159,12 @@ pub fn write(w: &[u8], change: u32, entry: u32) -> u32
     if refused != 0 {
         return refused;
     }
-    if held(w, entry, change) != 2 {
+    let write: u8 = 2;
+    if held(w, entry, change) != write {
         return 8;
     }
-    if Log::MOST <= reads::records(w) {
+    let full = Log::MOST <= reads::records(w);
+    if full {
         return 11;
     }
     0

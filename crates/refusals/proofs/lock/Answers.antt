@@ -30,17 +30,17 @@ returns-then-not-is_running c = first
     (passes c.outside.ensures c.if-outside.false
     (fails (ap not c.is_running.ensures) (ap not c.if-not-is_running.true)))))
 
-pub waits_elsewhere-requires : goal.waits_elsewhere-requires
-waits_elsewhere-requires c = record { w_len = c.requires.w_len; w_value = c.requires.w_value; c_value = sym c.no_change.ensures ∙ c.if-no_change.false; e_value = sym c.no_entry.ensures ∙ c.if-no_entry.false }
+pub waits_elsewhere-elsewhere-requires : goal.waits_elsewhere-elsewhere-requires
+waits_elsewhere-elsewhere-requires c = record { w_len = c.requires.w_len; w_value = c.requires.w_value; c_value = sym c.no_change.ensures ∙ c.if-no_change.false; e_value = sym c.no_entry.ensures ∙ c.if-no_entry.false }
 
-pub returns-then-waits_elsewhere : goal.returns-then-waits_elsewhere
+pub returns-then-elsewhere : goal.returns-then-elsewhere
 unfolding checks ◌if◌
-returns-then-waits_elsewhere c = first
+returns-then-elsewhere c = first
     (passes c.no_change.ensures c.if-no_change.false
     (passes c.no_entry.ensures c.if-no_entry.false
     (passes c.outside.ensures c.if-outside.false
     (passes (ap not c.is_running.ensures) (ap not c.if-not-is_running.false)
-    (fails c.waits_elsewhere.ensures c.if-waits_elsewhere.true)))))
+    (fails c.waits_elsewhere-elsewhere.ensures c.if-elsewhere.true)))))
 
 pub returns : goal.returns
 unfolding checks ◌if◌
@@ -49,4 +49,4 @@ returns c = first
     (passes c.no_entry.ensures c.if-no_entry.false
     (passes c.outside.ensures c.if-outside.false
     (passes (ap not c.is_running.ensures) (ap not c.if-not-is_running.false)
-    (passes c.waits_elsewhere.ensures c.if-waits_elsewhere.false all-passed)))))
+    (passes c.waits_elsewhere-elsewhere.ensures c.if-elsewhere.false all-passed)))))

@@ -12,14 +12,14 @@ use Rattle.refusals.proofs.read.Goals as goal
 pub returns-then-refused-ne0 : goal.returns-then-refused-ne0
 returns-then-refused-ne0 c = let a = c.args in stopped 3 (checks limits (decode a.w.now) (Read a.change a.entry)) _ c.on_entry-refused.ensures c.if-refused-ne0.true
 
-pub returns-then-held-eq0 : goal.returns-then-held-eq0
+pub returns-then-held-none : goal.returns-then-held-none
 unfolding checks all ◌if◌
-returns-then-held-eq0 c = let c1 = c in
+returns-then-held-none c = let c1 = c in
     let a = c1.args in
-    went_on 3 (checks limits (decode a.w.now) (Read a.change a.entry)) refl c1.on_entry-refused.ensures c1.if-refused-ne0.false (fails refl (reads_same c.held.ensures 0 c.if-held-eq0.true))
+    went_on 3 (checks limits (decode a.w.now) (Read a.change a.entry)) refl c1.on_entry-refused.ensures c1.if-refused-ne0.false (fails refl (reads_same c.held.ensures 0 c.if-held-none.true))
 
 pub returns : goal.returns
 unfolding checks all ◌if◌
 returns c = let c1 = c in
     let a = c1.args in
-    went_on 3 (checks limits (decode a.w.now) (Read a.change a.entry)) refl c1.on_entry-refused.ensures c1.if-refused-ne0.false (passes refl (reads_other c.held.ensures 0 c.if-held-eq0.false) all-passed)
+    went_on 3 (checks limits (decode a.w.now) (Read a.change a.entry)) refl c1.on_entry-refused.ensures c1.if-refused-ne0.false (passes refl (reads_other c.held.ensures 0 c.if-held-none.false) all-passed)

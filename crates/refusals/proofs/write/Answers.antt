@@ -1,6 +1,7 @@
 -- `refusals::write` meets its contract: the first checks decide, or one of the others. Assumes nothing.
 use mathlib.Core.Path.{refl, ap}
 use mathlib.Core.Bool.{not}
+use native.Mathlib.Omega.{arith}
 use Rattle.rules.specs.Base.{all}
 use Rattle.rules.specs.Window.{limits}
 use Rattle.rules.specs.Calls.{Write}
@@ -14,21 +15,21 @@ pub returns-then-refused-ne0 : goal.returns-then-refused-ne0
 unfolding checks
 returns-then-refused-ne0 c = let a = c.args in λ v. stopped 3 (checks limits (decode a.w.now) (Write a.change a.entry v)) _ c.on_entry-refused.ensures c.if-refused-ne0.true
 
-pub returns-then-held-ne2 : goal.returns-then-held-ne2
+pub returns-then-held-write : goal.returns-then-held-write
 unfolding checks all ◌if◌
-returns-then-held-ne2 c = let a = c.args in
-    λ v. went_on 3 (checks limits (decode a.w.now) (Write a.change a.entry v)) refl c.on_entry-refused.ensures c.if-refused-ne0.false (fails refl (ap not (reads_other c.held.ensures 2 c.if-held-ne2.true)))
+returns-then-held-write c = let a = c.args in
+    λ v. went_on 3 (checks limits (decode a.w.now) (Write a.change a.entry v)) refl c.on_entry-refused.ensures c.if-refused-ne0.false (fails refl (ap not (reads_other c.held.ensures 2 c.if-held-write.true)))
 
-pub returns-then-records-ge-MOST : goal.returns-then-records-ge-MOST
+pub returns-then-full : goal.returns-then-full
 unfolding checks all ◌if◌ limits
-returns-then-records-ge-MOST c = let a = c.args in
+returns-then-full c = let a = c.args in
     λ v. went_on 3 (checks limits (decode a.w.now) (Write a.change a.entry v)) refl c.on_entry-refused.ensures c.if-refused-ne0.false
-    (passes refl (ap not (reads_same c.held.ensures 2 c.if-held-ne2.false))
-    (fails refl (full c.records.ensures.value _ c.if-records-ge-MOST.true)))
+    (passes refl (ap not (reads_same c.held.ensures 2 c.if-held-write.false))
+    (fails refl (full c.records-full.ensures.value 2048 (omega (arith, c.if-full.true)))))
 
 pub returns : goal.returns
 unfolding checks all ◌if◌ limits
 returns c = let a = c.args in
     λ v. went_on 3 (checks limits (decode a.w.now) (Write a.change a.entry v)) refl c.on_entry-refused.ensures c.if-refused-ne0.false
-    (passes refl (ap not (reads_same c.held.ensures 2 c.if-held-ne2.false))
-    (passes refl (room c.records.ensures.value _ c.if-records-ge-MOST.false) all-passed))
+    (passes refl (ap not (reads_same c.held.ensures 2 c.if-held-write.false))
+    (passes refl (room c.records-full.ensures.value _ c.if-full.false) all-passed))
