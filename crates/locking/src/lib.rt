@@ -41,11 +41,13 @@ fn in_the_way(w: &[u8], change: u32, entry: u32, mode: u32) -> u32
     ensures { result ≡ in_the_way (decode w.now) change entry mode }
 {
     let holder = lock_blocker(w, change, entry, mode);
-    if holder != 0 {
+    let found = holder != 0;
+    if found {
         return holder;
     }
     let first = reads::first_in_line(w, entry) as u32;
-    if first == change {
+    let own = first == change;
+    if own {
         return 0;
     }
     first
@@ -76,12 +78,14 @@ pub fn lock(w: &mut [u8], change: u32, entry: u32, mode: u32) -> Reply
     requires mode_value { first_failed (checks limits (decode w.old) (Lock change entry mode)) ≡ 0 }
     ensures { Gives (written (effect (decode w.old) (Lock change entry mode))) result w.new }
 {
-    if mode <= reads::held(w, entry, change) as u32 {
+    let covered = mode <= reads::held(w, entry, change) as u32;
+    if covered {
         leave_line(w, change);
         return done(0);
     }
     let number = in_the_way(w, change, entry, mode);
-    if number != 0 {
+    let nobody: u32 = 0;
+    if number != nobody {
         enter_line(w, change, entry, mode);
         return blocked(number);
     }
