@@ -29,7 +29,8 @@ fn make_fresh(w: &mut [u8], entries: u16)
 pub fn open(memory: &mut [u8], entries: u32) -> Reply
     ensures { Gives (perform memory.old (Open entries)) result memory.new }
 {
-    if memory.len() < Window::SIZE {
+    let short = memory.len() < Window::SIZE;
+    if short {
         return unchanged(1);
     }
     if reads::outside(1, Entries::MOST as u32, entries) {

@@ -5,14 +5,14 @@ use Rattle.rules.proofs.SoundParts.{inside_of}
 use Rattle.calls.proofs.OpenLaws.{open_short, open_refused, open_done}
 use Rattle.calls.proofs.open.Goals as goal
 
-pub returns-then-memory-lt-SIZE : goal.returns-then-memory-lt-SIZE
-returns-then-memory-lt-SIZE c = open_short c.args.memory.now c.args.entries c.if-memory-lt-SIZE.true _ c.unchanged.ensures
+pub returns-then-short : goal.returns-then-short
+returns-then-short c = open_short c.args.memory.now c.args.entries c.if-short.true _ c.unchanged.ensures
 
 pub returns-then-outside : goal.returns-then-outside
-returns-then-outside c = open_refused c.args.memory.now c.args.entries c.if-memory-lt-SIZE.false (sym c.outside.ensures ∙ c.if-outside.true) _ c.unchanged-then-outside.ensures
+returns-then-outside c = open_refused c.args.memory.now c.args.entries c.if-short.false (sym c.outside.ensures ∙ c.if-outside.true) _ c.unchanged-then-outside.ensures
 
 pub returns : goal.returns
-returns c = open_done c.args.memory.now c.args.entries c.if-memory-lt-SIZE.false (sym c.outside.ensures ∙ c.if-outside.false) _ c.make_fresh.ensures _ c.done.ensures
+returns c = open_done c.args.memory.now c.args.entries c.if-short.false (sym c.outside.ensures ∙ c.if-outside.false) _ c.make_fresh.ensures _ c.done.ensures
 
 pub overflow_cast-entries : goal.overflow_cast-entries
 overflow_cast-entries c = omega (arith, (inside_of 1 256 _ (sym c.outside.ensures ∙ c.if-outside.false)).1)
