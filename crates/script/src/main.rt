@@ -1,6 +1,7 @@
 // The script program: standard input is a script, standard output its listing. What is printed is the crate listing's; that all of the input is read,
 // and what each piece prints written once and in order, rests on the loop here.
 #![tactic(auto)]
+
 ghost use Rattle.std.specs.Prelude.{◌≡◌, ◌+◌, ◌≤◌, ◌<◌, ◌^◌, length};
 
 use layout::Window;
