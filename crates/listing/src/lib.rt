@@ -75,7 +75,8 @@ fn first_ended(s: Stand, line: &[u8], out: &mut [u8]) -> Stand
     ensures by_index { (m : List ℕ) → standing result line.now m out.new ≡ first_ended (standing s line.now m out.old) }
 {
     let held = s.held;
-    if same(&line[..held], b"call,a,b,c,d") {
+    let right = same(&line[..held], b"call,a,b,c,d");
+    if right {
         return Stand {
             held: 0,
             place: 1,
@@ -188,7 +189,8 @@ pub fn finish(s: Stand, line: &[u8], memory: &mut [u8], out: &mut [u8]) -> Stand
     ensures used_bound { result.used ≤ s.used + 64 }
     ensures out_after { standing result line.now memory.new out.new ≡ ended (standing s line.now memory.old out.old) }
 {
-    if s.held == 0 {
+    let nothing = s.held == 0;
+    if nothing {
         return s;
     }
     end_line(s, line, memory, out)

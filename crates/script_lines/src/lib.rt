@@ -194,7 +194,8 @@ fn take_apart(line: &[u8]) -> Fields
 pub fn answer(memory: &mut [u8], line: &[u8]) -> Reply
     ensures { Gives (reply_to memory.old line.now) result memory.new }
 {
-    if line.len() > 64 {
+    let long = line.len() > 64;
+    if long {
         return unchanged(30);
     }
     let f = take_apart(line);

@@ -10,13 +10,13 @@ use Rattle.listing.proofs.first_ended.Goals as goal
 pub slice_bounds-same-end : goal.slice_bounds-same-end
 slice_bounds-same-end c = sym (length-take-le c.args.s.held c.args.line.now c.requires.held_in_bounds)
 
-pub returns-then-same : goal.returns-then-same
+pub returns-then-right : goal.returns-then-right
 unfolding first_line ascii
-returns-then-same c = record {
+returns-then-right c = record {
   held_value = refl;
   used_bound = omega arith;
   place_bound = omega arith;
-  by_index = λ m. first_right c.args.s c.args.line.now m c.args.out.now (sym c.same.ensures ∙ c.if-same.true);
+  by_index = λ m. first_right c.args.s c.args.line.now m c.args.out.now (sym c.same-right.ensures ∙ c.if-right.true);
 }
 
 pub returns : goal.returns
@@ -27,5 +27,5 @@ returns c =
       held_value = refl;
       used_bound = p.ensures.upper_bound;
       place_bound = omega arith;
-      by_index = λ m. first_broken c.args.s c.args.line.now m c.args.out.now p.result p.new.out (sym c.same.ensures ∙ c.if-same.false) p.ensures.out_after;
+      by_index = λ m. first_broken c.args.s c.args.line.now m c.args.out.now p.result p.new.out (sym c.same-right.ensures ∙ c.if-right.false) p.ensures.out_after;
     }
