@@ -13,8 +13,8 @@ returns-then-linked c = let i = c in
     let e = c.link_arrow in record {
       ends = e.ensures.ends;
       blocked_after = tie_linked _ (is_arrow a.kind) _ _ _ (lists_of a.heads.now a.next.now a.incoming.now a.leaders.now a.blocked.now)
-          (lists_of e.new.heads e.new.next e.new.incoming e.new.leaders e.new.blocked) i.if-linked.true i.is_arrow-linked.ensures e.ensures.blocked_after;
+          (lists_of e.new.heads e.new.next e.new.incoming e.new.leaders e.new.blocked) i.if-linked.true (cc) e.ensures.blocked_after;
     }
 
 pub returns-else-linked : goal.returns-else-linked
-returns-else-linked c = record { ends = c.requires.2; blocked_after = tie_passed _ (is_arrow c.args.kind) _ _ _ _ c.if-linked.false c.is_arrow-linked.ensures }
+returns-else-linked c = record { ends = c.requires.2; blocked_after = tie_passed _ (is_arrow c.args.kind) _ _ _ _ c.if-linked.false (cc) }
