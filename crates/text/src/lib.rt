@@ -13,7 +13,7 @@ pub const NO_NUMBER: u64 = 4294967296;
 pub fn same(a: &[u8], b: &[u8]) -> bool
     ensures { result ≡ same_bytes a.now b.now }
 {
-    a == b
+    check::same(a, b)
 }
 
 // What at most ten digits say, or NO_NUMBER where another byte is among them.

@@ -1,19 +1,10 @@
 -- `text::same` meets its contract: the texts are equal lists. Assumes nothing.
-use mathlib.Core.Bool.{◌&&◌}
-use mathlib.Core.List.{List, [], ◌∷◌}
-use mathlib.Core.Path.{◌≡◌, refl, ap, ◌∙◌}
-use Prim.Native.Nat.{ℕ}
-use lib.Dec.{eqb}
-use lib.Pointwise.{pointwise}
-use Rattle.layout.specs.Memory.{same_bytes}
+use Rattle.rules.proofs.BaseLaws.{both_ways}
+use Rattle.layout.proofs.MemoryLaws.{same_bytes_eq, same_bytes_refl}
 use Rattle.text.proofs.same.Goals as goal
 
-pairwise : (a b : List ℕ) → pointwise eqb a b ≡ same_bytes a b
-unfolding same_bytes
-pairwise [] [] = refl
-pairwise [] (y ∷ l) = refl
-pairwise (x ∷ k) [] = refl
-pairwise (x ∷ k) (y ∷ l) = ap (λ t. eqb x y && t) (pairwise k l)
-
 pub returns : goal.returns
-returns c = c.eq.ensures ∙ pairwise c.args.a.now c.args.b.now
+returns c =
+    let a = c.args.a.now in
+    let b = c.args.b.now in
+    both_ways _ _ (λ e. rw (c.same.ensures.0 e) (same_bytes_refl b)) (λ e. c.same.ensures.1 (same_bytes_eq a b e))
