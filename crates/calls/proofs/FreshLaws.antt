@@ -2,7 +2,7 @@
 use mathlib.Core.Path.{◌≡◌, refl, sym, ◌∙◌, ap}
 use mathlib.Core.Bool.{true}
 use mathlib.Core.List.{List, [], ◌∷◌, ◌++◌}
-use Prim.Native.Nat.{ℕ, suc, ◌-◌, ◌/◌, ◌%◌}
+use Prim.Native.Nat.{ℕ, suc, ◌/◌, ◌%◌}
 use native.Mathlib.Omega.{arith}
 use lib.Dec.{eqb}
 use lib.ListN.{length, get_or, replicate, length-replicate, replicate-append-replicate}
@@ -70,10 +70,10 @@ unfolding sections section
 blank n e = ap (λ k. replicate k 0) e ∙ sym (encode_sections (fresh 0) ∙ lay_out_zero (sections (figures (fresh 0)) (fresh 0)) no_entries)
 
 -- cleared, and the number of entries stored
-pub made-fresh : (bs : List ℕ) → length bs ≡ window_size → (n : ℕ) (cleared head : List ℕ) → cleared ≡ patch bs 0 (replicate (length bs - 0) 0)
+pub made-fresh : (bs : List ℕ) → length bs ≡ window_size → (n : ℕ) (cleared head : List ℕ) → cleared ≡ patch bs 0 (replicate window_size 0)
     → FigureStored cleared 0 n head → head_laid cleared head ≡ encode (fresh n)
 unfolding encode lay figures fresh
 made-fresh bs size n cleared head e f = figure_stored (fresh 0) (fresh n) whole 0 n (omega arith) f refl
   where
     whole : cleared ≡ encode (fresh 0)
-    whole = e ∙ patch_whole bs (replicate (length bs - 0) 0) (omega (arith, length-replicate {A = ℕ} (length bs - 0) 0)) ∙ blank (length bs - 0) (omega arith)
+    whole = e ∙ patch_whole bs (replicate window_size 0) (omega (arith, length-replicate {A = ℕ} window_size 0)) ∙ blank window_size refl

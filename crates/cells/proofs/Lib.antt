@@ -5,11 +5,9 @@ pub mod PartLaws
 pub mod TableLaws
 -- a number's bytes, and the number of bytes
 pub mod NumLaws
--- the digits of a number; a number of 64 bits in eight bytes
+-- the digits of a number; those of a number in bytes
 pub mod Digits
 pub mod WordLaws
--- the loops that write a run upwards
-pub mod RunLaws
 -- a range that is zero, by its elements; a table with zeros past it
 pub mod ZeroLaws
 -- records of any width closed up in place

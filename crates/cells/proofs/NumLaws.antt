@@ -1,11 +1,12 @@
 -- Numbers in bytes: what the code reads and writes. Assumes nothing.
-use mathlib.Core.Path.{◌≡◌, refl, sym, ap, ◌∙◌}
+use mathlib.Core.Path.{◌≡◌, refl, sym, ap, ap₂, ◌∙◌}
 use mathlib.Core.List.{List, [], ◌∷◌}
 use Prim.Native.Nat.{ℕ, zero, suc, ◌+◌, ◌/◌, ◌%◌, ◌^◌, ◌≤◌, ◌<◌}
 use native.Mathlib.Nat.{pow-suc, pow-succ', pow-zero, div-div-eq-div-mul, div-one, div-lt_iff_lt-mul, zero-lt-suc, le_of_suc-le-suc, not-suc-le-zero}
 use native.Mathlib.Omega.{arith}
 use native.Mathlib.Numerals.{towards_suc}
 use lib.ListN.{length, get_or, set}
+use Rattle.std.specs.Int.{byte_at, bytes_low_first}
 use Rattle.rules.specs.Base.{table}
 use Rattle.layout.specs.Codec.{byte}
 use Rattle.layout.proofs.SectionLaws.{table_list}
@@ -49,10 +50,28 @@ pub part4 : (l : List ℕ) (at : ℕ) → at + 4 ≤ length l → part l at 4 �
 part4 l at h = simp towards_suc (part_cons l at 3 (omega arith) ∙ ap (λ (r : List ℕ). get_or l at 0 ∷ r) (part_cons l (suc at) 2 (omega arith)
     ∙ ap (λ (r : List ℕ). get_or l (suc at) 0 ∷ r) (simp towards_suc at (part2 l (suc (suc at)) (omega arith)))))
 
--- the stores of two bytes that straight-line code leaves
-pub patch2 : (l : List ℕ) (at a b : ℕ) → at + 2 ≤ length l → set (set l at a) (at + 1) b ≡ patch l at (a ∷ b ∷ [])
-patch2 l at a b h = simp towards_suc (sets_patch l at (a ∷ b ∷ []) h)
+-- eight
+pub part8 : (l : List ℕ) (at : ℕ) → at + 8 ≤ length l
+    → part l at 8 ≡ get_or l at 0 ∷ get_or l (at + 1) 0 ∷ get_or l (at + 2) 0 ∷ get_or l (at + 3) 0 ∷ get_or l (at + 4) 0 ∷ get_or l (at + 5) 0 ∷ get_or l (at + 6) 0 ∷ get_or l (at + 7) 0 ∷ []
+part8 l at h = simp towards_suc (part_cons l at 7 (omega arith) ∙ ap (λ (r : List ℕ). get_or l at 0 ∷ r) (part_cons l (suc at) 6 (omega arith)
+    ∙ ap (λ (r : List ℕ). get_or l (suc at) 0 ∷ r) (part_cons l (suc (suc at)) 5 (omega arith)
+    ∙ ap (λ (r : List ℕ). get_or l (suc (suc at)) 0 ∷ r) (part_cons l (suc (suc (suc at))) 4 (omega arith)
+    ∙ ap (λ (r : List ℕ). get_or l (suc (suc (suc at))) 0 ∷ r) (simp towards_suc at (part4 l (suc (suc (suc (suc at)))) (omega arith)))))))
 
--- of four
+-- the bytes that `to_le_bytes` gives
+low_bytes : (i n v : ℕ) → bytes_low_first i n v ≡ le n (v / 256 ^ i)
+unfolding le
+low_bytes i zero v = refl
+low_bytes i (suc n) v = ap₂ (λ (x : ℕ) (r : List ℕ). x ∷ r) (here i)
+    (low_bytes (suc i) n v ∙ ap (le n) (ap (λ (x : ℕ). v / x) (pow-suc 256 i) ∙ sym (div-div-eq-div-mul v (256 ^ i) 256)))
+  where
+    here : (i : ℕ) → byte_at i v ≡ v / 256 ^ i % 256
+    here zero = ap (λ (x : ℕ). x % 256) (sym (div-one v))
+    here (suc i) = refl
+
+pub to_le : (n v : ℕ) → bytes_low_first 0 n v ≡ le n v
+to_le n v = low_bytes 0 n v ∙ ap (le n) (div-one v)
+
+-- the stores of four bytes that straight-line code leaves
 pub patch4 : (l : List ℕ) (at a b c d : ℕ) → at + 4 ≤ length l → set (set (set (set l at a) (at + 1) b) (at + 2) c) (at + 3) d ≡ patch l at (a ∷ b ∷ c ∷ d ∷ [])
 patch4 l at a b c d h = simp towards_suc (sets_patch l at (a ∷ b ∷ c ∷ d ∷ []) h)

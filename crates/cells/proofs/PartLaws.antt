@@ -5,6 +5,7 @@ use Prim.Native.Nat.{ℕ, zero, suc, ◌+◌, ◌-◌, ◌≤◌, ◌<◌}
 use native.Mathlib.Nat.{le_of_suc-le-suc, not-suc-le-zero, suc-add, zero-add, add-zero}
 use native.Mathlib.Omega.{arith}
 use lib.ListN.{length, take, drop, get_or, set, replicate, length-append, length-take, length-drop, take-append-drop, length-set, length-replicate, drop_of_length-le}
+use borrow.Rule.Slice.PartMut.{put_mid}
 use lib.Seq.{sets, sets-eq, take-set-le, take-set-lt, drop-set-lt, drop-set-add, take_at, drop_at, take-append-le, drop-append-add, get_or-take, get_or-drop, take-take, drop-drop, length-take-le, drop-cons}
 use Rattle.cells.specs.Part.{part, patch}
 
@@ -12,6 +13,11 @@ use Rattle.cells.specs.Part.{part, patch}
 pub length_part : (l : List ℕ) (at n : ℕ) → at + n ≤ length l → length (part l at n) ≡ n
 unfolding part
 length_part l at n h = length-take-le n (drop at l) (simp length-drop (omega arith))
+
+-- at most that
+pub part_most : (l : List ℕ) (at n m : ℕ) → n ≤ m → length (part l at n) ≤ m
+unfolding part
+part_most l at n m h = simp length-take (omega arith)
 
 -- of a list with a part replaced
 pub length-patch : (l : List ℕ) (at : ℕ) (xs : List ℕ) → at + length xs ≤ length l → length (patch l at xs) ≡ length l
@@ -124,6 +130,11 @@ set-part l at n j v h k =
     sym (take-append-drop at (set l (at + j) v))
     ∙ ap₂ ◌++◌ (take-set-le at l (at + j) v (omega arith)) (drop-set-add at l j v ∙ sym (take-append-drop n (set (drop at l) j v))
     ∙ ap₂ ◌++◌ (take-set-lt n (drop at l) j v k) (drop-set-lt n (drop at l) j v k ∙ ap (λ (m : ℕ). drop m (drop at l)) (sym (length-set (part l at n) j v ∙ length_part l at n h))))
+
+-- what a write to a part of a slice leaves, as by `copy_from_slice` or `fill`
+pub put_mid-patch : (at k : ℕ) (l xs ys : List ℕ) → ys ≡ xs → length xs ≡ k → put_mid at k l ys ≡ patch l at xs
+unfolding patch
+put_mid-patch at k l xs ys e n = rw (e, sym n) refl
 
 -- nothing is left of a list that is no longer than the patch at its front
 pub patch_whole : (l xs : List ℕ) → length l ≤ length xs → patch l 0 xs ≡ xs

@@ -13,18 +13,23 @@ const BLOCK: usize = 1_024;
 
 const HALF: usize = BLOCK / 2;
 
-// The number of two bytes, the lowest first.
-fn join2(a: u8, b: u8) -> u16
-    ensures { result ≡ a + 256 * b }
+// The N bytes at an offset.
+#[tactic(auto, unfolding(crate::specs::Part::part))]
+fn bytes_at<const N: usize>(s: &[u8], at: usize) -> [u8; N]
+    requires { at + N ≤ length s.now }
+    ensures { result ≡ part s.now at N }
 {
-    a as u16 + 256 * (b as u16)
+    let mut bytes = [0; N];
+    bytes.copy_from_slice(&s[at..at + N]);
+    bytes
 }
 
-// The number of four bytes, the lowest first.
-fn join4(a: u8, b: u8, c: u8, d: u8) -> u32
-    ensures { result ≡ a + 256 * b + 65536 * c + 16777216 * d }
+// Those bytes replaced.
+fn put<const N: usize>(s: &mut [u8], at: usize, bytes: [u8; N])
+    requires { at + N ≤ length s.old }
+    ensures { s.new ≡ patch s.old at bytes.entry }
 {
-    a as u32 + 256 * (b as u32) + 65536 * (c as u32) + 16777216 * (d as u32)
+    s[at..at + N].copy_from_slice(&bytes);
 }
 
 // The number in two bytes at an offset.
@@ -32,7 +37,8 @@ pub fn read_u16(s: &[u8], at: usize) -> u16
     requires { at + 2 ≤ length s.now }
     ensures { result ≡ num (part s.now at 2) }
 {
-    join2(s[at], s[at + 1])
+    let bytes = bytes_at::<2>(s, at);
+    u16::from_le_bytes(bytes)
 }
 
 // The number in four bytes at an offset.
@@ -40,7 +46,17 @@ pub fn read_u32(s: &[u8], at: usize) -> u32
     requires { at + 4 ≤ length s.now }
     ensures { result ≡ num (part s.now at 4) }
 {
-    join4(s[at], s[at + 1], s[at + 2], s[at + 3])
+    let bytes = bytes_at::<4>(s, at);
+    u32::from_le_bytes(bytes)
+}
+
+// The number in eight bytes at an offset, said by its bits.
+pub fn read_u64(s: &[u8], at: usize) -> u64
+    requires { at + 8 ≤ length s.now }
+    ensures { (k : ℕ) → k < 64 → unpack result k ≡ bytes_have s.now at k }
+{
+    let bytes = bytes_at::<8>(s, at);
+    u64::from_le_bytes(bytes)
 }
 
 // A number stored in two bytes at an offset.
@@ -48,8 +64,7 @@ pub fn write_u16(s: &mut [u8], at: usize, v: u16)
     requires { at + 2 ≤ length s.old }
     ensures { s.new ≡ patch s.old at (le 2 v) }
 {
-    s[at] = (v % 256) as u8;
-    s[at + 1] = (v / 256 % 256) as u8;
+    put::<2>(s, at, v.to_le_bytes());
 }
 
 // A number stored in four bytes at an offset.
@@ -57,39 +72,7 @@ pub fn write_u32(s: &mut [u8], at: usize, v: u32)
     requires { at + 4 ≤ length s.old }
     ensures { s.new ≡ patch s.old at (le 4 v) }
 {
-    s[at] = (v % 256) as u8;
-    s[at + 1] = (v / 256 % 256) as u8;
-    s[at + 2] = (v / 256 / 256 % 256) as u8;
-    s[at + 3] = (v / 256 / 256 / 256 % 256) as u8;
-}
-
-// A byte as a number of 64 bits. A function, so that its contract says at each use that the number is the byte's.
-fn wide(x: u8) -> u64
-    ensures { result ≡ x }
-{
-    x as u64
-}
-
-// A byte as an index, for the same reason.
-pub fn index(x: u8) -> usize
-    ensures { result ≡ x }
-{
-    x as usize
-}
-
-// The number in eight bytes at an offset, said by its bits. Written out, the bytes are loaded as one.
-pub fn read_u64(s: &[u8], at: usize) -> u64
-    requires { at + 8 ≤ length s.now }
-    ensures { (k : ℕ) → k < 64 → unpack result k ≡ bytes_have s.now at k }
-{
-    wide(s[at])
-        | (wide(s[at + 1]) << 8)
-        | (wide(s[at + 2]) << 16)
-        | (wide(s[at + 3]) << 24)
-        | (wide(s[at + 4]) << 32)
-        | (wide(s[at + 5]) << 40)
-        | (wide(s[at + 6]) << 48)
-        | (wide(s[at + 7]) << 56)
+    put::<4>(s, at, v.to_le_bytes());
 }
 
 // A number stored in eight bytes at an offset.
@@ -97,40 +80,16 @@ pub fn write_u64(s: &mut [u8], at: usize, v: u64)
     requires { at + 8 ≤ length s.old }
     ensures { s.new ≡ patch s.old at (le 8 v) }
 {
-    s[at] = (v % 256) as u8;
-    s[at + 1] = ((v >> 8) % 256) as u8;
-    s[at + 2] = ((v >> 16) % 256) as u8;
-    s[at + 3] = ((v >> 24) % 256) as u8;
-    s[at + 4] = ((v >> 32) % 256) as u8;
-    s[at + 5] = ((v >> 40) % 256) as u8;
-    s[at + 6] = ((v >> 48) % 256) as u8;
-    s[at + 7] = ((v >> 56) % 256) as u8;
+    put::<8>(s, at, v.to_le_bytes());
 }
 
-// Zeros from an index up to another.
+// Zeros from an index up to another: std's `fill`, said as the definitions say what is stored.
 pub fn clear(s: &mut [u8], from: usize, to: usize)
     requires from_le_to { from ≤ to }
     requires to_in_bounds { to ≤ length s.old }
     ensures { s.new ≡ patch s.old from (replicate (to - from) 0) }
 {
-    let mut i = from;
-    while i < to {
-        s[i] = 0;
-        i += 1;
-    }
-}
-
-// All of src into dst, from an index on.
-pub fn copy_in(src: &[u8], dst: &mut [u8], at: usize)
-    requires { at + length src.now ≤ length dst.old }
-    ensures { dst.new ≡ patch dst.old at src.now }
-{
-    let n = src.len();
-    let mut i = 0;
-    while i < n {
-        dst[at + i] = src[i];
-        i += 1;
-    }
+    s[from..to].fill(0);
 }
 
 // Whether n bytes from an index on are 0. No early way out: the or of the bytes.
@@ -139,10 +98,8 @@ pub fn run_zero(s: &[u8], at: usize, n: usize) -> bool
     ensures { result ≡ all_below n (byte_is s.now at 0) }
 {
     let mut acc: u8 = 0;
-    let mut i = 0;
-    while i < n {
-        acc = acc | s[at + i];
-        i += 1;
+    for byte in &s[at..at + n] {
+        acc |= *byte;
     }
     acc == 0
 }
@@ -173,12 +130,11 @@ pub fn all_zero(s: &[u8], from: usize, to: usize) -> bool
     if to - from < BLOCK {
         return few_zero(s, from, to);
     }
-    let mut i = from;
-    while BLOCK < to - i {
+    let step = BLOCK;
+    for i in (from..to - BLOCK).step_by(step) {
         if !run_zero(s, i, BLOCK) {
             return false;
         }
-        i += BLOCK;
     }
     run_zero(s, to - BLOCK, BLOCK)
 }

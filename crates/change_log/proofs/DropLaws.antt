@@ -1,38 +1,20 @@
 -- The log closed up when changes have ended: one record moved, one turn of the loop, and its end. Assumes nothing.
 use mathlib.Core.Path.{◌≡◌, refl, sym, ap, ◌∙◌}
-use mathlib.Core.Bool.{Bool, true, false, not, cond}
+use mathlib.Core.Bool.{Bool, true, false, cond}
 use mathlib.Core.List.{List, [], ◌∷◌, ◌++◌, flat_map}
-use Prim.Native.Nat.{ℕ, suc, ◌+◌, ◌-◌, ◌*◌, ◌≤◌, ◌<◌}
+use Prim.Native.Nat.{ℕ, ◌+◌, ◌-◌, ◌*◌, ◌≤◌, ◌<◌}
 use native.Mathlib.Omega.{arith}
-use native.Mathlib.Numerals.{towards_suc}
-use lib.ListN.{length, take, get_or, set, replicate, replicate-append-replicate}
-use lib.Seq.{take_all}
-use Rattle.rules.specs.Base.{keep}
-use Rattle.rules.specs.Sets.{Set}
+use lib.ListN.{length, get_or, replicate, replicate-append-replicate}
 use Rattle.rules.specs.Window.{LogRecord}
-use Rattle.rules.specs.Effects.{is_unowned, unowned}
 use Rattle.layout.specs.Codec.{no_record, record_bytes, log_section}
 use Rattle.layout.specs.Records.{Tabled}
 use Rattle.layout.proofs.RecordLaws.{log_flat}
 use Rattle.cells.specs.Part.{part, patch}
-use Rattle.cells.proofs.PartLaws.{part_cons, sets_patch}
-use Rattle.cells.proofs.NumLaws.{part4}
-use Rattle.cells.proofs.CloseLaws.{Closing, keep-next, closing_none, closing_here, closing_turn, closing_all}
+use Rattle.cells.proofs.CloseLaws.{Closing, closing_none, closing_here, closing_turn, closing_all}
 use Rattle.change_log.proofs.LogLaws.{length_record}
 
--- A RECORD MOVED: its six bytes, as straight-line code reads them
-pub record_bytes_lem : (l : List ℕ) (at : ℕ) → at + 6 ≤ length l
-    → part l at 6 ≡ get_or l at 0 ∷ get_or l (at + 1) 0 ∷ get_or l (at + 2) 0 ∷ get_or l (at + 3) 0 ∷ get_or l (at + 4) 0 ∷ get_or l (at + 5) 0 ∷ []
-record_bytes_lem l at h = simp towards_suc (part_cons l at 5 (omega arith) ∙ ap (λ (r : List ℕ). get_or l at 0 ∷ r) (part_cons l (suc at) 4 (omega arith)
-    ∙ ap (λ (r : List ℕ). get_or l (suc at) 0 ∷ r) (simp towards_suc at (part4 l (suc (suc at)) (omega arith)))))
-
--- and the stores of six bytes that such code leaves
-pub record_stores : (l : List ℕ) (at a b c d e f : ℕ) → at + 6 ≤ length l
-    → set (set (set (set (set (set l at a) (at + 1) b) (at + 2) c) (at + 3) d) (at + 4) e) (at + 5) f ≡ patch l at (a ∷ b ∷ c ∷ d ∷ e ∷ f ∷ [])
-record_stores l at a b c d e f h = simp towards_suc (sets_patch l at (a ∷ b ∷ c ∷ d ∷ e ∷ f ∷ []) h)
-
 -- THE LOOP: the zeros behind the records
-abbrev unused : List LogRecord → List ℕ
+abbrev pub unused : List LogRecord → List ℕ
 unused l = replicate ((2048 - length l) * 6) 0
 
 -- i records of l were read, and j are left, those of k
@@ -72,21 +54,7 @@ log-all l log n j k out e h m o = record {
       ∙ cleared k (n * 6 - j * 6) ((2048 - length l) * 6) (omega (arith, m.count, m.few)) (omega (arith, m.count, m.few));
 }
 
--- RECORDS DROPPED: those that the set owns
-abbrev pub Dropping : Set → List LogRecord → List ℕ → ℕ → ℕ → Type 0
-Dropping s l log i j = ClosingLog l log i j (unowned s (take i l))
-
-pub dropping_none : (s : Set) (l : List LogRecord) (log : List ℕ) → length l ≤ 2048 → log ≡ log_section l → Dropping s l log 0 0
-unfolding unowned keep
-dropping_none s l log h e = log_none l log h e
-
-pub dropping_turn : (s : Set) (l : List LogRecord) (log : List ℕ) (i j : ℕ) → Dropping s l log i j → i < length l → (owner : ℕ) → ((q : LogRecord) → part log (i * 6) 6 ≡ record_bytes q → owner ≡ q.owner)
-    → (b : Bool) → b ≡ not (s owner) → (r : ℕ) (out : List ℕ) → i * 6 + 6 ≤ length log
-    → r ≡ cond b (j + 1) j → out ≡ cond b (patch log (j * 6) (part log (i * 6) 6)) log → Dropping s l out (i + 1) r
-unfolding unowned is_unowned
-dropping_turn s l log i j m h owner f b e = log_turn l log i j (unowned s (take i l)) m h b (unowned s (take (i + 1) l))
-    (keep-next (is_unowned s) no_record l i h b (e ∙ ap (λ (o : ℕ). not (s o)) (f (get_or l i no_record) (log-here l log i j (unowned s (take i l)) m h))))
-
-pub dropping_all : (s : Set) (l : List LogRecord) (log : List ℕ) (n j : ℕ) (out : List ℕ) → length l ≡ n → n ≤ 2048 → Dropping s l log n j
-    → out ≡ patch log (j * 6) (replicate (n * 6 - j * 6) 0) → Tabled log_section (unowned s l) j out
-dropping_all s l log n j out e h m = log-all l log n j (unowned s l) out e h (rw (take_all n l (omega arith)) at m)
+-- RECORDS CLOSED UP: those of k, of n that there were
+pub closed_up : (k l : List LogRecord) (n r : ℕ) (out : List ℕ) → length l ≡ n → n ≤ 2048 → r ≤ n → r ≡ length k
+    → out ≡ flat_map record_bytes k ++ (replicate (n * 6 - r * 6) 0 ++ unused l) → Tabled log_section k r out
+closed_up k l n r out e h few count o = record { count = count; bytes = o ∙ cleared k (n * 6 - r * 6) ((2048 - length l) * 6) (omega arith) (omega arith) }

@@ -1,6 +1,6 @@
 -- The log handed over: one record, one turn of the loop, and its end. Assumes nothing.
 use mathlib.Core.Path.{◌≡◌, refl, sym, ap, ◌∙◌}
-use mathlib.Core.Bool.{Bool, true, false, ◌&&◌, ◌||◌}
+use mathlib.Core.Bool.{Bool, true, false, ◌&&◌}
 use mathlib.Core.List.{List, [], ◌∷◌, ◌++◌, map}
 use Prim.Native.Nat.{ℕ, zero, suc, ◌+◌, ◌*◌, ◌<◌}
 use native.Mathlib.Nat.{le_of_suc-le-suc, not-suc-le-zero}
@@ -12,25 +12,26 @@ use Rattle.rules.specs.Sets.{Set}
 use Rattle.rules.specs.Window.{LogRecord}
 use Rattle.rules.specs.Effects.{move_log, moved_record}
 use Rattle.layout.specs.Codec.{no_record, log_section}
-use Rattle.sets.specs.Entries.{on_entries}
+use Rattle.scope.specs.declared.HandOver.{HandOver}
+use Rattle.scope.specs.Entries.{entries_of, takes}
 use Rattle.change_log.proofs.LogLaws.{owner_read, entry_read, owner_store}
 
 -- ONE RECORD, by the test of its two bytes
-module _ (s : List ℕ) (l : List LogRecord) (i from to : ℕ) (all : Bool) (entry : ℕ) (e : s ≡ log_section l) (h : i < 2048) where
+module _ (s : List ℕ) (l : List LogRecord) (i : ℕ) (over : HandOver) (e : s ≡ log_section l) (h : i < 2048) where
   -- the test of the bytes is the test of the record
-  test : (b : Bool) → eqb (get_or s (i * 6) 0) from && (all || eqb (get_or s (i * 6 + 1) 0) entry) ≡ b → eqb (get_or l i no_record).owner from && on_entries all entry (get_or l i no_record).entry ≡ b
-  unfolding on_entries
+  test : (b : Bool) → takes over (get_or s (i * 6) 0) (get_or s (i * 6 + 1) 0) ≡ b → eqb (get_or l i no_record).owner over.from && entries_of over.scope (get_or l i no_record).entry ≡ b
+  unfolding takes
   test b q = rw (← owner_read s l i e h, ← entry_read s l i e h) q
 
   -- it goes over
-  pub hand_yes : i < length l → eqb (get_or s (i * 6) 0) from && (all || eqb (get_or s (i * 6 + 1) 0) entry) ≡ true
-      → set s (i * 6) to ≡ log_section (set l i (moved_record from to (on_entries all entry) (get_or l i no_record)))
+  pub hand_yes : i < length l → takes over (get_or s (i * 6) 0) (get_or s (i * 6 + 1) 0) ≡ true
+      → set s (i * 6) over.to ≡ log_section (set l i (moved_record over.from over.to (entries_of over.scope) (get_or l i no_record)))
   unfolding moved_record
-  hand_yes t q = owner_store s l i e h to t (moved_record from to (on_entries all entry) (get_or l i no_record)) (rw (test true q))
+  hand_yes t q = owner_store s l i e h over.to t (moved_record over.from over.to (entries_of over.scope) (get_or l i no_record)) (rw (test true q))
 
   -- it stays
-  pub hand_no : eqb (get_or s (i * 6) 0) from && (all || eqb (get_or s (i * 6 + 1) 0) entry) ≡ false
-      → s ≡ log_section (set l i (moved_record from to (on_entries all entry) (get_or l i no_record)))
+  pub hand_no : takes over (get_or s (i * 6) 0) (get_or s (i * 6 + 1) 0) ≡ false
+      → s ≡ log_section (set l i (moved_record over.from over.to (entries_of over.scope) (get_or l i no_record)))
   unfolding moved_record
   hand_no q = rw (test false q) (e ∙ ap log_section (sym (set-get_or l i no_record)))
 

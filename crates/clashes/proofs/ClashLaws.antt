@@ -3,11 +3,12 @@ use mathlib.Core.Path.{◌≡◌, refl, sym, ◌∙◌, ap, ap₂, fun_ext}
 use mathlib.Core.Logic.{◌≢◌}
 use mathlib.Core.Bool.{Bool, true, false, not, ◌&&◌, ◌||◌, or-false, or_comm}
 use mathlib.Core.List.{List}
-use Prim.Native.Nat.{ℕ, suc, ◌+◌, ◌-◌, ◌*◌, ◌≤◌, ◌<◌}
+use Prim.Native.Nat.{ℕ, suc, ◌+◌, ◌-◌, ◌≤◌, ◌<◌}
 use native.Mathlib.Decide.{dec_lt}
 use native.Mathlib.Omega.{arith}
 use lib.Dec.{ltb, eqb}
 use lib.ListN.{length, get_or, take, drop}
+use Rattle.std.proofs.lemmas.List.{length-take-le, length-drop}
 use borrow.Author.Tests.{eqb-true, eq-eqb, ne_eqb, eqb-false, not-true, lt-ltb, ltb-true, leb-true, leb-false}
 use Rattle.rules.specs.Base.{any_below, lowest_or_zero, any, rising}
 use Rattle.rules.specs.Sets.{Set}
@@ -15,19 +16,18 @@ use Rattle.rules.specs.Window.{PermitRecord, Window, permit_key}
 use Rattle.rules.specs.Locks.{clash, contains, permitted, blocking}
 use Rattle.rules.proofs.BaseLaws.{both_ways, and_both, and_left, and_right, any_intro, any_elim, all_below_intro, all_below_at, Below, under, over, below, Same, same, other, same?, eqb_same}
 use Rattle.rules.proofs.ListLaws.{any_at, any_place}
-use Rattle.layout.specs.Codec.{no_permit, lock_section, permit_section}
-use Rattle.layout.specs.Records.{permit_at}
+use Rattle.layout.specs.Codec.{no_permit, lock_section}
 use Rattle.layout.proofs.CodecLaws.{each_mode}
-use Rattle.layout.proofs.ReadLaws.{permit_read}
 use Rattle.rules.proofs.BoundLaws.{any_or, all_ext}
 use Rattle.rules.proofs.PairLaws.{nobody_blocks, others_permit, pair_permitted, entry_permitted}
 use Rattle.locks.specs.Held.{Modes, in_mode, holding}
 use Rattle.locks.proofs.RowLaws.{row_holders}
-use Rattle.beside.specs.Permits.{any_of, FirstOf}
+use Rattle.beside.specs.Permits.{any_of}
 use Rattle.beside.specs.Beside.{contains_held, beside, holder, other_holder, stands_beside, writer_blocker, entry_fits}
 use Rattle.beside.proofs.PlaceLaws.{any_same}
 use Rattle.clashes.specs.LocksAndPermits.{LocksAndPermits}
-use Rattle.clashes.specs.Permits.{permit_from, from_entry}
+use Rattle.few_permits.specs.Rows.{permit_row}
+use Rattle.clashes.specs.Permits.{permit_from, from_entry, FirstOf}
 use Rattle.clashes.specs.Contested.{contested}
 use Rattle.clashes.proofs.PlaceLaws.{part_permit, entries_rise}
 use Rattle.clashes.proofs.ContestedLaws.{contested_none}
@@ -46,30 +46,30 @@ and_mid false b true c = refl
 and_mid false b false c = refl
 
 -- before the place where a search for e begins stand those of lower entries: so before the place that it finds
-lower-before : (bs : List ℕ) (count e next at : ℕ) → ((j : ℕ) → j < next → (permit_at bs j).entry < e) → FirstOf (from_entry e) bs count next at → (j : ℕ) → j < at → (permit_at bs j).entry < e
+lower-before : (t : ℕ → PermitRecord) (count e next at : ℕ) → ((j : ℕ) → j < next → (t j).entry < e) → FirstOf (from_entry e) t count next at → (j : ℕ) → j < at → (t j).entry < e
 unfolding from_entry
-lower-before bs count e next at lower first j h = go (dec_lt j next)
+lower-before t count e next at lower first j h = go (dec_lt j next)
   where
-    go : Dec (j < next) → (permit_at bs j).entry < e
+    go : Dec (j < next) → (t j).entry < e
     go (yes l) = lower j l
-    go (no l) = leb-false e (permit_at bs j).entry (first.before.skipped j (omega arith) h)
+    go (no l) = leb-false e (t j).entry (first.skipped j (omega arith) h)
 
 -- so before the first of e, and before the first past e
-module _ (bs : List ℕ) (count e next from to : ℕ) (lower : (j : ℕ) → j < next → (permit_at bs j).entry < e)
-    (first : FirstOf (from_entry e) bs count next from) (last : FirstOf (from_entry (e + 1)) bs count from to) where
-  lower-first : (j : ℕ) → j < from → (permit_at bs j).entry < e
-  lower-first = lower-before bs count e next from lower first
+module _ (t : ℕ → PermitRecord) (count e next from to : ℕ) (lower : (j : ℕ) → j < next → (t j).entry < e)
+    (first : FirstOf (from_entry e) t count next from) (last : FirstOf (from_entry (e + 1)) t count from to) where
+  lower-first : (j : ℕ) → j < from → (t j).entry < e
+  lower-first = lower-before t count e next from lower first
 
-  pub lower_last : (j : ℕ) → j < to → (permit_at bs j).entry < e + 1
-  lower_last = lower-before bs count (e + 1) from to (λ j l. omega (arith, lower-first j l)) last
+  pub lower_last : (j : ℕ) → j < to → (t j).entry < e + 1
+  lower_last = lower-before t count (e + 1) from to (λ j l. omega (arith, lower-first j l)) last
 
   -- in order, those of e are the ones between
-  module _ (order : (i j : ℕ) → i ≤ j → j < count → (permit_at bs i).entry ≤ (permit_at bs j).entry) where
-    own : (j : ℕ) → from ≤ j → j < to → (permit_at bs j).entry ≡ e
+  module _ (order : (i j : ℕ) → i ≤ j → j < count → (t i).entry ≤ (t j).entry) where
+    own : (j : ℕ) → from ≤ j → j < to → (t j).entry ≡ e
     unfolding from_entry
-    own j h l = omega (arith, lower_last j l, leb-true e (permit_at bs from).entry (first.found (omega (arith, last.before.to))), order from j h (omega (arith, last.before.to)))
+    own j h l = omega (arith, lower_last j l, leb-true e (t from).entry (first.found (omega (arith, last.to))), order from j h (omega (arith, last.to)))
 
-    owned : (j : ℕ) → j < count → (permit_at bs j).entry ≡ e → (from ≤ j) × (j < to)
+    owned : (j : ℕ) → j < count → (t j).entry ≡ e → (from ≤ j) × (j < to)
     unfolding from_entry
     owned j h q = (go (dec_lt j from), at (dec_lt j to))
       where
@@ -79,47 +79,43 @@ module _ (bs : List ℕ) (count e next from to : ℕ) (lower : (j : ℕ) → j <
 
         at : Dec (j < to) → j < to
         at (yes l) = l
-        at (no l) = absurd (omega (arith, leb-true (e + 1) (permit_at bs to).entry (last.found (omega arith)), order to j (omega arith) h))
+        at (no l) = absurd (omega (arith, leb-true (e + 1) (t to).entry (last.found (omega arith)), order to j (omega arith) h))
 
 -- a test of those of e, on the section's records
-module _ (ps : List PermitRecord) (bs : List ℕ) (section : bs ≡ permit_section ps) (most : length ps ≤ 1024) (order : rising permit_key ps ≡ true) (e next from to : ℕ)
-    (lower : (j : ℕ) → j < next → (permit_at bs j).entry < e)
-    (first : FirstOf (from_entry e) bs (length ps) next from) (last : FirstOf (from_entry (e + 1)) bs (length ps) from to) where
-  record_at_lem : (j : ℕ) → j < length ps → permit_at bs j ≡ get_or ps j no_permit
-  record_at_lem j h = rw section (permit_read ps j (omega arith))
+module _ (ps : List PermitRecord) (t : ℕ → PermitRecord) (is : (j : ℕ) → j < length ps → t j ≡ get_or ps j no_permit) (order : rising permit_key ps ≡ true) (e next from to : ℕ)
+    (lower : (j : ℕ) → j < next → (t j).entry < e)
+    (first : FirstOf (from_entry e) t (length ps) next from) (last : FirstOf (from_entry (e + 1)) t (length ps) from to) where
+  rise : (i j : ℕ) → i ≤ j → j < length ps → (t i).entry ≤ (t j).entry
+  rise i j h l = rw (is i (omega arith), is j l) (entries_rise ps order i j h l)
 
-  rise : (i j : ℕ) → i ≤ j → j < length ps → (permit_at bs i).entry ≤ (permit_at bs j).entry
-  rise i j h l = rw (record_at_lem i (omega arith), record_at_lem j l) (entries_rise ps order i j h l)
-
-  own_any : (q : PermitRecord → Bool) → any_of (to - from) (permit_from bs from) q ≡ any (λ p. eqb p.entry e && q p) ps
+  own_any : (q : PermitRecord → Bool) → any_of (to - from) (permit_from t from) q ≡ any (λ p. eqb p.entry e && q p) ps
   unfolding any_of permit_from
   own_any q = both_ways _ _
-      (λ f. let (j, h, g) = any_elim (to - from) _ f in here (from + j) (omega arith) (omega (arith, last.before.to)) g)
-      (λ f. let (j, h, g) = any_place (λ p. eqb p.entry e && q p) no_permit ps f in there j h (rw (← record_at_lem j h) at g))
+      (λ f. let (j, h, g) = any_elim (to - from) _ f in here (from + j) (omega arith) (omega (arith, last.to)) g)
+      (λ f. let (j, h, g) = any_place (λ p. eqb p.entry e && q p) no_permit ps f in there j h (rw (← is j h) at g))
     where
-      here : (j : ℕ) → from ≤ j → j < to → q (permit_at bs j) ≡ true → any (λ p. eqb p.entry e && q p) ps ≡ true
-      here j h l g = any_at (λ p. eqb p.entry e && q p) no_permit ps j (omega (arith, last.before.to)) (rw (← record_at_lem j (omega (arith, last.before.to))) (and_both (eqb (permit_at bs j).entry e) (q (permit_at bs j)) (rw (own bs (length ps) e next from to lower first last rise j h l) (eqb_same e)) g))
+      here : (j : ℕ) → from ≤ j → j < to → q (t j) ≡ true → any (λ p. eqb p.entry e && q p) ps ≡ true
+      here j h l g = any_at (λ p. eqb p.entry e && q p) no_permit ps j (omega (arith, last.to)) (rw (← is j (omega (arith, last.to))) (and_both (eqb (t j).entry e) (q (t j)) (rw (own t (length ps) e next from to lower first last rise j h l) (eqb_same e)) g))
 
-      there : (j : ℕ) → j < length ps → eqb (permit_at bs j).entry e && q (permit_at bs j) ≡ true → any_below (to - from) (λ j. q (permit_at bs (from + j))) ≡ true
+      there : (j : ℕ) → j < length ps → eqb (t j).entry e && q (t j) ≡ true → any_below (to - from) (λ j. q (t (from + j))) ≡ true
       there j h g =
-          let (l, m) = owned bs (length ps) e next from to lower first last rise j h (eqb-true _ _ (and_left (eqb (permit_at bs j).entry e) _ g)) in
+          let (l, m) = owned t (length ps) e next from to lower first last rise j h (eqb-true _ _ (and_left (eqb (t j).entry e) _ g)) in
           let k : from + (j - from) ≡ j = omega arith in
-          any_intro (to - from) (λ j. q (permit_at bs (from + j))) (j - from) (omega arith) (rw k (and_right (eqb (permit_at bs j).entry e) _ g))
+          any_intro (to - from) (λ j. q (t (from + j))) (j - from) (omega arith) (rw k (and_right (eqb (t j).entry e) _ g))
 
   -- they are the permits that the rules look at
-  own_permitted : (g t m : ℕ) → any_of (to - from) (permit_from bs from) (grants g t m) ≡ permitted ps g t e m
+  own_permitted : (g u m : ℕ) → any_of (to - from) (permit_from t from) (grants g u m) ≡ permitted ps g u e m
   unfolding grants permitted
-  own_permitted g t m = own_any (grants g t m) ∙ ap (λ f. any f ps) (fun_ext (λ p. and_mid (eqb p.giver g) (eqb p.taker t || eqb p.taker 0) (eqb p.entry e) (contains p.ops m)))
+  own_permitted g u m = own_any (grants g u m) ∙ ap (λ f. any f ps) (fun_ext (λ p. and_mid (eqb p.giver g) (eqb p.taker u || eqb p.taker 0) (eqb p.entry e) (contains p.ops m)))
 
 -- permits that say the same
 entry_same : (n : ℕ) (t t' : ℕ → PermitRecord) (r x : Set) → ((j : ℕ) → j < n → t j ≡ t' j) → entry_fits n t r x ≡ entry_fits n t' r x
 unfolding entry_fits writer_blocker stands_beside
 entry_same n t t' r x h = all_ext _ _ 256 (λ a ha. ap (λ s. not (x a) || eqb (lowest_or_zero 256 (blocking (holder r x) s a)) 0) (fun_ext (λ b. any_same n t t' (beside r x a b) (beside r x a b) (λ j l. ap (beside r x a b) (h j l)))))
 
--- what the code finds of an entry in the part of the bytes that has its permits: r' and x' are its readers and writers in code
-pub entry_found : (bs : List ℕ) (from to : ℕ) {r x r' x' : Set} {found : Bool} → ((k : ℕ) → r' k ≡ r k) → ((k : ℕ) → x' k ≡ x k)
-    → found ≡ entry_fits (to - from) (permit_at (take (to * 4 - from * 4) (drop (from * 4) bs))) r' x' → found ≡ entry_fits (to - from) (permit_from bs from) r x
-entry_found bs from to {r} {x} hr hx e = e ∙ ap₂ (entry_fits (to - from) _) (fun_ext hr) (fun_ext hx) ∙ entry_same (to - from) _ (permit_from bs from) r x (λ j h. part_permit bs from (to * 4 - from * 4) j (omega arith))
+-- what the code finds of an entry: r' and x' are its readers and writers in code
+pub entry_found : (n : ℕ) (t : ℕ → PermitRecord) {r x r' x' : Set} {found : Bool} → ((k : ℕ) → r' k ≡ r k) → ((k : ℕ) → x' k ≡ x k) → found ≡ entry_fits n t r' x' → found ≡ entry_fits n t r x
+entry_found n t hr hx e = e ∙ ap₂ (entry_fits n t) (fun_ext hr) (fun_ext hx)
 
 -- CLASHING PAIRS
 -- nobody is in the way of a writer where permits let every other holder stand beside it, and back where change 0 holds nothing
@@ -247,9 +243,14 @@ module _ (locks permits : List ℕ) (entries count : ℕ) (W : Window) (h : Lock
   pub turn_quiet : ((held : ℕ → ℕ → ℕ) → locks ≡ lock_section held → r ≡ contested (in_mode 1 (held e)) (in_mode 2 (held e))) → r ≡ false → entry_permitted W e ≡ true
   turn_quiet found q = quiet_permitted W h.modes h.given h.none_above h.nobody e (sym (found W.held h.lock_bytes) ∙ q)
 
-  -- an entry that is looked at, with its permits
-  pub turn_found : (next from to : ℕ) → count ≤ 1024 → ((j : ℕ) → j < next → (permit_at permits j).entry < e) → FirstOf (from_entry e) permits count next from → FirstOf (from_entry (e + 1)) permits count from to
-      → ((held : ℕ → ℕ → ℕ) → locks ≡ lock_section held → r ≡ entry_fits (to - from) (permit_from permits from) (in_mode 1 (held e)) (in_mode 2 (held e))) → r ≡ entry_permitted W e
-  turn_found next from to most lower first last found = found W.held h.lock_bytes
-      ∙ entry-permitted W h.modes h.given h.none_above h.nobody e (to - from) (permit_from permits from)
-      (own_permitted W.permits permits h.permits_stored (rw h.permit_count most) h.in_order e next from to lower (rw h.permit_count first) (rw h.permit_count last))
+  -- an entry that is looked at, with its permits: a part of the rows
+  pub turn_found : (rows : List (List ℕ)) → length rows ≡ count → ((j : ℕ) → j < length W.permits → permit_row rows j ≡ get_or W.permits j no_permit) → (next from to : ℕ) → ((j : ℕ) → j < next → (permit_row rows j).entry < e)
+      → FirstOf (from_entry e) (permit_row rows) (length rows) next from → FirstOf (from_entry (e + 1)) (permit_row rows) (length rows) from to
+      → ((held : ℕ → ℕ → ℕ) → locks ≡ lock_section held → r ≡ entry_fits (length (take (to - from) (drop from rows))) (permit_row (take (to - from) (drop from rows))) (in_mode 1 (held e)) (in_mode 2 (held e))) → r ≡ entry_permitted W e
+  turn_found rows len is next from to lower first last found =
+      let all : length rows ≡ length W.permits = len ∙ sym h.permit_count in
+      let long : length (take (to - from) (drop from rows)) ≡ to - from = length-take-le (to - from) (drop from rows) (omega (arith, length-drop from rows, last.to)) in
+      rw long at (found W.held h.lock_bytes)
+      ∙ entry_same (to - from) _ (permit_from (permit_row rows) from) _ _ (λ j l. part_permit rows from (to - from) j l)
+      ∙ entry-permitted W h.modes h.given h.none_above h.nobody e (to - from) (permit_from (permit_row rows) from)
+      (own_permitted W.permits (permit_row rows) is h.in_order e next from to lower (rw all at first) (rw all at last))

@@ -8,20 +8,21 @@ use lib.Dec.{eqb}
 use borrow.Author.Tests.{not-true}
 use Rattle.rules.specs.Base.{all_below, any_below}
 use Rattle.rules.specs.Sets.{Set, reach}
+use Rattle.rules.specs.Window.{TieRecord}
 use Rattle.rules.proofs.BaseLaws.{and_eqs, any_intro, any_elim, any_below_none, all_below_intro, all_below_at, both_ways, no_true, eqb_same, Same, same, other, same?}
 use Rattle.rules.proofs.PathLaws.{Way, stay, on, way_join, Bounded, reach_ways}
 use Rattle.rules.proofs.SourceLaws.{source}
 use Rattle.layout.proofs.SectionLaws.{Bytes}
-use Rattle.cycles.specs.Graph.{Graph, graph_of, edge, no_cycle}
+use Rattle.cycles.specs.Graph.{Graph, graph_in, edge, no_cycle}
 
 -- labels below 256
 abbrev pub Small : Graph → ℕ → Type 0
 Small G m = (j : ℕ) → j < m → (G.from j < 256) × (G.to j < 256)
 
 -- labels that are bytes
-pub small_graph : (bs labels : List ℕ) → Bytes labels → (m : ℕ) → Small (graph_of bs labels) m
-unfolding graph_of
-small_graph bs labels h m j l = (h _, h _)
+pub small_graph : (t : ℕ → TieRecord) (labels : List ℕ) → Bytes labels → (m : ℕ) → Small (graph_in t labels) m
+unfolding graph_in
+small_graph t labels h m j l = (h _, h _)
 
 -- no path leads from an arrow's end to its beginning
 abbrev pub Free : Graph → ℕ → Type 0

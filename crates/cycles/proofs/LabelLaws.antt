@@ -9,6 +9,7 @@ use native.Mathlib.Omega.{arith}
 use lib.Dec.{eqb}
 use lib.ListN.{length, get_or, length-map, get_or-eq_default}
 use borrow.Author.Tests.{ne_eqb}
+use Rattle.std.proofs.lemmas.List.{get_or-map}
 use Rattle.rules.specs.Base.{table}
 use Rattle.rules.specs.Sets.{Rel}
 use Rattle.rules.specs.Window.{TieRecord}
@@ -19,7 +20,6 @@ use Rattle.rules.proofs.TieLaws.{group_is}
 use Rattle.layout.specs.Records.{tie_of}
 use Rattle.layout.proofs.SectionLaws.{Bytes, length-table, get_or_table0}
 use Rattle.cycles.specs.Graph.{own_labels, instead, joined, labelled}
-use Rattle.cycles.proofs.LoopLaws.{get_or_map}
 
 -- a label put in its own place
 instead_self : (a x : ℕ) → instead a a x ≡ x
@@ -106,7 +106,7 @@ module _ (R : Rel) (both : (a b : ℕ) → R a b ≡ true → R b a ≡ true) (t
 
     -- the new label of k
     at : (k : ℕ) → k < 256 → get_or (map (instead B A) l) k 0 ≡ instead B A (get_or l k 0)
-    at k h = get_or_map (instead B A) l k (omega arith)
+    at k h = get_or-map (instead B A) l k 0 0 (omega arith)
 
     -- the new labels agree at the ends of the first ties and of this one
     new_agree : (i : ℕ) → i < suc j → is_group (t i).kind ≡ true → instead B A (get_or l (t i).leader 0) ≡ instead B A (get_or l (t i).follower 0)

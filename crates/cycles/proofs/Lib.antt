@@ -1,6 +1,6 @@
 -- What is proved of arrows between groups.
--- a list filled from the front, a list of which each element is changed
-pub mod LoopLaws
+-- ties in rows of four bytes, and whether one of them is an arrow
+pub mod RowLaws
 -- two changes have one label just where they are of one group
 pub mod LabelLaws
 -- arrows close no cycle just where taking away what none comes to leaves nothing

@@ -1,20 +1,20 @@
 -- Arrows linked one by one in lists, and counted. Assumes nothing.
 use mathlib.Core.Path.{◌≡◌, refl, sym, ap, fun_ext, ◌∙◌}
 use mathlib.Core.Bool.{Bool, true, false, cond, not, ◌&&◌, ◌||◌, or-false, false≢true, or-true}
-use mathlib.Core.List.{List}
 use Prim.Native.Nat.{ℕ, suc, ◌+◌, ◌≤◌, ◌<◌}
 use native.Mathlib.Nat.{not-suc-le-zero}
 use native.Mathlib.Numerals.{add-one}
 use native.Mathlib.Omega.{arith}
 use lib.Dec.{eqb}
-use lib.ListN.{length, get_or, set, replicate, length-replicate, get_or-replicate, get_or-eq_default}
+use lib.ListN.{length, get_or, set, replicate, length-set, get_or-replicate, get_or-eq_default}
 use lib.Seq.{get_or-set_same, get_or-set_other}
 use borrow.Author.Tests.{ne_eqb}
 use Rattle.rules.specs.Base.{any_below, count_below}
 use Rattle.rules.specs.Sets.{everything, only}
 use Rattle.rules.proofs.BaseLaws.{count-le, Below, under, over, below, eqb_same, Same, same, other, same?}
+use Rattle.cycles.specs.declared.Arrows.{Arrows}
 use Rattle.cycles.specs.Graph.{Graph, comes, leads, last_from}
-use Rattle.cycles.specs.Links.{Lists, Room, Ends, Blank, NoEnds, with_arrow, with_tie, Linked}
+use Rattle.cycles.specs.Links.{Lists, lists_of, with_arrow, with_tie, Linked}
 use Rattle.cycles.proofs.CountLaws.{comes_none, comes_other, comes-one, last_none, last_other, last_one}
 
 -- empty lists hold no arrow
@@ -114,10 +114,25 @@ linked_few G m s p l k = go (below k 256)
     go (under h) = rw (p.incoming k h) (count-le m _)
     go (over h) = rw (get_or-eq_default s.incoming 0 {n = k} (omega arith)) (omega arith)
 
--- blank lists have room
-pub blank_room : (ties : List ℕ) (count : ℕ) (labels f n w : List ℕ) → Blank ties count labels f n w → Room f n w
-blank_room ties count labels f n w b = record { by_label = ap length b.no_heads ∙ length-replicate {A = ℕ} 256 0; by_place = b.next-long; counts = ap length b.no_counts ∙ length-replicate {A = ℕ} 256 0 }
+-- the arrays are as long as their types say
+pub record Room (a : Arrows) : Type 0 where
+  -- a head for each label
+  pub by_label : length a.heads ≡ 256
+  -- a place for each tie
+  pub by_place : length a.next ≡ 512
+  -- a count for each label
+  pub counts : length a.incoming ≡ 256
 
--- and words that are 0 are four
-pub blank_ends : (l b : List ℕ) → NoEnds l b → Ends l b
-blank_ends l b e = record { leading = ap length e.no_leaders ∙ length-replicate {A = ℕ} 4 0; led = ap length e.no_blocked ∙ length-replicate {A = ℕ} 4 0 }
+-- and stay so
+pub room_kept : (a : Bool) (j from to : ℕ) (s r : Arrows) → lists_of r ≡ with_tie a j from to (lists_of s) → Room s → Room r
+unfolding with_tie with_arrow
+room_kept true j from to s r e p = record {
+  by_label = ap (λ (l : Lists). length l.heads) e ∙ length-set s.heads from _ ∙ p.by_label;
+  by_place = ap (λ (l : Lists). length l.next) e ∙ length-set s.next j _ ∙ p.by_place;
+  counts = ap (λ (l : Lists). length l.incoming) e ∙ length-set s.incoming to _ ∙ p.counts;
+}
+room_kept false j from to s r e p = record {
+  by_label = ap (λ (l : Lists). length l.heads) e ∙ p.by_label;
+  by_place = ap (λ (l : Lists). length l.next) e ∙ p.by_place;
+  counts = ap (λ (l : Lists). length l.incoming) e ∙ p.counts;
+}

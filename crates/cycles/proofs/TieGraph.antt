@@ -3,7 +3,7 @@ use mathlib.Core.Path.{◌≡◌, refl, sym, ◌∙◌}
 use mathlib.Core.Bool.{Bool, true, false, false≢true}
 use mathlib.Core.Logic.{⊎_elim}
 use mathlib.Core.List.{List}
-use Prim.Native.Nat.{ℕ, ◌*◌, ◌≤◌, ◌<◌}
+use Prim.Native.Nat.{ℕ, ◌<◌}
 use native.Mathlib.Omega.{arith}
 use lib.ListN.{length, get_or}
 use Rattle.rules.specs.Base.{any_below}
@@ -12,20 +12,16 @@ use Rattle.rules.specs.Ties.{is_group, is_arrow, tied, grouped, acyclic}
 use Rattle.rules.proofs.BaseLaws.{or_left, or_cases, both_ways, any_below_none}
 use Rattle.rules.proofs.TieLaws.{grouped_both}
 use Rattle.rules.proofs.PathLaws.{Way, stay, on, Arrow, Arrows, one, more, extend, acyclic_paths}
-use Rattle.layout.specs.Codec.{no_tie, tie_section}
-use Rattle.layout.specs.Records.{ends_below, tie_at}
-use Rattle.layout.proofs.ReadLaws.{section_read, tied-place, tied_at}
-use Rattle.layout.proofs.SectionLaws.{Bytes}
-use Rattle.cycles.specs.Graph.{Graph, own_labels, labelled, arrow_at, graph_of, edge, no_cycle}
+use Rattle.layout.specs.Codec.{no_tie}
+use Rattle.layout.specs.Records.{ends_below}
+use Rattle.layout.proofs.ReadLaws.{tied-place, tied_at}
+use Rattle.cycles.specs.Graph.{Graph, own_labels, labelled, arrow_in, graph_in, edge, no_cycle}
 use Rattle.cycles.proofs.LabelLaws.{Labels, labels_all, small_labels}
 use Rattle.cycles.proofs.CycleLaws.{Small, small_graph, edge_at, edge-place, no_cycle_ways}
 
--- ties in bytes, and the labels of their groups
-module _ (bs : List ℕ) (ts : List TieRecord) (m : ℕ) (bytes : Bytes bs) (len : length ts ≡ m) (is : bs ≡ tie_section ts) (room : 4 * m ≤ length bs) where
-  -- the ties, their labels, and the arrows between labels
-  abbrev t : ℕ → TieRecord
-  t = tie_at bs
-
+-- a list of ties by place, its ends bytes, and the labels of its groups
+module _ (t : ℕ → TieRecord) (ts : List TieRecord) (m : ℕ) (len : length ts ≡ m) (is : (j : ℕ) → j < m → t j ≡ get_or ts j no_tie) (leaders : (j : ℕ) → (t j).leader < 256) (followers : (j : ℕ) → (t j).follower < 256) where
+  -- the labels, and the arrows between them
   abbrev labels : List ℕ
   labels = labelled t m own_labels
 
@@ -33,29 +29,15 @@ module _ (bs : List ℕ) (ts : List TieRecord) (m : ℕ) (bytes : Bytes bs) (len
   label k = get_or labels k 0
 
   abbrev G : Graph
-  G = graph_of bs labels
-
-  -- they are the list's
-  read : (j : ℕ) → j < length ts → t j ≡ get_or ts j no_tie
-  read j h = section_read bs ts m room is j (omega arith)
-
-  -- leaders are bytes
-  leaders : (j : ℕ) → (t j).leader < 256
-  unfolding tie_at
-  leaders j = bytes _
-
-  -- and followers
-  followers : (j : ℕ) → (t j).follower < 256
-  unfolding tie_at
-  followers j = bytes _
+  G = graph_in t labels
 
   -- a tie at a place stands
   stands : (k : ℕ → Bool) (j : ℕ) → j < m → k (t j).kind ≡ true → tied ts k (t j).leader (t j).follower ≡ true
-  stands k j h e = let q = read j (omega arith) in rw q (tied_at ts k j (omega arith) (rw q at e))
+  stands k j h e = let q = is j h in rw q (tied_at ts k j (omega arith) (rw q at e))
 
   -- the place of a tie that stands
   place : (k : ℕ → Bool) (a b : ℕ) → tied ts k a b ≡ true → (j : ℕ) × (j < m) × (k (t j).kind ≡ true) × ((t j).leader ≡ a) × ((t j).follower ≡ b)
-  place k a b e = let s = tied-place ts k a b e in let q = read s.place s.below in (s.place, omega (arith, s.below), rw q s.has, rw q s.leads, rw q s.follow)
+  place k a b e = let s = tied-place ts k a b e in let l : s.place < m = omega (arith, s.below) in let q = is s.place l in (s.place, l, rw q s.has, rw q s.leads, rw q s.follow)
 
   -- one label just where group ties lead
   by_label : Labels (grouped ts) t m labels
@@ -74,12 +56,12 @@ module _ (bs : List ℕ) (ts : List TieRecord) (m : ℕ) (bytes : Bytes bs) (len
 
   -- labels are bytes
   small : Small G m
-  small = small_graph bs labels (small_labels t m) m
+  small = small_graph t labels (small_labels t m) m
 
   -- PATHS OF ARROWS
   -- an arrow from group to group is one from label to label
   arrow-edge : {x y : ℕ} → Arrow ts x y → edge G m (label x) (label y) ≡ true
-  unfolding graph_of arrow_at
+  unfolding graph_in arrow_in
   arrow-edge a = let s = place is_arrow a.leader a.follower a.tie in
       rw (way_label a.leaves, sym (way_label a.enters)) (rw (s.3, s.4) at (edge_at G m s.0 s.1 s.2))
 
@@ -94,7 +76,7 @@ module _ (bs : List ℕ) (ts : List TieRecord) (m : ℕ) (bytes : Bytes bs) (len
 
   -- a path of arrows goes on along a way from label to label
   way_arrows : {b c : ℕ} → Way (edge G m) b c → (x y z : ℕ) → y < 256 → z < 256 → label y ≡ b → label z ≡ c → Arrows ts x y → Arrows ts x z
-  unfolding graph_of arrow_at
+  unfolding graph_in arrow_in
   way_arrows stay x y z hy hz ly lz p = extend ts p (by_label.reach y z hy hz (ly ∙ sym lz))
   way_arrows (on {b = d} {c = c} w e) x y z hy hz ly lz p =
       let s = edge-place G m d c e in
@@ -102,7 +84,7 @@ module _ (bs : List ℕ) (ts : List TieRecord) (m : ℕ) (bytes : Bytes bs) (len
 
   -- no cycle of labels is no path of arrows that returns to its group
   acyclic_graph : (n : ℕ) → ends_below n ts ≡ true → no_cycle G m ≡ acyclic n ts
-  unfolding ends_below graph_of arrow_at
+  unfolding ends_below graph_in arrow_in
   acyclic_graph n ends = both_ways (no_cycle G m) (acyclic n ts)
       (λ e. (acyclic_paths ts n ends).1 (λ x p. let w = arrows_way p in (no_cycle_ways G m small).0 e (label x) w.0 w.1 w.2))
       (λ e. (no_cycle_ways G m small).1 (λ a b q w.
@@ -112,10 +94,10 @@ module _ (bs : List ℕ) (ts : List TieRecord) (m : ℕ) (bytes : Bytes bs) (len
       (acyclic_paths ts n ends).0 e l (way_arrows w l f l (followers s.0) (leaders s.0) s.4 s.3 (one (arrow_at_lem s.0 s.1 s.2 f (followers s.0) refl)))))
 
   -- what elimination over the labels answers
-  pub acyclic_labels : (l : List ℕ) (r : Bool) → l ≡ labels → r ≡ no_cycle (graph_of bs l) m → (n : ℕ) → ends_below n ts ≡ true → r ≡ acyclic n ts
+  pub acyclic_labels : (l : List ℕ) (r : Bool) → l ≡ labels → r ≡ no_cycle (graph_in t l) m → (n : ℕ) → ends_below n ts ≡ true → r ≡ acyclic n ts
   acyclic_labels l r e q n ends = rw e at q ∙ acyclic_graph n ends
 
   -- where no arrow stands
-  pub acyclic_none : (b : Bool) → b ≡ any_below m (arrow_at bs) → b ≡ false → (n : ℕ) → ends_below n ts ≡ true → true ≡ acyclic n ts
-  unfolding graph_of
-  acyclic_none b q h n ends = sym ((no_cycle_ways G m small).1 (λ x y p w. let s = edge-place G m x y p in false≢true (sym (any_below_none m (arrow_at bs) (sym q ∙ h) s.0 s.1) ∙ s.2))) ∙ acyclic_graph n ends
+  pub acyclic_none : (b : Bool) → b ≡ any_below m (arrow_in t) → b ≡ false → (n : ℕ) → ends_below n ts ≡ true → true ≡ acyclic n ts
+  unfolding graph_in
+  acyclic_none b q h n ends = sym ((no_cycle_ways G m small).1 (λ x y p w. let s = edge-place G m x y p in false≢true (sym (any_below_none m (arrow_in t) (sym q ∙ h) s.0 s.1) ∙ s.2))) ∙ acyclic_graph n ends

@@ -1,10 +1,19 @@
 -- Arrows between groups (a directed graph): labels of groups, arrows by place, and what comes to a label. Assumes nothing.
-use Rattle.std.specs.Prelude.{◌≡◌, Bool, true, not, cond, ◌&&◌, ◌||◌, List, map, ℕ, zero, suc, ◌<◌, eqb, get_or}
+use Rattle.std.specs.Prelude.{◌≡◌, Bool, true, not, cond, ◌&&◌, ◌||◌, List, [], map, ℕ, zero, suc, ◌<◌, eqb, get_or}
 use Rattle.rules.specs.Base.{all_below, any_below, count_below, table}
 use Rattle.rules.specs.Sets.{Set, Rel, only, reach}
 use Rattle.rules.specs.Window.{TieRecord}
 use Rattle.rules.specs.Ties.{is_group, is_arrow}
-use Rattle.layout.specs.Records.{tie_at}
+use Rattle.layout.specs.Records.{tie_of, tie_at}
+
+-- TIES IN ROWS OF FOUR BYTES
+-- the tie of a row: kind, leader, follower
+abbrev pub tie_of_row : List ℕ → TieRecord
+tie_of_row row = tie_of (get_or row 0 0) (get_or row 1 0) (get_or row 2 0)
+
+-- the tie at a place of rows
+unfoldable pub tie_in_rows : List (List ℕ) → ℕ → TieRecord
+tie_in_rows rows j = tie_of_row (get_or rows j [])
 
 -- LABELS: one for each change, the same for two of one group
 -- each change's own number
@@ -32,17 +41,21 @@ pub record Graph : Type 0 where
   pub from : ℕ → ℕ
   pub to : ℕ → ℕ
 
--- an arrow stands at a place of ties in bytes
-unfoldable pub arrow_at : List ℕ → ℕ → Bool
-arrow_at bs j = is_arrow (tie_at bs j).kind
+-- an arrow stands at a place of ties
+unfoldable pub arrow_in : (ℕ → TieRecord) → ℕ → Bool
+arrow_in t j = is_arrow (t j).kind
 
--- the arrows of ties in bytes, between the labels of their ends
-unfoldable pub graph_of : List ℕ → List ℕ → Graph
-graph_of bs labels = record {
-  arrow = arrow_at bs;
-  from = λ j. get_or labels (tie_at bs j).leader 0;
-  to = λ j. get_or labels (tie_at bs j).follower 0;
+-- the arrows of ties, between the labels of their ends
+unfoldable pub graph_in : (ℕ → TieRecord) → List ℕ → Graph
+graph_in t labels = record {
+  arrow = arrow_in t;
+  from = λ j. get_or labels (t j).leader 0;
+  to = λ j. get_or labels (t j).follower 0;
 }
+
+-- those of ties in bytes
+abbrev pub graph_of : List ℕ → List ℕ → Graph
+graph_of bs labels = graph_in (tie_at bs) labels
 
 -- one of the first m arrows goes from a to b
 unfoldable pub edge : Graph → ℕ → Rel

@@ -1,7 +1,8 @@
 -- Arrows in lists by the label that they go from (adjacency lists), with counts by the label that they come to. Assumes nothing.
-use Rattle.std.specs.Prelude.{◌≡◌, Bool, true, not, cond, ◌||◌, List, ℕ, ◌+◌, ◌*◌, ◌≤◌, ◌<◌, eqb, length, get_or, set, replicate}
+use Rattle.std.specs.Prelude.{◌≡◌, Bool, true, not, cond, ◌||◌, List, ℕ, ◌+◌, ◌≤◌, ◌<◌, eqb, get_or, set, replicate}
 use Rattle.rules.specs.Sets.{Set, everything, only}
-use Rattle.words.specs.Members.{words_have}
+use Rattle.sets.specs.Members.{members}
+use Rattle.cycles.specs.declared.Arrows.{Arrows}
 use Rattle.cycles.specs.Graph.{Graph, comes, leads, last_from}
 
 -- the lists, and the sets of labels at the ends of arrows
@@ -17,45 +18,19 @@ pub record Lists : Type 0 where
   -- the labels that an arrow comes to
   pub blocked : Set
 
--- with the sets as words
-abbrev pub lists_of : List ℕ → List ℕ → List ℕ → List ℕ → List ℕ → Lists
-lists_of heads next incoming leaders blocked = record { heads = heads; next = next; incoming = incoming; leaders = words_have leaders; blocked = words_have blocked }
+-- those of the code, with its sets as sets
+abbrev pub lists_of : Arrows → Lists
+lists_of a = record { heads = a.heads; next = a.next; incoming = a.incoming; leaders = members a.left; blocked = members a.blocked }
 
--- lists that are long enough
-pub record Room (heads next incoming : List ℕ) : Type 0 where
-  -- a head for each label
-  pub by_label : length heads ≡ 256
-  -- a place for each tie
-  pub by_place : length next ≡ 512
-  -- a count for each label
-  pub counts : length incoming ≡ 256
-
--- the words of the sets of labels at the ends of arrows
-pub record Ends (leaders blocked : List ℕ) : Type 0 where
-  -- four for those that arrows go from
-  pub leading : length leaders ≡ 4
-  -- and four for those that arrows come to
-  pub led : length blocked ≡ 4
-
--- ties and labels to start with, and lists that hold no arrow
-pub record Blank (ties : List ℕ) (count : ℕ) (labels heads next incoming : List ℕ) : Type 0 where
-  -- four bytes for each tie
-  pub ties-long : 4 * count ≤ length ties
-  -- no more than the largest figure
-  pub few : count ≤ 512
-  -- a label for each change
-  pub labels_long : length labels ≡ 256
-  -- a head for each label, and no list begun
-  pub no_heads : heads ≡ replicate 256 0
-  -- a place for each tie
-  pub next-long : length next ≡ 512
-  -- a count for each label, and none counted
-  pub no_counts : incoming ≡ replicate 256 0
-
--- words of sets that hold no label
-pub record NoEnds (leaders blocked : List ℕ) : Type 0 where
-  pub no_leaders : leaders ≡ replicate 4 0
-  pub no_blocked : blocked ≡ replicate 4 0
+-- lists that hold no arrow
+pub record Blank (a : Arrows) : Type 0 where
+  -- no list begun
+  pub no_heads : a.heads ≡ replicate 256 0
+  -- none counted
+  pub no_counts : a.incoming ≡ replicate 256 0
+  -- no label in either set
+  pub no_leaders : a.left.words ≡ replicate 4 0
+  pub no_blocked : a.blocked.words ≡ replicate 4 0
 
 -- the arrow at place j put at the head of its list, and counted
 unfoldable pub with_arrow : ℕ → ℕ → ℕ → Lists → Lists
@@ -83,6 +58,12 @@ pub record Linked (G : Graph) (m : ℕ) (s : Lists) : Type 0 where
   pub leaders : (k : ℕ) → s.leaders k ≡ leads G m k
   -- the set of those that one comes to
   pub blocked : (k : ℕ) → s.blocked k ≡ not (eqb (comes G everything m k) 0)
+
+-- the lists by label, and what is left, are as they were
+pub record Kept (before after : Arrows) : Type 0 where
+  pub heads : after.heads ≡ before.heads
+  pub next : after.next ≡ before.next
+  pub left : after.left ≡ before.left
 
 -- a set shows the counts
 pub record Shows (incoming : List ℕ) (blocked : Set) : Type 0 where

@@ -2,9 +2,9 @@
 use mathlib.Core.Path.{◌≡◌, refl, sym, ◌∙◌, ap}
 use mathlib.Core.Bool.{true}
 use mathlib.Core.List.{List}
-use Prim.Native.Nat.{ℕ, ◌+◌, ◌≤◌, ◌<◌, ◌^◌}
+use Prim.Native.Nat.{ℕ, ◌≤◌, ◌<◌, ◌^◌}
 use native.Mathlib.Omega.{arith}
-use lib.ListN.{length, get_or, take, drop, replicate}
+use lib.ListN.{length, get_or, take, drop}
 use Rattle.rules.specs.Base.{keep}
 use Rattle.rules.specs.Sets.{Set, put_all}
 use Rattle.rules.specs.Window.{limits, LogRecord, Window, with_value, with_status, with_held, with_log, with_permits, with_ties, with_line}
@@ -14,16 +14,14 @@ use Rattle.rules.proofs.ListLaws.{all_keep, length-keep, fewer}
 use Rattle.rules.proofs.SoundParts.{Sound}
 use Rattle.rules.proofs.SoundPlain.{log-sound, withdraw-sound}
 use Rattle.rules.proofs.UndoLaws.{left_unowned}
-use Rattle.layout.specs.Codec.{head_size, values_at, values_size, changes_at, changes_size, locks_at, locks_size, log_at, log_size, window_size, no_record, value_byte, figures, value_section, change_section, lock_section, log_section, lay, decode, encode}
+use Rattle.layout.specs.Codec.{values_at, values_size, changes_at, changes_size, locks_at, locks_size, log_at, log_size, no_record, figures, value_section, change_section, lock_section, log_section, lay, decode, encode}
 use Rattle.layout.specs.Memory.{sound_bytes}
 use Rattle.layout.specs.Records.{Tabled}
 use Rattle.layout.proofs.MemoryLaws.{bytes-sound, bytes_again, encode-sound, values_known, log_known}
 use Rattle.layout.proofs.SoundCodec.{sound_canonical, sound_again}
-use Rattle.layout.proofs.SectionLaws.{length-table}
 use Rattle.layout.proofs.PutLaws.{laid_at}
 use Rattle.layout.proofs.LentLaws.{head_laid, FigureStored, values_lent, log_lent, statuses_back, locks_back, figure_stored}
-use Rattle.cells.specs.Part.{part, patch}
-use Rattle.cells.proofs.PartLaws.{length_part, copied}
+use Rattle.cells.specs.Part.{patch}
 use Rattle.locks.specs.Held.{NoneFrom}
 use Rattle.reads.proofs.ReadLaws.{none_from}
 
@@ -90,27 +88,12 @@ module _ (bs : List ℕ) (s : sound_bytes bs ≡ true) where
   unfolding with_log end_all withdraw with_value
   aborted m e r = rest_of 5 m _ (withdraw-sound limits (decode bs) m (bytes-sound bs s)) e r ∙ ap (λ (l : List LogRecord). encode (with_log (end_all 5 m (withdraw m (decode bs))) l)) (sym (left_unowned m (decode bs).log))
 
--- THE LOG WITHDRAWN: there is room for the values at any place before the locks, and for the header
-pub values_room : (w v : ℕ) → w ≡ window_size → v ≡ values_size → (at : ℕ) → at ≤ locks_at → at + v ≤ w
-values_room w v e f at h = omega arith
-
-pub head_room : (w : ℕ) → w ≡ window_size → head_size ≤ w
-head_room w e = omega arith
-
-module _ (bs : List ℕ) (room : length bs ≡ window_size) (copy : List ℕ) (c : copy ≡ patch (replicate values_size 0) 0 (take values_size (drop values_at bs))) where
-  -- the values in a copy
-  value_copy : copy ≡ take values_size (drop values_at bs)
-  unfolding part
-  value_copy = copied values_size (take values_size (drop values_at bs)) copy (length_part bs values_at values_size (omega arith)) c
-
-  pub copy_size : length copy ≡ values_size
-  unfolding part
-  copy_size = ap length value_copy ∙ length_part bs values_at values_size (omega arith)
-
+-- THE LOG WITHDRAWN, with the values in a copy
+module _ (bs : List ℕ) (copy : List ℕ) (c : copy ≡ take values_size (drop values_at bs)) where
   pub withdrawn : sound_bytes bs ≡ true → (m : Set) (count left : ℕ) {values log mid head : List ℕ} → count ≡ length (decode bs).log
       → ((v : ℕ → ℕ) (l : List LogRecord) → length l ≡ count → ((k : ℕ) → (get_or l k no_record).before < 2 ^ 32) → copy ≡ value_section v → take log_size (drop log_at bs) ≡ log_section l → values ≡ value_section (undo m l v))
       → ((l : List LogRecord) → length l ≡ count → take log_size (drop log_at bs) ≡ log_section l → Tabled log_section (records_left m l) left log)
-      → mid ≡ patch (laid_at bs log_at log_size log) values_at values → FigureStored mid 2 left head
+      → mid ≡ laid_at (laid_at bs log_at log_size log) values_at values_size values → FigureStored mid 2 left head
       → (head_laid mid head ≡ encode (withdraw m (decode bs))) × (sound_bytes (head_laid mid head) ≡ true)
   unfolding patch value_section figures withdraw with_value with_log lay encode
   withdrawn s m count left {values} {log} {mid} {head} n f g h k = (q, rw q (encode-sound _ (withdraw-sound limits W m (bytes-sound bs s))))
@@ -122,14 +105,13 @@ module _ (bs : List ℕ) (room : length bs ≡ window_size) (copy : List ℕ) (c
       v = undo m W.log W.value
 
       is : values ≡ value_section v
-      is = f W.value W.log (sym n) (sound_canonical W (bytes-sound bs s)).before_most (value_copy ∙ values_known bs s) (log_known bs s)
+      is = f W.value W.log (sym n) (sound_canonical W (bytes-sound bs s)).before_most (c ∙ values_known bs s) (log_known bs s)
 
       left_is : Tabled log_section (records_left m W.log) left log
       left_is = g W.log (sym n) (log_known bs s)
 
       laid : mid ≡ lay (figures W) (withdraw m W)
-      laid = h ∙ ap (λ x. laid_at (laid_at bs log_at log_size log) values_at x values) (ap length is ∙ length-table values_size 0 (value_byte v))
-          ∙ values_lent (figures W) (with_log W (records_left m W.log)) (log_lent (figures W) W (sym (bytes_again bs s)) (records_left m W.log) (λ _. left_is.bytes)) v (λ _. is)
+      laid = h ∙ values_lent (figures W) (with_log W (records_left m W.log)) (log_lent (figures W) W (sym (bytes_again bs s)) (records_left m W.log) (λ _. left_is.bytes)) v (λ _. is)
 
       q : head_laid mid head ≡ encode (withdraw m W)
       q = figure_stored W (withdraw m W) laid 2 left (omega arith) k (rw left_is.count)

@@ -1,9 +1,9 @@
 -- What a commit and an abort give: by the change's status, and by the set that it ends, whose members were given. Assumes nothing.
 use mathlib.Core.Path.{◌≡◌, refl, sym, ◌∙◌, ap, fun_ext}
 use mathlib.Core.Logic.{⊎_elim, ◌≢◌}
-use mathlib.Core.Bool.{Bool, true, false, not, cond, ◌&&◌, ◌||◌}
+use mathlib.Core.Bool.{Bool, true, false, not, cond, ◌&&◌, ◌||◌, false≢true}
 use mathlib.Core.List.{List}
-use Prim.Native.Nat.{ℕ, suc, ◌≤◌}
+use Prim.Native.Nat.{ℕ, suc, ◌≤◌, ◌<◌}
 use native.Mathlib.Omega.{arith}
 use lib.Dec.{ltb, eqb}
 use lib.ListN.{length, take, drop}
@@ -15,7 +15,7 @@ use Rattle.rules.specs.Ties.{is_arrow, grouped, falling, group_of, end_set}
 use Rattle.rules.specs.Calls.{Commit, Abort, Outcome, done, unchanged}
 use Rattle.rules.specs.Effects.{end_all, withdraw, size, commit_blockers, commit_group, commit_change, abort_all, abort_change, effect, leaders_of}
 use Rattle.rules.specs.Refusals.{◌if◌, checks, first_failed}
-use Rattle.rules.proofs.BaseLaws.{and_right, both_ways, and_both, no_true, Below, under, over, below}
+use Rattle.rules.proofs.BaseLaws.{and_right, both_ways, and_both, no_true, any_intro, none_below, Below, under, over, below}
 use Rattle.rules.proofs.Promises.{blocks}
 use Rattle.rules.proofs.SoundParts.{status_none, live_below, live_of, ends-live, ends_below_lem}
 use Rattle.rules.proofs.SoundStep.{group_live, fall_live}
@@ -29,9 +29,17 @@ use Rattle.rules.proofs.BoundLaws.{any_bound, lowest_bound, count_bound}
 use Rattle.replies.specs.declared.Reply.{Reply}
 use Rattle.replies.specs.Gives.{Gives, written}
 use Rattle.replies.proofs.GiveLaws.{left, looked, unrefused, given-done}
+use Rattle.sets.proofs.WalkLaws.{lowest_of}
 use Rattle.reads.proofs.ReadLaws.{reads_same, reads_other}
 
 -- BY STATUS: x is how the call would end the change, y the other way to end
+-- a set with a lowest member has one, and a set without has none
+pub some_there : (b : Set) (c : ℕ) → c < 256 → c ≡ lowest_below 256 b → not (any_below 256 b) ≡ false
+some_there b c l e = ap not (any_intro 256 b c l ((lowest_of b c e).hit l))
+
+pub none_there : (b : Set) → 256 ≡ lowest_below 256 b → not (any_below 256 b) ≡ true
+none_there b e = ap not (none_below 256 b (λ d h q. false≢true (sym ((lowest_of b 256 e).before d h) ∙ q)))
+
 module _ (bs : List ℕ) (c st : ℕ) (e : st ≡ (decode bs).status c) (x y : ℕ) (o : Outcome) where
   abbrev Ending : Outcome
   Ending = cond (eqb ((decode bs).status c) x) (done 0 (decode bs)) (cond (eqb ((decode bs).status c) y) (unchanged 21 0 (decode bs)) o)

@@ -1,12 +1,13 @@
 -- What is reached along the ties of a section, for any bound on their ends; and the leaders of ties to a set. Assumes nothing.
-use mathlib.Core.Path.{◌≡◌, sym, ap, fun_ext, ◌∙◌}
+use mathlib.Core.Path.{◌≡◌, refl, sym, ap, fun_ext, ◌∙◌}
 use mathlib.Core.Bool.{Bool, true, false, ◌&&◌, ◌||◌, or-false, and_assoc, and_comm}
 use mathlib.Core.List.{List}
-use Prim.Native.Nat.{ℕ, ◌*◌, ◌≤◌}
+use Prim.Native.Nat.{ℕ, ◌+◌, ◌*◌, ◌/◌, ◌≤◌, ◌<◌}
 use native.Mathlib.Omega.{arith}
 use lib.Dec.{ltb, eqb}
-use lib.ListN.{length, get_or}
+use lib.ListN.{length, get_or, take}
 use borrow.Author.Tests.{lt-ltb}
+use Rattle.std.specs.Simd.{first_chunks}
 use Rattle.rules.specs.Base.{any_below}
 use Rattle.rules.specs.Sets.{Set, only, closure, reach}
 use Rattle.rules.specs.Window.{TieRecord}
@@ -16,12 +17,13 @@ use Rattle.rules.proofs.BaseLaws.{and_both, both_ways, any_intro, any_elim}
 use Rattle.rules.proofs.ListLaws.{all_places, any_at, any_place}
 use Rattle.rules.proofs.PathLaws.{Bounded, closure_bound, grouped_bounded, falling_bounded, leading_bounded}
 use Rattle.layout.specs.Codec.{no_tie, tie_section}
-use Rattle.layout.specs.Records.{ends_below, tie_at}
+use Rattle.layout.specs.Records.{ends_below, tie_at, tie_of}
 use Rattle.layout.proofs.ReadLaws.{section_read, section_ends}
 use Rattle.layout.proofs.SectionLaws.{Bytes}
 use Rattle.sets.specs.declared.Along.{Along}
 use Rattle.sets.specs.declared.Along.TheVariants.{Groups, Falls, Arrows}
 use Rattle.sets.specs.Closure.{relation}
+use Rattle.places.proofs.RowLaws.{row_byte}
 
 -- the ends of ties in bytes are below 256
 section_below : (bs : List ℕ) (ts : List TieRecord) (m : ℕ) → Bytes bs → 4 * m ≤ length bs → length ts ≡ m → bs ≡ tie_section ts → ends_below 256 ts ≡ true
@@ -58,6 +60,13 @@ leaders_of_lem bs ts m s k room len e = both_ways _ _
     any_at (leads_to s k) no_tie ts a.0 (omega (arith, a.1)) (rw (← section_read bs ts m room e a.0 a.1) a.2))
     (λ q. let a = any_place (leads_to s k) no_tie ts q in
     any_intro m (λ j. leads_to s k (tie_at bs j)) a.0 (omega (arith, a.1)) (rw (section_read bs ts m room e a.0 (omega (arith, a.1))) a.2))
+
+-- a tie in the first m rows of a section is that of its place
+pub row_tie : (bs : List ℕ) (m : ℕ) (rows : List (List ℕ)) → 4 * m ≤ length bs → rows ≡ first_chunks 4 (length (take (m * 4) bs) / 4) (take (m * 4) bs)
+    → (j : ℕ) (d : List ℕ) → j < length rows → tie_of (get_or (get_or rows j d) 0 0) (get_or (get_or rows j d) 1 0) (get_or (get_or rows j d) 2 0) ≡ tie_at bs j
+unfolding tie_at
+row_tie bs m rows room cut j d h =
+    rw (row_byte m bs rows room cut j 0 (j * 4) d h (omega arith) (omega arith), row_byte m bs rows room cut j 1 (j * 4 + 1) d h (omega arith) refl, row_byte m bs rows room cut j 2 (j * 4 + 2) d h (omega arith) refl)
 
 -- a tie's leader, where it is an arrow to a member
 pub leads_where : (t : TieRecord) (f : Set) (k : ℕ) → eqb t.leader k && (is_arrow t.kind && f t.follower) ≡ leads_to f k t

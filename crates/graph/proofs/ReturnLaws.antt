@@ -4,15 +4,15 @@ use mathlib.Core.Path.{◌≡◌, refl, sym, ap, ◌∙◌}
 use mathlib.Core.Bool.{Bool, beq, true, false, not, ◌&&◌, ◌||◌, true≢false}
 use mathlib.Core.List.{List}
 use mathlib.Core.Logic.{◌⊎◌, inl, inr, ⊎_elim}
-use Prim.Native.Nat.{ℕ, ◌<◌, min, max}
+use Prim.Native.Nat.{ℕ, ◌≤◌, ◌<◌, min, max}
 use native.Mathlib.Omega.{arith}
 use lib.Dec.{ltb, eqb}
-use borrow.Author.Tests.{ne_eqb, lt-ltb}
+use borrow.Author.Tests.{lt-ltb}
 use Rattle.rules.specs.Base.{outside}
 use Rattle.rules.specs.Sets.{reach}
 use Rattle.rules.specs.Window.{TieRecord, tie_key}
 use Rattle.rules.specs.Ties.{is_group, is_arrow, make_tie, add_tie, tied, grouped, leading, acyclic}
-use Rattle.rules.proofs.BaseLaws.{and_eqs, or_left, or_right, or_cases, or_map, and_both, no_true, Below, under, over, below}
+use Rattle.rules.proofs.BaseLaws.{and_eqs, or_left, or_right, or_cases, or_map, and_both, no_true, Below, under, over, below, Same, same, other, same?}
 use Rattle.rules.proofs.SoundParts.{inside_of}
 use Rattle.rules.proofs.SortLaws.{all_insert, any_inserted}
 use Rattle.rules.proofs.TieLaws.{arrow_of, arrow_not_group}
@@ -162,15 +162,23 @@ module _ (n : ℕ) (t : TieRecord) (ts : List TieRecord) (ends : ends_below n ts
       go false false p q = sym (is_acyclic (apart_clear t ts k clear (unreached n ts ends t.leader t.follower q) (unreached n ts ends t.follower t.leader p)))
 
 -- THE SAME OF A TIE AS IT IS MADE
+-- a kind that is not an arrow's is a group tie's
+group_of : (k : ℕ) → outside 1 3 k ≡ false → is_arrow k ≡ false → k ≡ 3
+group_of k r a = let m = inside_of 1 3 k r in go m.0 m.1 (same? k 3)
+  where
+    go : 1 ≤ k → k ≤ 3 → {b : Bool} → Same k 3 b → k ≡ 3
+    go p q (same e) = e
+    go p q (other u) = absurd (true≢false (sym (arrow_of k (omega arith) (omega arith)) ∙ a))
+
 module _ (n : ℕ) (ts : List TieRecord) (ends : ends_below n ts ≡ true) (k l f : ℕ) (hl : l < n) (hf : f < n) (h : acyclic n ts ≡ true) where
-  pub arrow-made : outside 1 3 k ≡ false → (k ≡ 3 → ⊥) → reach n (leading ts) f l ≡ not (acyclic n (add_tie (make_tie k l f) ts))
+  pub arrow-made : is_arrow k ≡ true → reach n (leading ts) f l ≡ not (acyclic n (add_tie (make_tie k l f) ts))
   unfolding make_tie is_group
-  arrow-made r u = let m = inside_of 1 3 k r in rw (ne_eqb k 3 u) (arrow-test n (record { kind = k; leader = l; follower = f }) ts ends hl hf h (arrow_of k (omega (arith, m.0)) (omega (arith, m.1))))
+  arrow-made a = rw (arrow_not_group k a) (arrow-test n (record { kind = k; leader = l; follower = f }) ts ends hl hf h a)
 
   -- a group tie, stored with the lower number as leader
-  pub group_made : k ≡ 3 → not (beq (reach n (leading ts) f l) (reach n (leading ts) l f)) ≡ not (acyclic n (add_tie (make_tie k l f) ts))
+  pub group_made : outside 1 3 k ≡ false → is_arrow k ≡ false → not (beq (reach n (leading ts) f l) (reach n (leading ts) l f)) ≡ not (acyclic n (add_tie (make_tie k l f) ts))
   unfolding make_tie is_group
-  group_made e = rw e (go (below l f))
+  group_made r a = rw (group_of k r a) (go (below l f))
     where
       three : (a b : ℕ) → a < n → b < n → beq (reach n (leading ts) b a) (reach n (leading ts) a b) ≡ acyclic n (add_tie (record { kind = 3; leader = a; follower = b }) ts)
       three a b ha hb = group_test n (record { kind = 3; leader = a; follower = b }) ts ends ha hb h refl

@@ -25,6 +25,7 @@ fn reached(ties: &[u8], count: usize, c: u8, along: Along) -> ChangeSet
 }
 
 // The group of a change: all that group ties reach from it.
+#[tactic(auto, unfolding(sets::specs::Closure::relation))]
 pub fn group(ties: &[u8], count: usize, c: u8) -> ChangeSet
     requires { 4 * count ≤ length ties.now }
     ensures { (ts : List TieRecord) → length ts ≡ count → ties.now ≡ tie_section ts → (n : ℕ) → ends_below n ts ≡ true → (k : ℕ) → members result k ≡ reach n (grouped ts) c k }
@@ -33,6 +34,7 @@ pub fn group(ties: &[u8], count: usize, c: u8) -> ChangeSet
 }
 
 // What an abort of a change ends: all that group ties and fall ties reach from it.
+#[tactic(auto, unfolding(sets::specs::Closure::relation))]
 pub fn end_set(ties: &[u8], count: usize, c: u8) -> ChangeSet
     requires { 4 * count ≤ length ties.now }
     ensures { (ts : List TieRecord) → length ts ≡ count → ties.now ≡ tie_section ts → (n : ℕ) → ends_below n ts ≡ true → (k : ℕ) → members result k ≡ reach n (falling ts) c k }
@@ -41,6 +43,7 @@ pub fn end_set(ties: &[u8], count: usize, c: u8) -> ChangeSet
 }
 
 // Whether group ties and arrows lead from one change to another.
+#[tactic(auto, unfolding(sets::specs::Closure::relation))]
 fn leads(ties: &[u8], count: usize, from: u8, to: u8) -> bool
     requires { 4 * count ≤ length ties.now }
     ensures { (ts : List TieRecord) → length ts ≡ count → ties.now ≡ tie_section ts → (n : ℕ) → ends_below n ts ≡ true → result ≡ reach n (leading ts) from to }
@@ -54,8 +57,8 @@ pub fn returns(ties: &[u8], count: usize, kind: u8, leader: u8, follower: u8) ->
     ensures { (ts : List TieRecord) → length ts ≡ count → ties.now ≡ tie_section ts → (n : ℕ) → ends_below n ts ≡ true → leader < n → follower < n → outside 1 3 kind ≡ false → acyclic n ts ≡ true → result ≡ not (acyclic n (add_tie (make_tie kind leader follower) ts)) }
 {
     let back = leads(ties, count, follower, leader);
-    let group: u8 = 3;
-    if kind != group {
+    let arrow = is_arrow(kind);
+    if arrow {
         return back;
     }
     back != leads(ties, count, leader, follower)
@@ -66,19 +69,23 @@ pub fn leaders(ties: &[u8], count: usize, followers: ChangeSet) -> ChangeSet
     requires { 4 * count ≤ length ties.now }
     ensures { (ts : List TieRecord) → length ts ≡ count → ties.now ≡ tie_section ts → (k : ℕ) → members result k ≡ leaders_of ts (members followers) k }
 {
-    let mut s = ChangeSet::empty();
-    let mut j: usize = 0;
-    while j < count {
-        let at = j * Ties::RECORD;
-        s = with_leader(s, followers, ties[at], ties[at + 1], ties[at + 2]);
-        j += 1;
+    let (rows, _) = ties[..count * Ties::RECORD].as_chunks::<4>();
+    let mut found = ChangeSet::empty();
+    for [kind, leader, follower, _] in rows {
+        found = with_leader(found, followers, *kind, *leader, *follower);
     }
-    s
+    found
 }
 
 // The set with a tie's leader, where the tie is a wait or fall tie to a member of `followers`.
-fn with_leader(s: ChangeSet, followers: ChangeSet, kind: u8, leader: u8, follower: u8) -> ChangeSet
-    ensures { (k : ℕ) → members result k ≡ members s k || leads_to (members followers) k (tie_of kind leader follower) }
+fn with_leader(
+    found: ChangeSet,
+    followers: ChangeSet,
+    kind: u8,
+    leader: u8,
+    follower: u8,
+) -> ChangeSet
+    ensures { (k : ℕ) → members result k ≡ members found k || leads_to (members followers) k (tie_of kind leader follower) }
 {
-    s.add_if(leader, is_arrow(kind) & followers.has(follower))
+    found.add_if(leader, is_arrow(kind) & followers.has(follower))
 }

@@ -1,5 +1,5 @@
 -- What is proved of what a delegate hands over. Other crates cite a file X here as Rattle.handed.proofs.X.
--- the two tables: cut out, put back, handed over
-pub mod TableLaws
--- the window takes them over, with its log
-pub mod OverLaws
+-- a draft put into the window
+pub mod DraftLaws
+-- a draft handed over, as it is judged
+pub mod JudgeLaws

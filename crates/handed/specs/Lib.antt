@@ -1,2 +1,2 @@
--- The two tables on which a delegate is judged.
-pub mod Tables
+-- The draft on which a delegate is judged.
+pub mod Draft

@@ -1,98 +1,84 @@
-// Locks and permits handed over in a copy of the two tables, judged there, and taken over by the window with the log.
+// Locks and permits handed over in a draft of the two tables, judged there, and put into the window with the log.
 #![tactic(auto)]
 
-ghost use Rattle.std.specs.Prelude.{◌≡◌, true, ℕ, ◌≤◌, length, take, drop};
-ghost use Rattle.rules.specs.Window.{Window};
+ghost use Rattle.std.specs.Prelude.{◌≡◌, true, ℕ, ◌≤◌};
 ghost use Rattle.rules.specs.Locks.{clashes_permitted};
 ghost use Rattle.rules.specs.Effects.{move_held, hand_over};
-ghost use Rattle.layout.specs.Codec.{locks_size, permits_size, window_size, lock_section, decode, encode};
+ghost use Rattle.layout.specs.Codec.{lock_section, decode, encode};
 ghost use Rattle.layout.specs.Memory.{sound_bytes};
-ghost use Rattle.sets.specs.Entries.{on_entries};
+ghost use Rattle.scope.specs.Entries.{entries_of};
 ghost use Rattle.locks.specs.Held.{Modes, NoneFrom};
 ghost use Rattle.clashes.specs.LocksAndPermits.{LocksAndPermits};
-ghost use Rattle.handed.specs.Tables.{tables_size, tables_of, AreTables};
 
-use cells::copy_in;
-use layout::{Entries, Header, Locks, Log, Permits};
-use places::store_figure;
+use layout::{Entries, Header, Locks, Log, Permits, Ties, Window};
+use places::header::Figure;
+use reads::Sound;
+use scope::{HandOver, Scope};
 
-// The bytes of the locks and of the permits, which lie side by side.
-pub const TABLES: usize = Locks::SIZE + Permits::SIZE;
+// A copy of a window's locks and permits, in which they are handed over, and how many entries and permits there are.
+#[derive(Drop)]
+pub struct Draft {
+    pub locks: [u8; Locks::SIZE],
+    pub permits: [u8; Permits::SIZE],
+    pub entries: usize,
+    pub count: usize,
+    ghost few_entries: { entries ≤ 256 },
+    ghost few_permits: { count ≤ 1024 },
+}
 
-// The locks of one change go over to another: those on every entry, or the one on an entry.
-fn hand_locks(locks: &mut [u8], entries: usize, from: u8, to: u8, every: bool, entry: u8)
-    requires locks_len { length locks.old ≡ locks_size }
-    requires entries_bound { entries ≤ 256 }
-    ensures { (held : ℕ → ℕ → ℕ) → Modes held → NoneFrom entries held → locks.old ≡ lock_section held → locks.new ≡ lock_section (move_held from to (on_entries every entry) held) }
-{
-    if every {
-        locks::hand_over_all(locks, entries, from, to);
-    } else {
-        locks::hand_over(locks, entry, from, to);
+impl Draft {
+    ghost use Rattle.handed.specs.Draft.{HasTables};
+
+    // The locks and permits of a sound window.
+    fn load(&mut self, w: Sound)
+        ensures { HasTables (decode w.entry.bytes.now) self.new }
+    {
+        let bytes = w.bytes;
+        self.locks.copy_from_slice(&bytes[Locks::AT..Permits::AT]);
+        self.permits.copy_from_slice(&bytes[Permits::AT..Ties::AT]);
+        self.entries = w.entries();
+        self.count = w.permits();
     }
-}
 
-// In a copy of the window's locks and permits, those of one change go over to another. What comes back is how many permits there are.
-pub fn hand_tables(w: &[u8], tables: &mut [u8], from: u8, to: u8, every: bool, entry: u8) -> usize
-    requires w_len { length w.now ≡ window_size }
-    requires w_value { sound_bytes w.now ≡ true }
-    requires tables_len { length tables.old ≡ tables_size }
-    ensures upper_bound { result ≤ 1024 }
-    ensures are_tables { tables.old ≡ tables_of (decode w.now) → AreTables (hand_over (decode w.now) from to (on_entries every entry)) result tables.new }
-{
-    let entries = reads::entries(w);
-    let count = reads::permits(w);
-    hand_locks(&mut tables[0..Locks::SIZE], entries, from, to, every, entry);
-    permits::hand_over(
-        &mut tables[Locks::SIZE..TABLES],
-        count,
-        from,
-        to,
-        every,
-        entry,
-    )
-}
+    // The locks of one change go over to another, on the entries that are named.
+    fn hand_locks(&mut self, over: HandOver)
+        ensures rest { (self.new.permits ≡ self.old.permits) × (self.new.entries ≡ self.old.entries) × (self.new.count ≡ self.old.count) }
+        ensures locks { (held : ℕ → ℕ → ℕ) → Modes held → NoneFrom self.old.entries held → self.old.locks ≡ lock_section held → self.new.locks ≡ lock_section (move_held over.from over.to (entries_of over.scope) held) }
+    {
+        match over.scope {
+            Scope::Every => {
+                locks::hand_over_all(&mut self.locks, self.entries, over.from, over.to);
+            }
+            Scope::Only(entry) => locks::hand_over(&mut self.locks, entry, over.from, over.to),
+        }
+    }
 
-// Whether each clashing pair of locks in the tables has a permit in them.
-pub fn all_permitted(w: &[u8], tables: &[u8], count: usize) -> bool
-    requires w_len { length w.now ≡ window_size }
-    requires w_value { sound_bytes w.now ≡ true }
-    requires tables_len { (length tables.now ≡ tables_size) × (count ≤ 1024) }
-    ensures { (W : Window) → LocksAndPermits (take locks_size tables.now) (take permits_size (drop locks_size tables.now)) (decode w.now).entries count W → result ≡ clashes_permitted W }
-{
-    let entries = reads::entries(w);
-    clashes::all_permitted(
-        &tables[0..Locks::SIZE],
-        entries,
-        &tables[Locks::SIZE..TABLES],
-        count,
-    )
-}
+    // The locks and permits of a sound window, after those of one change went over to another.
+    pub fn hand_over(&mut self, w: Sound, over: HandOver)
+        ensures { HasTables (hand_over (decode w.entry.bytes.now) over.from over.to (entries_of over.scope)) self.new }
+    {
+        self.load(w);
+        self.hand_locks(over);
+        self.count = permits::hand_over(&mut self.permits, self.count, over);
+    }
 
-// The window takes the locks and permits as they were handed over, and its log's records are handed over too.
-pub fn take_over(
-    w: &mut [u8],
-    tables: &[u8],
-    count: usize,
-    from: u8,
-    to: u8,
-    every: bool,
-    entry: u8,
-)
-    requires w_len { length w.old ≡ window_size }
-    requires w_value { sound_bytes w.old ≡ true }
-    requires tables_len { (length tables.now ≡ tables_size) × (count ≤ 1024) }
-    ensures { AreTables (hand_over (decode w.old) from to (on_entries every entry)) count tables.now → w.new ≡ encode (hand_over (decode w.old) from to (on_entries every entry)) }
-{
-    let records = reads::records(w);
-    copy_in(tables, w, Locks::AT);
-    change_log::hand_over(
-        &mut w[Log::AT..layout::Window::SIZE],
-        records,
-        from,
-        to,
-        every,
-        entry,
-    );
-    store_figure(&mut w[Header::AT..Entries::AT], 3, count as u16);
+    // Whether each clashing pair of locks has a permit.
+    pub fn all_permitted(&self) -> bool
+        ensures { (W : _) → LocksAndPermits self.now.locks self.now.permits self.now.entries self.now.count W → result ≡ clashes_permitted W }
+    {
+        clashes::all_permitted(&self.locks, self.entries, &self.permits, self.count)
+    }
+
+    // The window takes the locks and permits, and its log's records are handed over too.
+    pub fn put_into(&self, w: &mut [u8; Window::SIZE], over: HandOver)
+        requires { sound_bytes w.old ≡ true }
+        ensures { HasTables (hand_over (decode w.old) over.from over.to (entries_of over.scope)) self.now → w.new ≡ encode (hand_over (decode w.old) over.from over.to (entries_of over.scope)) }
+    {
+        let view = Sound { bytes: &*w };
+        let records = view.records();
+        w[Locks::AT..Permits::AT].copy_from_slice(&self.locks);
+        w[Permits::AT..Ties::AT].copy_from_slice(&self.permits);
+        change_log::hand_over(&mut w[Log::AT..Window::SIZE], records, over);
+        Figure::Permits.store(&mut w[Header::AT..Entries::AT], self.count as u16);
+    }
 }

@@ -1,3 +1,2 @@
 -- What is proved of a delegate.
-pub mod JudgeLaws
 pub mod DelegateLaws

@@ -1,13 +1,19 @@
 -- The line's section by its places: a record found, one entered, some taken out. Assumes nothing.
 use mathlib.Core.Path.{◌≡◌, refl, sym, ap, ◌∙◌, fun_ext}
 use mathlib.Core.Logic.{◌≢◌}
-use mathlib.Core.Bool.{Bool, true, not, ◌&&◌}
+use mathlib.Core.Bool.{Bool, true, false, not, cond}
 use mathlib.Core.List.{List, [], ◌∷◌, ◌++◌}
-use Prim.Native.Nat.{ℕ, ◌+◌, ◌-◌, ◌*◌, ◌≤◌, ◌<◌}
+use Prim.Native.Nat.{ℕ, ◌+◌, ◌-◌, ◌*◌, ◌/◌, ◌≤◌, ◌<◌}
 use native.Mathlib.Omega.{arith}
-use lib.Dec.{ltb, eqb}
-use lib.ListN.{length, get_or, set, replicate, length-set, get_or-append, get_or-eq_default}
+use lib.Dec.{eqb}
+use borrow.Author.Tests.{eqb-true, eqb-false}
+use lib.ListN.{length, get_or, set, take, replicate, length-set, get_or-append, get_or-eq_default}
 use lib.Seq.{get_or_at, get_or-set_same, get_or-set_other}
+use Rattle.std.specs.Prelude.{Option, Some, None, position}
+use Rattle.std.specs.Option.{unwrap_or}
+use Rattle.std.specs.List.{position_or_len}
+use Rattle.std.specs.Simd.{first_chunks}
+use Rattle.std.proofs.lemmas.List.Sums.{fails_before_first, passes_at_first}
 use Rattle.rules.specs.Base.{table, distinct}
 use Rattle.rules.specs.Sets.{Set, only}
 use Rattle.rules.specs.Window.{LineRecord}
@@ -20,6 +26,7 @@ use Rattle.layout.proofs.ReadLaws.{waiter_read}
 use Rattle.layout.proofs.RecordLaws.{placed, line_flat, first_byte}
 use Rattle.cells.specs.Part.{patch}
 use Rattle.places.proofs.PlaceLaws.{place_store}
+use Rattle.places.proofs.RowLaws.{rows-count, row_byte}
 use Rattle.rows.specs.Rows.{row_key, row_bytes, Closed}
 use Rattle.rows.proofs.CloseLaws.{closed-few}
 use Rattle.rows.proofs.TableLaws.{TableOf, flat_rows, table-closed}
@@ -27,13 +34,28 @@ use Rattle.line.specs.Line.{waiter_row, row_stays, Found}
 use Rattle.line.proofs.FoundLaws.{first_at, first_none, elsewhere_none, elsewhere_at, enter_at, enter_end}
 
 -- FOUND IN THE SECTION
--- one more passed over
-pub passed_over : (s : List ℕ) (k x i : ℕ) → ((j : ℕ) → j < i → get_or s (j * 4 + k) 0 ≢ x) → get_or s (i * 4 + k) 0 ≢ x → (j : ℕ) → j < i + 1 → get_or s (j * 4 + k) 0 ≢ x
-passed_over s k x i f n j h = go (below j i)
-  where
-    go : {b : Bool} → Below j i b → get_or s (j * 4 + k) 0 ≢ x
-    go (under t) = f j t
-    go (over t) = let e : j ≡ i = omega arith in rw e n
+-- the first of the first n records whose byte k is x
+module _ (s : List ℕ) (n : ℕ) (records : List (List ℕ)) (room : 4 * n ≤ length s) (cut : records ≡ first_chunks 4 (length (take (n * 4) s) / 4) (take (n * 4) s)) (k x : ℕ) (few : k < 4) where
+  abbrev test : List ℕ → Bool
+  test r = eqb (get_or r k 0) x
+
+  -- a record's test is its byte's
+  tested : (j : ℕ) → j < n → test (get_or records j []) ≡ eqb (get_or s (j * 4 + k) 0) x
+  tested j h = ap (λ (v : ℕ). eqb v x) (row_byte n s records room cut j k (j * 4 + k) [] (rw (rows-count n s records room cut) h) few refl)
+
+  found_at : (at : ℕ) → at ≤ n → ((j : ℕ) → j < at → test (get_or records j []) ≡ false) → (at < n → test (get_or records at []) ≡ true) → Found s n k x at
+  found_at at most fails passes = record {
+    before = λ j h. eqb-false _ x (sym (tested j (omega arith)) ∙ fails j h);
+    here = λ h. eqb-true _ x (sym (tested at h) ∙ passes h);
+  }
+
+  pub position_found : (r : Option ℕ) → r ≡ position test records → Found s n k x (unwrap_or r n)
+  position_found r e = rw (e, rows-count n s records room cut) (go (below (position_or_len test records) n))
+    where
+      go : {b : Bool} → Below (position_or_len test records) n b → Found s n k x (unwrap_or (cond b (Some (position_or_len test records)) None) n)
+      go (under h) = found_at (position_or_len test records) (omega arith) (λ j t. fails_before_first test records j [] t)
+          (λ t. passes_at_first test records [] (rw (rows-count n s records room cut) h))
+      go (over h) = found_at n (omega arith) (λ j t. fails_before_first test records j [] (omega arith)) (λ t. absurd (omega arith))
 
 module _ (s : List ℕ) (l : List LineRecord) (e : s ≡ line_section l) where
   pub change_read : (i : ℕ) → i < 256 → get_or s (i * 4) 0 ≡ (get_or l i no_waiter).change
@@ -50,12 +72,12 @@ module _ (s : List ℕ) (l : List LineRecord) (e : s ≡ line_section l) where
     by_change i h = sym (first_byte (λ j. get_or s j 0) (i * 4)) ∙ change_read i h
 
     -- the first of an entry
-    pub first_found : Found s n 1 x at → get_or s (at * 4) 0 ≡ first_in_line l x
-    first_found f = change_read at (omega arith) ∙ go (below at n)
-      where
-        go : {b : Bool} → Below at n b → (get_or l at no_waiter).change ≡ first_in_line l x
-        go (under h) = sym (first_at x l at (omega arith) (λ j t. rw (← entry_read j (omega arith)) (f.before j t)) (sym (entry_read at (omega arith)) ∙ f.here h))
-        go (over h) = ap (λ (r : LineRecord). r.change) (get_or-eq_default l no_waiter {n = at} (omega arith)) ∙ sym (first_none x l (λ j t. rw (← entry_read j (omega arith)) (f.before j (omega arith))))
+    pub first_found : Found s n 1 x at → at < n → get_or s (at * 4) 0 ≡ first_in_line l x
+    first_found f h = change_read at (omega arith) ∙ sym (first_at x l at (omega arith) (λ j t. rw (← entry_read j (omega arith)) (f.before j t)) (sym (entry_read at (omega arith)) ∙ f.here h))
+
+    -- nobody stands in its line
+    pub first_missed : Found s n 1 x at → n ≤ at → 0 ≡ first_in_line l x
+    first_missed f h = sym (first_none x l (λ j t. rw (← entry_read j (omega arith)) (f.before j (omega arith))))
 
     -- those of other changes before it
     changes-before : Found s n 0 x at → (j : ℕ) → j < at → (get_or l j no_waiter).change ≢ x
@@ -64,13 +86,13 @@ module _ (s : List ℕ) (l : List LineRecord) (e : s ≡ line_section l) where
     change-here : Found s n 0 x at → at < n → (get_or l at no_waiter).change ≡ x
     change-here f h = sym (by_change at (omega arith)) ∙ f.here h
 
-    -- a change that stands elsewhere
-    pub elsewhere_found : Found s n 0 x at → (e : ℕ) → distinct (λ r. r.change) l ≡ true → ltb at n && not (eqb (get_or s (at * 4 + 1) 0) e) ≡ waits_elsewhere l x e
-    elsewhere_found f e d = go (below at n)
-      where
-        go : {b : Bool} → Below at n b → b && not (eqb (get_or s (at * 4 + 1) 0) e) ≡ waits_elsewhere l x e
-        go (under h) = rw (entry_read at (omega arith)) (sym (elsewhere_at x e l at (omega arith) d (change-here f h)))
-        go (over h) = sym (elsewhere_none x e l (λ j t. changes-before f j (omega arith)))
+    -- a change that stands in a line
+    pub elsewhere_found : Found s n 0 x at → at < n → (e : ℕ) → distinct (λ r. r.change) l ≡ true → not (eqb (get_or s (at * 4 + 1) 0) e) ≡ waits_elsewhere l x e
+    elsewhere_found f h e d = rw (entry_read at (omega arith)) (sym (elsewhere_at x e l at (omega arith) d (change-here f h)))
+
+    -- one that stands in none
+    pub elsewhere_missed : Found s n 0 x at → n ≤ at → (e : ℕ) → false ≡ waits_elsewhere l x e
+    elsewhere_missed f h e = sym (elsewhere_none x e l (λ j t. changes-before f j (omega arith)))
 
 -- ENTERED: in its place, or at the end
 -- the bytes of place i, and the section by its places

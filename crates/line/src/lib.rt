@@ -1,49 +1,57 @@
 // The lines of the entries in their section: who stands first, where a change stands, a change entered and taken out.
 #![tactic(auto)]
 
-ghost use Rattle.std.specs.Prelude.{◌≡◌, true, List, ◌+◌, ◌*◌, ◌≤◌, ◌<◌, length};
+ghost use Rattle.std.specs.Prelude.{◌≡◌, ◌==◌, true, List, ◌≤◌, ◌<◌, length, slice_index, position, IfSome};
+ghost use Rattle.std.specs.Option.{unwrap_or};
 ghost use Rattle.rules.specs.Sets.{only};
 ghost use Rattle.rules.specs.Window.{LineRecord};
 ghost use Rattle.rules.specs.Base.{distinct};
 ghost use Rattle.rules.specs.Line.{make_waiter, waits_elsewhere, first_in_line, enter_line, line_left};
 ghost use Rattle.layout.specs.Codec.{line_size, line_section};
 ghost use Rattle.layout.specs.Records.{Tabled};
-ghost use Rattle.words.specs.Members.{words_have};
 ghost use Rattle.sets.specs.Members.{members};
-ghost use Rattle.rows.specs.Rows.{row_at};
-ghost use Rattle.line.specs.Line.{row_stays, Found};
+ghost use Rattle.line.specs.Line.{Found};
 
-use cells::clear;
 use layout::Line;
-use rows::keep_row;
+use rows::retain;
 use sets::ChangeSet;
 use words::among;
 
-// The place of the first record whose byte k is x; the count where there is none.
-fn find(line: &[u8], count: usize, k: usize, x: u8) -> usize
+// The bytes of a record that name its change and its entry.
+const CHANGE: usize = 0;
+
+const ENTRY: usize = 1;
+
+// The place of the first of these records whose byte k is x.
+fn place_of(records: &[[u8; 4]], k: usize, x: u8) -> Option<usize>
+    requires { k < 4 }
+    ensures value { result ≡ position (λ bytes. slice_index bytes k == x) records.now }
+    ensures some { IfSome result (λ place. place < length records.now) }
+{
+    records.iter().position(|record| record[k] == x)
+}
+
+// The same of the first `count` records of a section.
+fn find(line: &[u8], count: usize, k: usize, x: u8) -> Option<usize>
     requires line_len { length line.now ≡ line_size }
     requires count_bound { count ≤ 256 }
     requires k_bound { k < 4 }
-    ensures upper_bound { result ≤ count }
-    ensures found { Found line.now count k x result }
+    ensures upper_bound { unwrap_or result count ≤ count }
+    ensures some { IfSome result (λ place. place < count) }
+    ensures found { Found line.now count k x (unwrap_or result count) }
 {
-    let mut place = 0;
-    while place < count {
-        if line[place * Line::RECORD + k] == x {
-            return place;
-        }
-        place += 1;
-    }
-    count
+    let (records, _) = line[..count * Line::RECORD].as_chunks::<4>();
+    place_of(records, k, x)
 }
 
-// The first change in an entry's line; 0 where it is empty. The place past the last record is 0, so that it need not be told apart.
-pub fn first(line: &[u8], count: usize, entry: u8) -> u8
+// The first change in an entry's line.
+pub fn front(line: &[u8], count: usize, entry: u8) -> Option<u8>
     requires line_len { length line.now ≡ line_size }
     requires count_bound { count ≤ 255 }
-    ensures { (l : List LineRecord) → length l ≡ count → line.now ≡ line_section l → result ≡ first_in_line l entry }
+    ensures { (l : List LineRecord) → length l ≡ count → line.now ≡ line_section l → unwrap_or result 0 ≡ first_in_line l entry }
 {
-    line[find(line, count, 1, entry) * Line::RECORD]
+    let place = find(line, count, ENTRY, entry)?;
+    Some(line[place * Line::RECORD])
 }
 
 // Whether a change, which stands in one line at most, stands in that of another entry.
@@ -52,8 +60,10 @@ pub fn elsewhere(line: &[u8], count: usize, change: u8, entry: u8) -> bool
     requires count_bound { count ≤ 255 }
     ensures { (l : List LineRecord) → length l ≡ count → line.now ≡ line_section l → distinct (λ x. x.change) l ≡ true → result ≡ waits_elsewhere l change entry }
 {
-    let i = find(line, count, 0, change);
-    (i < count) & !(line[i * Line::RECORD + 1] == entry)
+    match find(line, count, CHANGE, change) {
+        Some(place) => line[place * Line::RECORD + ENTRY] != entry,
+        None => false,
+    }
 }
 
 // A change is put at the end of an entry's line with its mode, or keeps its place and takes the newer mode. What comes back is how many records there are.
@@ -63,24 +73,14 @@ pub fn enter(line: &mut [u8], count: usize, change: u8, entry: u8, mode: u8) -> 
     ensures upper_bound { result ≤ 256 }
     ensures tabled { (l : List LineRecord) → length l ≡ count → line.old ≡ line_section l → Tabled line_section (enter_line (make_waiter change entry mode) l) result line.new }
 {
-    let i = find(line, count, 0, change);
-    let at = i * Line::RECORD;
-    line[at] = change;
-    line[at + 1] = entry;
-    line[at + 2] = mode;
-    line[at + 3] = 0;
-    if i < count {
-        return count;
+    let found = find(line, count, CHANGE, change);
+    let at = found.unwrap_or(count) * Line::RECORD;
+    let record = [change, entry, mode, 0];
+    line[at..at + Line::RECORD].copy_from_slice(&record);
+    match found {
+        Some(_) => count,
+        None => count + 1,
     }
-    count + 1
-}
-
-// Whether the change at a place is not among those that leave.
-fn stays(line: &[u8], i: usize, leaving: &[u64; 4]) -> bool
-    requires { 4 * i + 4 ≤ length line.now }
-    ensures { result ≡ row_stays (words_have leaving.now) (row_at line.now i) }
-{
-    !among(leaving, line[4 * i])
 }
 
 // The changes of a set are taken out and the others close up in order. What comes back is how many are left.
@@ -91,15 +91,7 @@ pub fn drop_all(line: &mut [u8], count: usize, leaving: ChangeSet) -> usize
     ensures tabled { (l : List LineRecord) → length l ≡ count → line.old ≡ line_section l → Tabled line_section (line_left (members leaving) l) result line.new }
 {
     let words = leaving.words;
-    let mut i = 0;
-    let mut j = 0;
-    while i < count {
-        let kept = stays(line, i, &words);
-        j = keep_row(line, i, j, kept);
-        i += 1;
-    }
-    clear(line, 4 * j, 4 * count);
-    j
+    retain::<4, _>(line, count, |record| !among(&words, record[CHANGE]))
 }
 
 // A change is taken out. What comes back is how many are left.

@@ -8,8 +8,9 @@ ghost use Rattle.words.specs.Members.{words_have};
 ghost use Rattle.line_section.specs.Fits.{run_in, waiter_fits, place_fits};
 ghost use Rattle.line_section.specs.Sections.{run_by, LineSound};
 
-use cells::{all_zero, index};
+use cells::all_zero;
 use layout::Line;
+use places::changes::Status;
 use sets::ChangeSet;
 use words::{among, insert};
 
@@ -18,7 +19,7 @@ fn runs(changes: &[u8], c: u8) -> bool
     requires { length changes.now ≡ changes_size }
     ensures { result ≡ run_in changes.now c }
 {
-    changes[index(c) * 4] == 2
+    changes[usize::from(c) * 4] == Status::Running as u8
 }
 
 // Who stands at place j: status 2, an entry that there is, mode 1 or 2, and the last byte 0.
@@ -30,16 +31,14 @@ fn waiter_at(line: &[u8], j: usize, entries: usize, changes: &[u8]) -> bool
     let at = j * Line::RECORD;
     let mode = line[at + 2];
     runs(changes, line[at])
-        & (index(line[at + 1]) < entries)
-        & !((mode < 1) | (2 < mode))
+        & (usize::from(line[at + 1]) < entries)
+        & (1..=2).contains(&mode)
         & (line[at + 3] == 0)
 }
 
 // Whether a change was not among those seen. Now it is.
 fn is_new(seen: &mut [u64; 4], change: u8) -> bool
-    requires { length seen.old ≡ 4 }
     ensures value { result ≡ not (words_have seen.old change) }
-    ensures seen_len { length seen.new ≡ 4 }
     ensures by_index { (k : ℕ) → words_have seen.new k ≡ eqb k change || words_have seen.old k }
 {
     let new = !among(seen, change);
@@ -52,18 +51,15 @@ fn standing(line: &[u8], count: usize, entries: usize, changes: &[u8], seen: &mu
     requires line_len { length line.now ≡ line_size }
     requires count_bound { count ≤ 255 }
     requires changes_len { length changes.now ≡ changes_size }
-    requires seen_len { length seen.old ≡ 4 }
     ensures { ((k : ℕ) → words_have seen.old k ≡ false) → result ≡ all_below count (place_fits line.now entries changes.now) }
 {
-    let mut j = 0;
-    while j < count {
+    for j in 0..count {
         if !waiter_at(line, j, entries, changes) {
             return false;
         }
         if !is_new(seen, line[j * Line::RECORD]) {
             return false;
         }
-        j += 1;
     }
     true
 }

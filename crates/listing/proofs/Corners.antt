@@ -8,14 +8,14 @@ use lib.ListN.{length}
 use Rattle.rules.specs.Base.{all}
 use Rattle.rules.specs.Calls.{Open, Write}
 use Rattle.layout.specs.Memory.{same_bytes, hand_back}
-use Rattle.text.specs.Decimal.{ascii, is_digit, value_after, leading_zero, is_number, no_number, number}
+use Rattle.text.specs.Decimal.{ascii, is_digit, value_after, leading_zero, is_number, number}
 use Rattle.text.specs.Parts.{in_front, parted_by}
 use Rattle.script_calls.specs.Fields.{readings, placed, made, call_of, reply_of}
-use Rattle.script_lines.specs.Lines.{names, place_among, call_number, is_argument, numbered, fielded, line_call, reply_to}
+use Rattle.script_lines.specs.Lines.{names, place_among, call_number, numbered, fielded, line_call, reply_to}
 
 -- all that a line's call is read with
 unfoldable pub reading : Unit {0}
-unfolding ascii is_digit all value_after leading_zero is_number no_number number in_front parted_by same_bytes names place_among call_number readings placed made call_of is_argument numbered fielded line_call
+unfolding ascii is_digit all value_after leading_zero is_number number in_front parted_by same_bytes names place_among call_number readings placed made call_of numbered fielded line_call
 reading = tt
 
 -- "no leading zero but in 0 itself"

@@ -1,32 +1,27 @@
--- A printed line, made from its end, and put after what waits. Assumes nothing.
-use mathlib.Core.Path.{◌≡◌, refl, ap, ◌∙◌}
-use mathlib.Core.List.{List, [], ◌∷◌, ◌++◌}
-use Prim.Native.Nat.{ℕ, ◌+◌, ◌-◌, ◌≤◌}
-use native.Mathlib.Omega.{arith}
-use lib.ListN.{length, take, drop, set, length-drop, drop_of_length-le}
-use lib.Seq.{take_all}
-use Rattle.cells.specs.Part.{patch}
-use Rattle.cells.proofs.PartLaws.{take-patch_end}
+-- A printed line, put after what waits. Assumes nothing.
+use mathlib.Core.Path.{◌≡◌, ap, ◌∙◌}
+use mathlib.Core.List.{List, [], ◌∷◌, ◌++◌, append_assoc}
+use Prim.Native.Nat.{ℕ, ◌^◌, ◌<◌}
 use Rattle.text.specs.Decimal.{shown_before}
-use Rattle.text.proofs.ShownLaws.{drop-set}
+use Rattle.text.proofs.ShownLaws.{shown-append}
 use Rattle.listing.specs.Listing.{printed}
 
--- A LINE: the newline, then the numbers and commas in front of it
-pub line-printed : (p a n : ℕ) (t u v w : List ℕ) (i j k : ℕ) → length t ≡ 64 → length u ≡ 64 → length v ≡ 64 → 1 ≤ i → i ≤ 63 → 1 ≤ j → j ≤ 63
-    → drop i u ≡ shown_before n (drop 63 (set t 63 10)) → drop j v ≡ shown_before a (drop (i - 1) (set u (i - 1) 44)) → drop k w ≡ shown_before p (drop (j - 1) (set v (j - 1) 44))
-    → drop k w ≡ printed p a n
-unfolding printed
-line-printed p a n t u v w i j k ht hu hv hi hi' hj hj' eu ev ew =
-    let newline : drop 63 (set t 63 10) ≡ 10 ∷ [] = drop-set t 63 10 64 refl (omega arith) ∙ ap (λ (r : List ℕ). 10 ∷ r) (drop_of_length-le t {i = 64} (omega arith)) in
-    let second : drop (i - 1) (set u (i - 1) 44) ≡ 44 ∷ shown_before n (10 ∷ []) = drop-set u (i - 1) 44 i (omega arith) (omega arith) ∙ ap (λ (r : List ℕ). 44 ∷ r) (eu ∙ ap (shown_before n) newline) in
-    let first : drop (j - 1) (set v (j - 1) 44) ≡ 44 ∷ shown_before a (44 ∷ shown_before n (10 ∷ [])) = drop-set v (j - 1) 44 j (omega arith) (omega arith) ∙ ap (λ (r : List ℕ). 44 ∷ r) (ev ∙ ap (shown_before a) second) in
-    ew ∙ ap (shown_before p) first
+-- a number and a byte after others
+put : (out : List ℕ) (n b : ℕ) (after : List ℕ) → n < 2 ^ 64 → ((out ++ shown_before n []) ++ (b ∷ [])) ++ after ≡ out ++ shown_before n (b ∷ after)
+put out n b after h =
+    append_assoc (out ++ shown_before n []) (b ∷ []) after ∙ append_assoc out (shown_before n []) (b ∷ after) ∙ ap (λ (l : List ℕ). out ++ l) (shown-append n h (b ∷ after))
 
--- the line put after what waits, from where it begins in the 64 bytes
-pub line-put : (out t after : List ℕ) (used at p a n : ℕ) → used ≤ length out → length t ≡ 64 → drop at t ≡ printed p a n → after ≡ patch out used (take (64 - at) (drop at t))
-    → take (used + (64 - at)) after ≡ take used out ++ printed p a n
-line-put out t after used at p a n hu ht e w =
-    let all : length (drop at t) ≡ 64 - at = rw (length-drop at t, ht) in
-    let whole : after ≡ patch out used (printed p a n) = w ∙ ap (patch out used) (take_all (64 - at) (drop at t) (omega arith) ∙ e) in
-    let long : used + length (printed p a n) ≡ used + (64 - at) = omega (arith, ap length e) in
-    ap (take (used + (64 - at))) whole ∙ take-patch_end out used (printed p a n) (used + (64 - at)) long hu
+-- three of them
+three : (out : List ℕ) (p a n : ℕ) → p < 2 ^ 64 → a < 2 ^ 64 → n < 2 ^ 64
+    → (((((out ++ shown_before p []) ++ (44 ∷ [])) ++ shown_before a []) ++ (44 ∷ [])) ++ shown_before n []) ++ (10 ∷ []) ≡ out ++ printed p a n
+unfolding printed
+three out p a n hp ha hn =
+    let l : List ℕ = (out ++ shown_before p []) ++ (44 ∷ []) in
+    let m : List ℕ = (l ++ shown_before a []) ++ (44 ∷ []) in
+    append_assoc m (shown_before n []) (10 ∷ []) ∙ ap (λ (r : List ℕ). m ++ r) (shown-append n hn (10 ∷ []))
+    ∙ put l a 44 (shown_before n (10 ∷ [])) ha ∙ put out p 44 (shown_before a (44 ∷ shown_before n (10 ∷ []))) hp
+
+-- one step after the other
+pub line-printed : (out o₁ o₂ o₃ o₄ o₅ o₆ : List ℕ) (p a n x y : ℕ) → o₁ ≡ out ++ shown_before p [] → o₂ ≡ o₁ ++ (44 ∷ []) → x ≡ a → o₃ ≡ o₂ ++ shown_before x [] → o₄ ≡ o₃ ++ (44 ∷ [])
+    → y ≡ n → o₅ ≡ o₄ ++ shown_before y [] → o₆ ≡ o₅ ++ (10 ∷ []) → p < 2 ^ 64 → a < 2 ^ 64 → n < 2 ^ 64 → o₆ ≡ out ++ printed p a n
+line-printed out o₁ o₂ o₃ o₄ o₅ o₆ p a n x y h₁ h₂ e h₃ h₄ f h₅ h₆ hp ha hn = rw (h₆, h₅, f, h₄, h₃, e, h₂, h₁) (three out p a n hp ha hn)

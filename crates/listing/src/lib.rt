@@ -1,197 +1,156 @@
 // The listing: what the script program prints, made while its input is fed in pieces.
 #![tactic(auto)]
 
-ghost use Rattle.std.specs.Prelude.{◌≡◌, List, ◌++◌, ℕ, ◌+◌, ◌*◌, ◌^◌, ◌≤◌, ◌<◌, length, take, drop};
-ghost use Rattle.listing.specs.Listing.{zero_memory, printed};
-ghost use Rattle.listing.specs.Feed.{start as started, first_ended, later_ended, line_ended, fed_byte, fed, ended};
+ghost use Rattle.std.specs.Prelude.{◌≡◌, ◌+◌, ◌*◌, ◌^◌, ◌≤◌, ◌<◌, ◌++◌, length};
+ghost use Rattle.arrayvec.specs.ArrayVec.{array_vec_len};
+ghost use Rattle.listing.specs.Listing.{printed};
+ghost use Rattle.listing.specs.Feed.{start as started, line_ended, fed_byte, fed, ended};
 ghost use Rattle.listing.specs.Stands.{standing};
 
-use cells::copy_in;
+use arrayvec::ArrayVec;
+use layout::Window;
+use replies::{Reply, unchanged};
 use script_lines::answer;
-use text::{same, show_before};
+use text::{same, show};
 
 // How many bytes of a line are kept: of one above 64 bytes, enough to tell that it is.
 pub const KEPT: usize = 65;
 
-// Where a listing stands: how many bytes of the line begun are kept, its place, whether the first line was broken, and how many bytes wait to be written.
-#[derive(Clone, Copy)]
-pub struct Stand {
-    pub held: usize,
-    pub place: u64,
-    pub over: bool,
-    pub used: usize,
+// The room for what is printed and waits to be written.
+pub const ROOM: usize = 65536;
+
+// Which line has begun: the first one, a later one, with the number of later lines before it, or one that plays no part, since the first was broken.
+#[derive(Clone, Copy, Debug, PartialEq, Eq)]
+pub enum Stage {
+    First,
+    Later(u64),
+    Over,
 }
 
-// A line to print, at the end of 64 bytes. What comes back is where it begins.
-fn print_line(text: &mut [u8], place: u64, answer: u32, number: u32) -> usize
-    requires { length text.old ≡ 64 }
-    ensures upper_bound { result ≤ 64 }
-    ensures text_after { drop result text.new ≡ printed place answer number }
-{
-    text[63] = b'\n';
-    let n = show_before(text, 63, number as u64);
-    text[n - 1] = b',';
-    let a = show_before(text, n - 1, answer as u64);
-    text[a - 1] = b',';
-    show_before(text, a - 1, place)
+// A listing on its way: the bytes kept of the line begun, which line it is, the memory of the calls, and what is printed and waits to be written.
+#[derive(Drop)]
+pub struct Listing {
+    pub line: ArrayVec<u8, KEPT>,
+    pub stage: Stage,
+    pub memory: [u8; Window::SIZE],
+    pub out: ArrayVec<u8, ROOM>,
 }
 
-// A line printed after the bytes that wait. What comes back is how many wait now.
-fn put_line(out: &mut [u8], used: usize, place: u64, answer: u32, number: u32) -> usize
-    requires { used + 64 ≤ length out.old }
-    ensures upper_bound { result ≤ used + 64 }
-    ensures out_after { take result out.new ≡ take used out.old ++ printed place answer number }
+// A line printed after what waits to be written.
+fn print_line(out: &mut ArrayVec<u8, ROOM>, place: u64, reply: Reply)
+    requires { array_vec_len out.old + 64 ≤ 65536 }
+    ensures items { out.new.items ≡ out.old.items ++ printed place reply.answer reply.number }
+    ensures len { array_vec_len out.new ≤ array_vec_len out.old + 64 }
 {
-    let mut text = [0u8; 64];
-    let at = print_line(&mut text, place, answer, number);
-    copy_in(&text[at..], out, used);
-    used + (64 - at)
+    show(place, out);
+    out.push(b',');
+    show(u64::from(reply.answer), out);
+    out.push(b',');
+    show(u64::from(reply.number), out);
+    out.push(b'\n');
 }
 
-// The header, which waits to be written; nothing has been read.
-pub fn start(out: &mut [u8]) -> Stand
-    requires { 19 ≤ length out.old }
-    ensures held_bound { result.held ≤ 65 }
-    ensures used_bound { result.used ≤ 19 }
-    ensures place_value { result.place ≡ 0 }
-    ensures by_index { (line : List ℕ) → standing result line zero_memory out.new ≡ started }
-{
-    copy_in(b"line,answer,number\n", out, 0);
-    Stand {
-        held: 0,
-        place: 0,
-        over: false,
-        used: 19,
+impl Listing {
+    // The header waits to be written; nothing has been read, and the memory is all 0.
+    pub fn start() -> Self
+        ensures state { standing result ≡ started }
+        ensures place { (standing result).place ≡ 0 }
+        ensures len { array_vec_len result.out ≤ 19 }
+    {
+        let mut out = ArrayVec::new();
+        let _fits = out.try_extend_from_slice(b"line,answer,number\n");
+        Listing {
+            line: ArrayVec::new(),
+            stage: Stage::First,
+            memory: [0; Window::SIZE],
+            out,
+        }
     }
-}
 
-// The first line is whole.
-fn first_ended(s: Stand, line: &[u8], out: &mut [u8]) -> Stand
-    requires held_in_bounds { s.held ≤ length line.now }
-    requires used_in_bounds { s.used + 64 ≤ length out.old }
-    ensures held_value { result.held ≡ 0 }
-    ensures used_bound { result.used ≤ s.used + 64 }
-    ensures place_bound { result.place ≤ 1 }
-    ensures by_index { (m : List ℕ) → standing result line.now m out.new ≡ first_ended (standing s line.now m out.old) }
-{
-    let held = s.held;
-    let right = same(&line[..held], b"call,a,b,c,d");
-    if right {
-        return Stand {
-            held: 0,
-            place: 1,
-            over: false,
-            used: s.used,
-        };
+    // The first line is whole.
+    fn end_first(&mut self)
+        requires stage { self.old.stage ≡ Stage.First }
+        requires room { array_vec_len self.old.out + 64 ≤ 65536 }
+        ensures state { standing self.new ≡ line_ended (standing self.old) }
+        ensures len { array_vec_len self.new.out ≤ array_vec_len self.old.out + 64 }
+    {
+        let right = same(&self.line, b"call,a,b,c,d");
+        self.line.clear();
+        if right {
+            self.stage = Stage::Later(0);
+        } else {
+            print_line(&mut self.out, 0, unchanged(30));
+            self.stage = Stage::Over;
+        }
     }
-    let used = put_line(out, s.used, 0, 30, 0);
-    Stand {
-        held: 0,
-        place: 0,
-        over: true,
-        used,
-    }
-}
 
-// A later line is whole.
-fn later_ended(s: Stand, line: &[u8], memory: &mut [u8], out: &mut [u8]) -> Stand
-    requires held_in_bounds { s.held ≤ length line.now }
-    requires used_in_bounds { s.used + 64 ≤ length out.old }
-    requires place_bound { s.place + 1 < 2 ^ 64 }
-    ensures held_value { result.held ≡ 0 }
-    ensures used_bound { result.used ≤ s.used + 64 }
-    ensures place_bound_2 { result.place ≤ s.place + 1 }
-    ensures out_after { standing result line.now memory.new out.new ≡ later_ended (standing s line.now memory.old out.old) }
-{
-    let held = s.held;
-    let reply = answer(memory, &line[..held]);
-    let used = put_line(out, s.used, s.place, reply.answer, reply.number);
-    Stand {
-        held: 0,
-        place: s.place + 1,
-        over: false,
-        used,
+    // A later line is whole, with so many before it.
+    fn end_later(&mut self, before: u64)
+        requires stage { self.old.stage ≡ Stage.Later before }
+        requires room { array_vec_len self.old.out + 64 ≤ 65536 }
+        requires place_bound { before + 2 < 2 ^ 64 }
+        ensures state { standing self.new ≡ line_ended (standing self.old) }
+        ensures len { array_vec_len self.new.out ≤ array_vec_len self.old.out + 64 }
+    {
+        let place = before + 1;
+        let reply = answer(&mut self.memory, &self.line);
+        print_line(&mut self.out, place, reply);
+        self.line.clear();
+        self.stage = Stage::Later(place);
     }
-}
 
-// A line is whole; after a broken first line there is nothing more to do.
-fn end_line(s: Stand, line: &[u8], memory: &mut [u8], out: &mut [u8]) -> Stand
-    requires held_in_bounds { s.held ≤ length line.now }
-    requires used_in_bounds { s.used + 64 ≤ length out.old }
-    requires place_bound { s.place + 1 < 2 ^ 64 }
-    ensures held_le_held { result.held ≤ s.held }
-    ensures used_bound { result.used ≤ s.used + 64 }
-    ensures place_bound_2 { result.place ≤ s.place + 1 }
-    ensures out_after { standing result line.now memory.new out.new ≡ line_ended (standing s line.now memory.old out.old) }
-{
-    if s.over {
-        return s;
+    // A line is whole; after a broken first line there is nothing more to do.
+    fn end_line(&mut self)
+        requires room { array_vec_len self.old.out + 64 ≤ 65536 }
+        requires place_bound { (standing self.old).place + 1 < 2 ^ 64 }
+        ensures state { standing self.new ≡ line_ended (standing self.old) }
+        ensures len { array_vec_len self.new.out ≤ array_vec_len self.old.out + 64 }
+    {
+        match self.stage {
+            Stage::First => self.end_first(),
+            Stage::Later(before) => self.end_later(before),
+            Stage::Over => {}
+        }
     }
-    if s.place == 0 {
-        return first_ended(s, line, out);
-    }
-    later_ended(s, line, memory, out)
-}
 
-// One byte more.
-fn feed_byte(s: Stand, b: u8, line: &mut [u8], memory: &mut [u8], out: &mut [u8]) -> Stand
-    requires line_len { length line.old ≡ 65 }
-    requires held_bound { s.held ≤ 65 }
-    requires used_in_bounds { s.used + 64 ≤ length out.old }
-    requires place_bound { s.place + 1 < 2 ^ 64 }
-    ensures held_bound_2 { result.held ≤ 65 }
-    ensures used_bound { result.used ≤ s.used + 64 }
-    ensures place_bound_2 { result.place ≤ s.place + 1 }
-    ensures out_after { standing result line.new memory.new out.new ≡ fed_byte (standing s line.old memory.old out.old) b }
-{
-    if b == b'\n' {
-        return end_line(s, &*line, memory, out);
+    // One byte more.
+    fn feed_byte(&mut self, byte: u8)
+        requires room { array_vec_len self.old.out + 64 ≤ 65536 }
+        requires place_bound { (standing self.old).place + 1 < 2 ^ 64 }
+        ensures state { standing self.new ≡ fed_byte (standing self.old) byte }
+        ensures len { array_vec_len self.new.out ≤ array_vec_len self.old.out + 64 }
+    {
+        if byte == b'\n' {
+            self.end_line();
+        } else {
+            let _full = self.line.try_push(byte);
+        }
     }
-    let held = s.held;
-    if held == KEPT {
-        return s;
-    }
-    line[held] = b;
-    Stand {
-        held: held + 1,
-        place: s.place,
-        over: s.over,
-        used: s.used,
-    }
-}
 
-// A piece of the input.
-pub fn feed(s: Stand, input: &[u8], line: &mut [u8], memory: &mut [u8], out: &mut [u8]) -> Stand
-    requires line_len { length line.old ≡ 65 }
-    requires held_bound { s.held ≤ 65 }
-    requires input_in_bounds { s.used + 64 * length input.now ≤ length out.old }
-    requires input_bound { s.place + length input.now < 2 ^ 64 }
-    ensures held_bound_2 { result.held ≤ 65 }
-    ensures used_bound { result.used ≤ s.used + 64 * length input.now }
-    ensures place_bound { result.place ≤ s.place + length input.now }
-    ensures out_after { standing result line.new memory.new out.new ≡ fed (standing s line.old memory.old out.old) input.now }
-{
-    let mut at = s;
-    let mut i = 0;
-    while i < input.len() {
-        at = feed_byte(at, input[i], line, memory, out);
-        i += 1;
+    // A piece of the input.
+    pub fn feed(&mut self, input: &[u8])
+        requires room { array_vec_len self.old.out + 64 * length input.now ≤ 65536 }
+        requires place_bound { (standing self.old).place + length input.now < 2 ^ 64 }
+        ensures state { standing self.new ≡ fed (standing self.old) input.now }
+        ensures len { array_vec_len self.new.out ≤ array_vec_len self.old.out + 64 * length input.now }
+        ensures place { (standing self.new).place ≤ (standing self.old).place + length input.now }
+    {
+        for &byte in input {
+            self.feed_byte(byte);
+        }
     }
-    at
-}
 
-// The input is at its end: a line begun is whole too.
-pub fn finish(s: Stand, line: &[u8], memory: &mut [u8], out: &mut [u8]) -> Stand
-    requires line_len { length line.now ≡ 65 }
-    requires held_bound { s.held ≤ 65 }
-    requires used_in_bounds { s.used + 64 ≤ length out.old }
-    requires place_bound { s.place + 1 < 2 ^ 64 }
-    ensures used_bound { result.used ≤ s.used + 64 }
-    ensures out_after { standing result line.now memory.new out.new ≡ ended (standing s line.now memory.old out.old) }
-{
-    let nothing = s.held == 0;
-    if nothing {
-        return s;
+    // The input is at its end: a line begun is whole too.
+    pub fn finish(&mut self)
+        requires room { array_vec_len self.old.out + 64 ≤ 65536 }
+        requires place_bound { (standing self.old).place + 1 < 2 ^ 64 }
+        ensures state { standing self.new ≡ ended (standing self.old) }
+        ensures len { array_vec_len self.new.out ≤ array_vec_len self.old.out + 64 }
+    {
+        let held = self.line.len();
+        let nothing = held == 0;
+        if !nothing {
+            self.end_line();
+        }
     }
-    end_line(s, line, memory, out)
 }

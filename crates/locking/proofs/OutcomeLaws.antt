@@ -1,6 +1,7 @@
 -- A lock on the bytes of a sound window, from what is left of them: covered, blocked or granted. Assumes nothing.
 use mathlib.Core.Path.{◌≡◌, sym, ◌∙◌}
 use mathlib.Core.Logic.{◌≢◌}
+use mathlib.Core.Bool.{Bool}
 use mathlib.Core.List.{List}
 use Prim.Native.Nat.{ℕ, ◌≤◌, ◌<◌}
 use native.Mathlib.Omega.{arith}
@@ -11,7 +12,7 @@ use Rattle.rules.specs.Window.{Window, with_held, with_line}
 use Rattle.rules.specs.Line.{first_in_line, other_first}
 use Rattle.rules.specs.Calls.{Lock}
 use Rattle.rules.specs.Effects.{effect, leave, wait, covers, lock_blocker, in_the_way, lock_granted, put_held, lock_entry}
-use Rattle.rules.proofs.BaseLaws.{eqb_same}
+use Rattle.rules.proofs.BaseLaws.{eqb_same, Same, same, other, same?}
 use Rattle.layout.specs.Codec.{locks_at, locks_size, lock_section, encode}
 use Rattle.layout.proofs.PutLaws.{laid_at}
 use Rattle.layout.proofs.LentLaws.{locks_back}
@@ -33,6 +34,14 @@ module _ (W : Window) (c e m holder : ℕ) (q : holder ≡ lock_blocker W c e m)
     pub way_first : first ≢ c → first ≡ in_the_way W c e m
     unfolding in_the_way other_first
     way_first n = rw (← q, z, ← f, ne_eqb first c n)
+
+    -- nobody is
+    pub way_none : first ≡ 0 → 0 ≡ in_the_way W c e m
+    way_none n = go (same? first c)
+      where
+        go : {b : Bool} → Same first c b → 0 ≡ in_the_way W c e m
+        go (same o) = way_own o
+        go (other d) = sym n ∙ way_first d
 
 module _ (W : Window) (c e m h : ℕ) (q : h ≡ W.held e c) (r : Reply) (out : List ℕ) where
   pub lock_covered : m ≤ h → out ≡ encode (leave W c) → (r.answer ≡ 0) × (r.number ≡ 0) → Gives (written (effect W (Lock c e m))) r out

@@ -2,6 +2,8 @@
 -- the lock section by its bits, and by its rows
 pub mod BitLaws
 pub mod SectionLaws
+-- modes and the numbers that they stand for
+pub mod ModeLaws
 -- one row's locks as two sets
 pub mod RowLaws
 -- the locks changed by entries, and a walk over them

@@ -2,39 +2,52 @@
 // The contracts speak of every `held`, the lock of each change on each entry, that the section is the bytes of.
 #![tactic(auto)]
 
-ghost use Rattle.std.specs.Prelude.{◌≡◌, ℕ, ◌+◌, ◌≤◌, ◌<◌, max, length};
+ghost use Rattle.std.specs.Prelude.{◌≡◌, ℕ, ◌+◌, ◌≤◌, ◌<◌, length};
 ghost use Rattle.rules.specs.Base.{any_below, put, put2};
 ghost use Rattle.rules.specs.Sets.{everything, only, put_all};
 ghost use Rattle.rules.specs.Effects.{move_held, released};
 ghost use Rattle.layout.specs.Codec.{lock_section, locks_size};
 ghost use Rattle.sets.specs.Members.{members, loaded};
 ghost use Rattle.locks.specs.Held.{Modes, NoneFrom, in_mode, holding, clashes_with, holders_among, changed_on};
+ghost use Rattle.locks.specs.Modes.{number_of, StandsFor};
 ghost use Rattle.locks.specs.Entry.{LocksOf};
 
+pub mod modes;
+
+use crate::modes::Mode;
 use layout::Locks;
 use sets::ChangeSet;
+
+// The changes that hold an entry in a mode.
+pub fn held_in(locks: &[u8], entry: u8, mode: Mode) -> ChangeSet
+    ensures { (held : ℕ → ℕ → ℕ) → locks.now ≡ lock_section held → (k : ℕ) → members result k ≡ in_mode (number_of mode) (held entry) k }
+{
+    let at = usize::from(entry) * Locks::ENTRY;
+    match mode {
+        Mode::Read => ChangeSet::load(locks, at),
+        Mode::Write => ChangeSet::load(locks, at + Locks::SET),
+    }
+}
 
 // The changes that hold an entry to read.
 pub fn readers(locks: &[u8], entry: u8) -> ChangeSet
     ensures { (held : ℕ → ℕ → ℕ) → locks.now ≡ lock_section held → (k : ℕ) → members result k ≡ in_mode 1 (held entry) k }
 {
-    ChangeSet::load(locks, entry as usize * Locks::ENTRY)
+    held_in(locks, entry, Mode::Read)
 }
 
 // The changes that hold an entry to write.
 pub fn writers(locks: &[u8], entry: u8) -> ChangeSet
     ensures { (held : ℕ → ℕ → ℕ) → locks.now ≡ lock_section held → (k : ℕ) → members result k ≡ in_mode 2 (held entry) k }
 {
-    ChangeSet::load(locks, entry as usize * Locks::ENTRY + Locks::SET)
+    held_in(locks, entry, Mode::Write)
 }
 
 // The changes that hold an entry.
 fn holders(locks: &[u8], entry: u8) -> ChangeSet
     ensures { (held : ℕ → ℕ → ℕ) → Modes held → locks.now ≡ lock_section held → (k : ℕ) → members result k ≡ holding (held entry) k }
 {
-    let r = readers(locks, entry);
-    let w = writers(locks, entry);
-    r.unite(w)
+    held_in(locks, entry, Mode::Read).unite(held_in(locks, entry, Mode::Write))
 }
 
 // The lock of a change on an entry.
@@ -42,20 +55,28 @@ pub fn mode(locks: &[u8], entry: u8, change: u8) -> u8
     requires { length locks.now ≡ locks_size }
     ensures { (held : ℕ → ℕ → ℕ) → Modes held → locks.now ≡ lock_section held → result ≡ held entry change }
 {
-    let at = entry as usize * Locks::ENTRY + (change / 8) as usize;
+    let at = usize::from(entry) * Locks::ENTRY + usize::from(change / 8);
     let i = change % 8;
     (locks[at] >> i) % 2 + (locks[at + Locks::SET] >> i) % 2 * 2
+}
+
+// The mode of that lock, where there is one.
+fn lock_of(locks: &[u8], entry: u8, change: u8) -> Option<Mode>
+    requires { length locks.now ≡ locks_size }
+    ensures { (held : ℕ → ℕ → ℕ) → Modes held → locks.now ≡ lock_section held → StandsFor result (held entry change) }
+{
+    Mode::of(mode(locks, entry, change))
 }
 
 // The changes whose lock on an entry clashes with a mode, 1 or 2.
 pub fn clashing(locks: &[u8], entry: u8, mode: u8) -> ChangeSet
     ensures { (held : ℕ → ℕ → ℕ) → Modes held → 0 < mode → locks.now ≡ lock_section held → (k : ℕ) → members result k ≡ clashes_with mode (held entry) k }
 {
-    let write: u8 = 2;
+    let write = Mode::Write as u8;
     if mode == write {
         holders(locks, entry)
     } else {
-        writers(locks, entry)
+        held_in(locks, entry, Mode::Write)
     }
 }
 
@@ -72,8 +93,8 @@ impl EntryLocks {
         ensures { (held : ℕ → ℕ → ℕ) → locks.now ≡ lock_section held → LocksOf result (held entry) }
     {
         EntryLocks {
-            readers: readers(locks, entry),
-            writers: writers(locks, entry),
+            readers: held_in(locks, entry, Mode::Read),
+            writers: held_in(locks, entry, Mode::Write),
         }
     }
 
@@ -81,33 +102,27 @@ impl EntryLocks {
     fn store(self, locks: &mut [u8], entry: u8)
         ensures { (held : ℕ → ℕ → ℕ) (row : ℕ → ℕ) → locks.old ≡ lock_section held → LocksOf self row → locks.new ≡ lock_section (put held entry row) }
     {
-        let at = entry as usize * Locks::ENTRY;
-        let r = self.readers;
-        let w = self.writers;
-        r.store(locks, at);
-        w.store(locks, at + Locks::SET);
+        let at = usize::from(entry) * Locks::ENTRY;
+        self.readers.store(locks, at);
+        self.writers.store(locks, at + Locks::SET);
     }
 
-    // With a change's lock in a mode, 0 being none.
-    fn with_mode(self, change: u8, mode: u8) -> EntryLocks
-        ensures { (row : ℕ → ℕ) → LocksOf self row → LocksOf result (put row change mode) }
+    // With a change's lock in a mode, or with none.
+    fn with_mode(self, change: u8, mode: Option<Mode>) -> EntryLocks
+        ensures { (row : ℕ → ℕ) (v : ℕ) → StandsFor mode v → LocksOf self row → LocksOf result (put row change v) }
     {
-        let r = self.readers;
-        let w = self.writers;
-        let readers = r.without(change);
-        let writers = w.without(change);
-        if mode == 1 {
-            EntryLocks {
+        let readers = self.readers.without(change);
+        let writers = self.writers.without(change);
+        match mode {
+            Some(Mode::Read) => EntryLocks {
                 readers: readers.add(change),
                 writers,
-            }
-        } else if mode == 2 {
-            EntryLocks {
+            },
+            Some(Mode::Write) => EntryLocks {
                 readers,
                 writers: writers.add(change),
-            }
-        } else {
-            EntryLocks { readers, writers }
+            },
+            None => EntryLocks { readers, writers },
         }
     }
 }
@@ -117,7 +132,7 @@ pub fn grant(locks: &mut [u8], entry: u8, change: u8, mode: u8)
     ensures { (held : ℕ → ℕ → ℕ) → locks.old ≡ lock_section held → locks.new ≡ lock_section (put2 held entry change mode) }
 {
     let before = EntryLocks::load(locks, entry);
-    let after = before.with_mode(change, mode);
+    let after = before.with_mode(change, Mode::of(mode));
     after.store(locks, entry);
 }
 
@@ -126,37 +141,31 @@ fn release_entry(locks: &mut [u8], entry: u8, ended: ChangeSet)
     ensures { (held : ℕ → ℕ → ℕ) → locks.old ≡ lock_section held → locks.new ≡ lock_section (changed_on (only entry) (put_all (members ended) 0) held) }
 {
     let before = EntryLocks::load(locks, entry);
-    let r = before.readers;
-    let w = before.writers;
     let after = EntryLocks {
-        readers: r.minus(ended),
-        writers: w.minus(ended),
+        readers: before.readers.minus(ended),
+        writers: before.writers.minus(ended),
     };
     after.store(locks, entry);
 }
 
 // Whether a change of a set, given as its 32 bytes, holds the entry whose locks stand at a place. No early way out: the or of the bytes.
-fn touched(locks: &[u8], at: usize, ended: &[u8]) -> bool
-    requires at_in_bounds { at + 64 ≤ length locks.now }
-    requires ended_len { length ended.now ≡ 32 }
+fn touched(locks: &[u8], at: usize, ended: &[u8; Locks::SET]) -> bool
+    requires { at + 64 ≤ length locks.now }
     ensures { result ≡ any_below 256 (holders_among locks.now at ended.now) }
 {
     let mut acc: u8 = 0;
-    let mut byte: usize = 0;
-    while byte < Locks::SET {
-        acc = acc | ((locks[at + byte] | locks[at + Locks::SET + byte]) & ended[byte]);
-        byte += 1;
+    for byte in 0..Locks::SET {
+        acc |= (locks[at + byte] | locks[at + Locks::SET + byte]) & ended[byte];
     }
     acc != 0
 }
 
 // Takes the locks of a set of changes, given also as its 32 bytes, from an entry. One that none of them holds is passed over before a set is loaded.
-fn release_touched(locks: &mut [u8], entry: u8, bytes: &[u8], ended: ChangeSet)
-    requires locks_size_in_bounds { locks_size ≤ length locks.old }
-    requires bytes_len { length bytes.now ≡ 32 }
+fn release_touched(locks: &mut [u8], entry: u8, bytes: &[u8; Locks::SET], ended: ChangeSet)
+    requires { locks_size ≤ length locks.old }
     ensures { (held : ℕ → ℕ → ℕ) → ((k : ℕ) → k < 256 → loaded bytes.now 0 k ≡ members ended k) → locks.old ≡ lock_section held → locks.new ≡ lock_section (changed_on (only entry) (put_all (members ended) 0) held) }
 {
-    if touched(locks, entry as usize * Locks::ENTRY, bytes) {
+    if touched(locks, usize::from(entry) * Locks::ENTRY, bytes) {
         release_entry(locks, entry, ended);
     }
 }
@@ -172,18 +181,9 @@ pub fn release(locks: &mut [u8], entries: usize, ended: ChangeSet)
     }
     let mut bytes = [0u8; Locks::SET];
     ended.store(&mut bytes, 0);
-    let mut entry: usize = 0;
-    while entry < entries {
+    for entry in 0..entries {
         release_touched(locks, entry as u8, &bytes, ended);
-        entry += 1;
     }
-}
-
-// The greater of two modes.
-fn greater(a: u8, b: u8) -> u8
-    ensures { result ≡ max a b }
-{
-    if a < b { b } else { a }
 }
 
 // Moves a change's lock on an entry to another change; it meets one already held as the greater.
@@ -191,13 +191,13 @@ pub fn hand_over(locks: &mut [u8], entry: u8, from: u8, to: u8)
     requires { length locks.old ≡ locks_size }
     ensures { (held : ℕ → ℕ → ℕ) → Modes held → locks.old ≡ lock_section held → locks.new ≡ lock_section (move_held from to (only entry) held) }
 {
-    let given = mode(locks, entry, from);
-    if given == 0 {
+    let given = lock_of(locks, entry, from);
+    if given.is_none() {
         return;
     }
-    let most = greater(given, mode(locks, entry, to));
+    let most = given.max(lock_of(locks, entry, to));
     let before = EntryLocks::load(locks, entry);
-    let after = before.with_mode(from, 0).with_mode(to, most);
+    let after = before.with_mode(from, None).with_mode(to, most);
     after.store(locks, entry);
 }
 
@@ -206,9 +206,7 @@ pub fn hand_over_all(locks: &mut [u8], entries: usize, from: u8, to: u8)
     requires { (length locks.old ≡ locks_size) × (entries ≤ 256) }
     ensures { (held : ℕ → ℕ → ℕ) → Modes held → NoneFrom entries held → locks.old ≡ lock_section held → locks.new ≡ lock_section (move_held from to everything held) }
 {
-    let mut i: usize = 0;
-    while i < entries {
+    for i in 0..entries {
         hand_over(locks, i as u8, from, to);
-        i += 1;
     }
 }

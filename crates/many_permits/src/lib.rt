@@ -1,21 +1,31 @@
 // An entry with many permits: those to anybody by sets, and those that name a writer past blocks without its number.
 #![tactic(auto)]
 
-ghost use Rattle.std.specs.Prelude.{◌≡◌, ◌&&◌, ◌||◌, ℕ, ◌+◌, ◌*◌, ◌≤◌, length};
+ghost use Rattle.std.specs.Prelude.{◌≡◌, ◌&&◌, ◌||◌, ℕ, ◌+◌, ◌*◌, ◌≤◌, eqb, length};
+ghost use Rattle.std.specs.List.{flat_map};
 ghost use Rattle.rules.specs.Base.{any_below};
 ghost use Rattle.layout.specs.Records.{permit_at};
 ghost use Rattle.cells.specs.Part.{byte_is};
 ghost use Rattle.sets.specs.Members.{members};
-ghost use Rattle.beside.specs.Permits.{any_of, NoneBefore, FirstOf};
+ghost use Rattle.beside.specs.Permits.{any_of};
 ghost use Rattle.beside.specs.Beside.{entry_fits};
-ghost use Rattle.many_permits.specs.Named.{involves, permits_anybody, names, unserved, blocker_left, writers_fit};
+ghost use Rattle.few_permits.specs.Rows.{permit_row};
+ghost use Rattle.many_permits.specs.Named.{permits_anybody, names, unserved, blocker_left};
 
-use beside::{blocker, contains, contains_held};
+use beside::{contains, contains_held, lowest_blocker};
+use few_permits::Holders;
 use layout::Permits;
 use sets::ChangeSet;
 
 // The permits that are passed over at once. An entry with fewer has each looked at.
 pub const BLOCK: usize = 16;
+
+// The givers of the permits to anybody: of those that contain read, and of those that contain write.
+#[derive(Clone, Copy)]
+struct Givers {
+    reading: ChangeSet,
+    writing: ChangeSet,
+}
 
 // The set, with the members of another where a test passed.
 fn unite_if(s: ChangeSet, other: ChangeSet, test: bool) -> ChangeSet
@@ -27,74 +37,33 @@ fn unite_if(s: ChangeSet, other: ChangeSet, test: bool) -> ChangeSet
     s
 }
 
-// Whether a byte is among the 64 of a block of permits. No early way out and every byte alike: the or of the tests.
-fn in_block(permits: &[u8], at: usize, byte: u8) -> bool
-    requires { at + 64 ≤ length permits.now }
-    ensures { result ≡ any_below 64 (byte_is permits.now at byte) }
+// Whether a byte is among those of a block of permits. No early way out and every byte alike: the or of the tests.
+fn in_block(block: &[[u8; Permits::RECORD]], byte: u8) -> bool
+    ensures { result ≡ any_below (length block.now * 4) (byte_is (flat_map (λ row. row) block.now) 0 byte) }
 {
     let mut found = false;
-    let mut i: usize = 0;
-    while i < BLOCK * Permits::RECORD {
-        found = found | (permits[at + i] == byte);
-        i += 1;
+    for b in block.as_flattened() {
+        found = found | (*b == byte);
     }
     found
 }
 
-// A place from `start` on before which a change gives and takes no permit: past the blocks without its number.
-fn skip_blocks(permits: &[u8], count: usize, start: usize, change: u8) -> usize
-    requires count_in_bounds { 4 * count ≤ length permits.now }
-    requires start_le_count { start ≤ count }
-    ensures { NoneBefore (involves change) permits.now count start result }
-{
-    let mut j = start;
-    while BLOCK <= count - j {
-        let present = in_block(permits, j * Permits::RECORD, change);
-        if present {
-            return j;
-        }
-        j += BLOCK;
-    }
-    j
-}
-
-// The place of the first permit from `start` on that a change gives or takes; the count where there is none.
-fn next_involving(permits: &[u8], count: usize, start: usize, change: u8) -> usize
-    requires count_in_bounds { 4 * count ≤ length permits.now }
-    requires start_le_count { start ≤ count }
-    ensures { FirstOf (involves change) permits.now count start result }
-{
-    let mut j = skip_blocks(permits, count, start, change);
-    while j < count {
-        let at = j * Permits::RECORD;
-        if (permits[at + 1] == change) | (permits[at + 2] == change) {
-            return j;
-        }
-        j += 1;
-    }
-    j
-}
-
 // The set, with the giver of a permit where it is to anybody and contains a mode.
-fn add_giver(s: ChangeSet, permits: &[u8], place: usize, mode: u8) -> ChangeSet
-    requires { 4 * place + 4 ≤ length permits.now }
-    ensures { (k : ℕ) → members result k ≡ members s k || permits_anybody mode k (permit_at permits.now place) }
+fn add_giver(s: ChangeSet, permit: &[u8; Permits::RECORD], mode: u8) -> ChangeSet
+    ensures { (k : ℕ) → members result k ≡ members s k || permits_anybody mode k (permit_at permit.now 0) }
 {
-    let at = place * Permits::RECORD;
-    let contained = contains(permits[at + 3], mode);
-    s.add_if(permits[at + 1], (permits[at + 2] == 0) & contained)
+    let [_, giver, taker, operations] = *permit;
+    let contained = contains(operations, mode);
+    s.add_if(giver, (taker == 0) & contained)
 }
 
 // The givers of the permits to anybody that contain a mode.
-fn givers_to_anybody(permits: &[u8], count: usize, mode: u8) -> ChangeSet
-    requires { 4 * count ≤ length permits.now }
-    ensures { (k : ℕ) → members result k ≡ any_of count (permit_at permits.now) (permits_anybody mode k) }
+fn givers_to_anybody(permits: &[[u8; Permits::RECORD]], mode: u8) -> ChangeSet
+    ensures { (k : ℕ) → members result k ≡ any_of (length permits.now) (permit_row permits.now) (permits_anybody mode k) }
 {
     let mut s = ChangeSet::empty();
-    let mut j: usize = 0;
-    while j < count {
-        s = add_giver(s, permits, j, mode);
-        j += 1;
+    for permit in permits {
+        s = add_giver(s, permit, mode);
     }
     s
 }
@@ -102,112 +71,100 @@ fn givers_to_anybody(permits: &[u8], count: usize, mode: u8) -> ChangeSet
 // The set, with whom a permit lets stand beside a writer by naming the two: the taker, or the giver.
 fn add_named(
     s: ChangeSet,
-    permits: &[u8],
-    place: usize,
-    readers: ChangeSet,
-    writers: ChangeSet,
+    permit: &[u8; Permits::RECORD],
+    holders: &Holders,
     writer: u8,
 ) -> ChangeSet
-    requires { 4 * place + 4 ≤ length permits.now }
-    ensures { (k : ℕ) → members result k ≡ members s k || names (members readers) (members writers) writer k (permit_at permits.now place) }
+    ensures { (k : ℕ) → members result k ≡ members s k || names (members holders.now.readers) (members holders.now.writers) writer k (permit_at permit.now 0) }
 {
-    let at = place * Permits::RECORD;
-    let giver = permits[at + 1];
-    let taker = permits[at + 2];
-    let operations = permits[at + 3];
-    let out = (giver == writer) & contains_held(operations, readers.has(taker), writers.has(taker));
-    let into = (taker == writer) & contains(operations, 2);
-    s.add_if(taker, out).add_if(giver, into)
-}
-
-// Whom the permits let stand beside a writer by naming the two.
-fn named(
-    permits: &[u8],
-    count: usize,
-    readers: ChangeSet,
-    writers: ChangeSet,
-    writer: u8,
-) -> ChangeSet
-    requires { 4 * count ≤ length permits.now }
-    ensures { (k : ℕ) → members result k ≡ any_of count (permit_at permits.now) (names (members readers) (members writers) writer k) }
-{
-    let mut s = ChangeSet::empty();
-    let mut j = next_involving(permits, count, 0, writer);
-    while j < count {
-        s = add_named(s, permits, j, readers, writers, writer);
-        j = next_involving(permits, count, j + 1, writer);
+    let [_, giver, taker, operations] = *permit;
+    if (giver == writer) | (taker == writer) {
+        let reads = holders.readers.has(taker);
+        let writes = holders.writers.has(taker);
+        let out = (giver == writer) & contains_held(operations, reads, writes);
+        let into = (taker == writer) & contains(operations, 2);
+        return s.add_if(taker, out).add_if(giver, into);
     }
     s
 }
 
-// The other holders whom no permit to anybody lets stand beside a writer. `reading` and `writing` are the givers of those that contain
-// read and of those that contain write.
-fn unserved(
-    readers: ChangeSet,
-    writers: ChangeSet,
-    reading: ChangeSet,
-    writing: ChangeSet,
+// The set, with whom each of some permits lets stand beside a writer by naming the two.
+fn add_each_named(
+    s: ChangeSet,
+    permits: &[[u8; Permits::RECORD]],
+    holders: &Holders,
     writer: u8,
 ) -> ChangeSet
-    ensures { (k : ℕ) → members result k ≡ unserved (members readers) (members writers) (members reading) (members writing) writer k }
+    ensures { (k : ℕ) → members result k ≡ members s k || any_of (length permits.now) (permit_row permits.now) (names (members holders.now.readers) (members holders.now.writers) writer k) }
 {
-    let with_readers = unite_if(writing, readers, reading.has(writer));
-    let served = unite_if(with_readers, writers, writing.has(writer));
-    readers.unite(writers).without(writer).minus(served)
+    let mut s = s;
+    for permit in permits {
+        s = add_named(s, permit, holders, writer);
+    }
+    s
 }
 
-// The lowest other holder that has no permit from or to a writer; 0 where there is none.
-fn writer_blocker(
-    permits: &[u8],
-    count: usize,
-    readers: ChangeSet,
-    writers: ChangeSet,
-    reading: ChangeSet,
-    writing: ChangeSet,
+// The same for a block of permits, which is passed over where it is without the writer's number.
+fn add_block(
+    s: ChangeSet,
+    block: &[[u8; Permits::RECORD]],
+    holders: &Holders,
     writer: u8,
-) -> u32
-    requires { 4 * count ≤ length permits.now }
-    ensures { result ≡ blocker_left count (permit_at permits.now) (members readers) (members writers) (members reading) (members writing) writer }
+) -> ChangeSet
+    ensures { (k : ℕ) → members result k ≡ members s k || any_of (length block.now) (permit_row block.now) (names (members holders.now.readers) (members holders.now.writers) writer k) }
 {
-    let left = unserved(readers, writers, reading, writing, writer);
-    if left.is_empty() {
-        return 0;
+    let present = in_block(block, writer);
+    if present {
+        return add_each_named(s, block, holders, writer);
     }
-    let named = named(permits, count, readers, writers, writer);
-    blocker(left, named, writer)
+    s
 }
 
-// Whether nobody is in the way of any writer.
-fn writers_permitted(
-    permits: &[u8],
-    count: usize,
-    readers: ChangeSet,
-    writers: ChangeSet,
-    reading: ChangeSet,
-    writing: ChangeSet,
+// Whom the permits let stand beside a writer by naming the two.
+fn named(permits: &[[u8; Permits::RECORD]], holders: &Holders, writer: u8) -> ChangeSet
+    ensures { (k : ℕ) → members result k ≡ any_of (length permits.now) (permit_row permits.now) (names (members holders.now.readers) (members holders.now.writers) writer k) }
+{
+    let (blocks, last) = permits.as_chunks::<BLOCK>();
+    let mut s = ChangeSet::empty();
+    for block in blocks {
+        s = add_block(s, block, holders, writer);
+    }
+    add_each_named(s, last, holders, writer)
+}
+
+// The other holders whom no permit to anybody lets stand beside a writer.
+fn unserved(holders: &Holders, givers: &Givers, writer: u8) -> ChangeSet
+    ensures { (k : ℕ) → members result k ≡ unserved (members holders.now.readers) (members holders.now.writers) (members givers.now.reading) (members givers.now.writing) writer k }
+{
+    let with_readers = unite_if(givers.writing, holders.readers, givers.reading.has(writer));
+    let served = unite_if(with_readers, holders.writers, givers.writing.has(writer));
+    let all = holders.readers.unite(holders.writers);
+    all.without(writer).minus(served)
+}
+
+// Whether no other holder is without a permit from or to a writer.
+fn writer_fits(
+    permits: &[[u8; Permits::RECORD]],
+    holders: &Holders,
+    givers: &Givers,
+    writer: u8,
 ) -> bool
-    requires { 4 * count ≤ length permits.now }
-    ensures { result ≡ writers_fit count (permit_at permits.now) (members readers) (members writers) (members reading) (members writing) }
+    ensures { result ≡ eqb (blocker_left (length permits.now) (permit_row permits.now) (members holders.now.readers) (members holders.now.writers) (members givers.now.reading) (members givers.now.writing) writer) 0 }
 {
-    let mut left = writers;
-    let mut writer = left.lowest();
-    while writer < 256 {
-        let c = writer as u8;
-        if writer_blocker(permits, count, readers, writers, reading, writing, c) != 0 {
-            return false;
-        }
-        left = left.rest();
-        writer = left.lowest();
+    let left = unserved(holders, givers, writer);
+    if left.is_empty() {
+        return true;
     }
-    true
+    let named = named(permits, holders, writer);
+    lowest_blocker(left, named, writer).is_none()
 }
 
-// The same, with the givers of the permits to anybody found first.
-pub fn many_permitted(permits: &[u8], count: usize, readers: ChangeSet, writers: ChangeSet) -> bool
-    requires { 4 * count ≤ length permits.now }
-    ensures { result ≡ entry_fits count (permit_at permits.now) (members readers) (members writers) }
+// Whether nobody is in the way of any writer, with the givers of the permits to anybody found first.
+pub fn many_fit(permits: &[[u8; Permits::RECORD]], holders: &Holders) -> bool
+    ensures { result ≡ entry_fits (length permits.now) (permit_row permits.now) (members holders.now.readers) (members holders.now.writers) }
 {
-    let reading = givers_to_anybody(permits, count, 1);
-    let writing = givers_to_anybody(permits, count, 2);
-    writers_permitted(permits, count, readers, writers, reading, writing)
+    let reading = givers_to_anybody(permits, 1);
+    let writing = givers_to_anybody(permits, 2);
+    let givers = Givers { reading, writing };
+    holders.each_writer(|writer| writer_fits(permits, holders, &givers, writer))
 }

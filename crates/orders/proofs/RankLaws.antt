@@ -2,17 +2,20 @@
 use mathlib.Core.Path.{◌≡◌, refl, sym, ap, ap₂, ◌∙◌}
 use mathlib.Core.Bool.{Bool, true, false, cond, ◌&&◌, ◌||◌, and-true, or-false}
 use mathlib.Core.List.{List}
-use Prim.Native.Nat.{ℕ, ◌+◌, ◌*◌, ◌%◌, ◌^◌, ◌≤◌, ◌<◌}
+use Prim.Native.Nat.{ℕ, suc, ◌+◌, ◌*◌, ◌%◌, ◌^◌, ◌≤◌, ◌<◌}
+use native.Mathlib.Nat.{add-zero}
 use native.Mathlib.Numerals.{add-one}
+use Rattle.std.specs.Int.{from_bool}
 use native.Mathlib.Omega.{arith}
 use borrow.Author.Tests.{ne_eqb}
 use lib.Bits.{bit_or}
 use lib.Dec.{eqb}
-use lib.ListN.{length, get_or, set, replicate, length-replicate, get_or-replicate}
+use lib.ListN.{length, get_or, set, replicate, get_or-replicate}
 use lib.Seq.{get_or-set_same, get_or-set_other}
 use Rattle.rules.specs.Base.{any_below, count_below}
 use Rattle.rules.specs.Sets.{Set, everything}
 use Rattle.rules.specs.Orders.{ways}
+use Rattle.rules.specs.Window.{TieRecord}
 use Rattle.rules.specs.Ties.{is_arrow}
 use Rattle.rules.proofs.BaseLaws.{Same, same, other, same?, eqb_same, eqb_iff, eqb_sym}
 use Rattle.rules.proofs.BoundLaws.{any_ext}
@@ -23,14 +26,18 @@ use Rattle.layout.specs.Codec.{unpack}
 use Rattle.layout.specs.Records.{tie_at}
 use Rattle.layout.proofs.SectionLaws.{Bytes, get_or_table0}
 use Rattle.cells.proofs.Digits.{unpack_zero, unpack_or, unpack_mod, unpack-one}
-use Rattle.cycles.specs.Graph.{Between, arrow_at, graph_of, edge}
+use Rattle.cycles.specs.Graph.{Between, arrow_in, graph_in, graph_of, edge}
 use Rattle.orders.specs.Ways.{leads}
 use Rattle.orders.specs.Ranks.{ranks_of, rank_of, ranked, Leaderless, Led}
 
 -- one number more looked at
-pub count_next : (s : Set) (k q r : ℕ) (b : Bool) → q ≡ count_below k s → b ≡ s k → r ≡ cond b (q + 1) q → r ≡ count_below (k + 1) s
+pub count_next : (s : Set) (k q r : ℕ) (b : Bool) → q ≡ count_below k s → b ≡ s k → r ≡ from_bool b → q + r ≡ count_below (k + 1) s
 unfolding count_below
-count_next s k q r b e f g = rw (add-one k) (g ∙ rw (e, f) (ap (λ (x : ℕ). cond (s k) x (count_below k s)) (add-one (count_below k s))))
+count_next s k q r b e f g = rw (add-one k, g, e, f) (go (s k))
+  where
+    go : (t : Bool) → count_below k s + from_bool t ≡ cond t (suc (count_below k s)) (count_below k s)
+    go true = add-one (count_below k s)
+    go false = add-zero (count_below k s)
 
 -- `1 << t` in 16 bits
 one_in : (t k : ℕ) → k < 16 → unpack ((1 * 2 ^ t) % 2 ^ 16) k ≡ eqb k t
@@ -51,21 +58,28 @@ pub lead_same : (x t : Bool) → t ≡ false → x ≡ x || t
 lead_same x t e = sym (ap (λ (y : Bool). x || y) e ∙ or-false x)
 
 -- ARROWS, tie by tie
-pub led-none : (bs labels ranks masks : List ℕ) → Leaderless masks → Led bs labels ranks 0 masks
+pub led-none : (t : ℕ → TieRecord) (labels ranks masks : List ℕ) → Leaderless masks → Led t labels ranks 0 masks
 unfolding any_below
-led-none bs labels ranks masks m = record { long = m.twelve; each = λ a b p q. m.none a b p }
+led-none t labels ranks masks m = record { each = λ a b p q. m.none a b p }
 
-pub led-next : (bs labels ranks masks out : List ℕ) (j : ℕ) → Led bs labels ranks j masks → length out ≡ 12
-    → ((a b : ℕ) → a < 12 → b < 12 → leads out a b ≡ leads masks a b || ranked bs labels ranks a b j) → Led bs labels ranks (j + 1) out
-led-next bs labels ranks masks out j m l f = record { long = l; each = λ a b p q. found-next (ranked bs labels ranks a b) j (leads masks a b) (leads out a b) (m.each a b p q) (f a b p q) }
+pub led-next : (t : ℕ → TieRecord) (labels ranks masks out : List ℕ) (j : ℕ) → Led t labels ranks j masks
+    → ((a b : ℕ) → a < 12 → b < 12 → leads out a b ≡ leads masks a b || ranked t labels ranks a b j) → Led t labels ranks (j + 1) out
+led-next t labels ranks masks out j m f = record { each = λ a b p q. found-next (ranked t labels ranks a b) j (leads masks a b) (leads out a b) (m.each a b p q) (f a b p q) }
 
 -- none in masks of 0
 pub leaderless : Leaderless (replicate 12 0)
 unfolding leads
-leaderless = record { twelve = length-replicate {A = ℕ} 12 0; none = λ a b h. ap (λ (x : ℕ). unpack x b) (get_or-replicate {A = ℕ} 12 a 0 0 h) ∙ unpack_zero b }
+leaderless = record { none = λ a b h. ap (λ (x : ℕ). unpack x b) (get_or-replicate {A = ℕ} 12 a 0 0 h) ∙ unpack_zero b }
+
+-- ties that are the same below the count
+pub led_ext : (t u : ℕ → TieRecord) (labels ranks masks : List ℕ) (m n : ℕ) → m ≡ n → ((j : ℕ) → j < n → t j ≡ u j) → Led t labels ranks m masks → Led u labels ranks n masks
+unfolding ranked
+led_ext t u labels ranks masks m n e alike l = record {
+  each = λ a b p q. rw e at (l.each a b p q) ∙ any_ext (ranked t labels ranks a b) (ranked u labels ranks a b) n (λ j h. rw (alike j h));
+}
 
 -- THE ORDERS
-module _ (bs labels : List ℕ) (count : ℕ) (s : Set) (bytes : Bytes labels) (between : Between (graph_of bs labels) count s) (masks : List ℕ) (led : Led bs labels (ranks_of s) count masks) (few : count_below 256 s ≤ 12) where
+module _ (bs labels : List ℕ) (count : ℕ) (s : Set) (bytes : Bytes labels) (between : Between (graph_of bs labels) count s) (masks : List ℕ) (led : Led (tie_at bs) labels (ranks_of s) count masks) (few : count_below 256 s ≤ 12) where
   -- ranks of members are the same where the members are
   rank_is : (x h : ℕ) → x < 256 → s x ≡ true → s h ≡ true → eqb (get_or (ranks_of s) x 0) (count_below h s) ≡ eqb x h
   unfolding ranks_of
@@ -75,7 +89,7 @@ module _ (bs labels : List ℕ) (count : ℕ) (s : Set) (bytes : Bytes labels) (
 
   -- the masks are the arrows between labels, by rank
   masks_are : (h g : ℕ) → h < 256 → g < 256 → s h ≡ true → s g ≡ true → edge (graph_of bs labels) count h g ≡ leads masks (count_below h s) (count_below g s)
-  unfolding edge graph_of arrow_at ranked rank_of
+  unfolding edge graph_in arrow_in ranked rank_of
   masks_are h g i j p q = sym (led.each _ _ (omega (arith, rank_most s 256 h p i)) (omega (arith, rank_most s 256 g q j)) ∙ any_ext _ _ count (λ k l. go k l (is_arrow (tie_at bs k).kind) refl))
     where
       go : (k : ℕ) → k < count → (b : Bool) → is_arrow (tie_at bs k).kind ≡ b

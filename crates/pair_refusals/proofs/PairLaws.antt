@@ -33,10 +33,10 @@ module _ {t b : Bool} (e : t ≡ not b) where
 
 -- PERMIT, DELEGATE AND DEPEND
 -- no number of a permit is refused
-module _ (W : Window) (g t e o r : ℕ) (q : r ≡ first_failed (take 5 (checks limits W (Permit g t e o)))) (z : r ≡ 0) where
+module _ (W : Window) (g t e o : ℕ) (q : 0 ≡ first_failed (take 5 (checks limits W (Permit g t e o)))) where
   permit_passed : Passed (take 5 (checks limits W (Permit g t e o)))
   unfolding checks all ◌if◌
-  permit_passed = passed (take 5 (checks limits W (Permit g t e o))) refl (sym q ∙ z)
+  permit_passed = passed (take 5 (checks limits W (Permit g t e o))) refl (sym q)
 
   pub permit_numbers : (g ≤ W.given) × (t ≤ W.given) × (e < W.entries)
   unfolding checks ◌if◌ no_entry
@@ -44,7 +44,7 @@ module _ (W : Window) (g t e o r : ℕ) (q : r ≡ first_failed (take 5 (checks 
 
   pub permit_rest : {s : ℕ} → Checked (drop 5 (checks limits W (Permit g t e o))) s → s ≡ first_failed (checks limits W (Permit g t e o))
   unfolding checks all ◌if◌
-  permit_rest = went_on 5 (checks limits W (Permit g t e o)) refl q z
+  permit_rest = went_on 5 (checks limits W (Permit g t e o)) refl q
 
 -- no check of a delegate before the last fails
 pub delegate_passed : (W : Window) (f t e : ℕ) → first_failed (take 5 (checks limits W (Delegate f t e))) ≡ 0 → Passed (take 5 (checks limits W (Delegate f t e)))
@@ -52,10 +52,10 @@ unfolding checks all ◌if◌
 delegate_passed W f t e z = passed (take 5 (checks limits W (Delegate f t e))) refl z
 
 -- no number of a tie is refused
-module _ (W : Window) (k l f r : ℕ) (q : r ≡ first_failed (take 4 (checks limits W (Depend k l f)))) (z : r ≡ 0) where
+module _ (W : Window) (k l f : ℕ) (q : 0 ≡ first_failed (take 4 (checks limits W (Depend k l f)))) where
   depend_passed : Passed (take 4 (checks limits W (Depend k l f)))
   unfolding checks all ◌if◌
-  depend_passed = passed (take 4 (checks limits W (Depend k l f))) refl (sym q ∙ z)
+  depend_passed = passed (take 4 (checks limits W (Depend k l f))) refl (sym q)
 
   pub depend_numbers : (outside 1 3 k ≡ false) × (l ≤ W.given) × (f ≤ W.given)
   unfolding checks ◌if◌
@@ -63,4 +63,4 @@ module _ (W : Window) (k l f r : ℕ) (q : r ≡ first_failed (take 4 (checks li
 
   pub depend_rest : {s : ℕ} → Checked (drop 4 (checks limits W (Depend k l f))) s → s ≡ first_failed (checks limits W (Depend k l f))
   unfolding checks all ◌if◌
-  depend_rest = went_on 4 (checks limits W (Depend k l f)) refl q z
+  depend_rest = went_on 4 (checks limits W (Depend k l f)) refl q

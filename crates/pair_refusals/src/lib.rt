@@ -1,4 +1,4 @@
-// The number of the first refusal of a call that names two changes, in checking order, and 0 where none applies: read from a sound window's bytes.
+// The first refusal of a call that names two changes, in checking order: read from a sound window's bytes.
 #![tactic(auto)]
 
 ghost use Rattle.std.specs.Prelude.{◌≡◌, true, false, not, ℕ, suc, ◌≤◌, ◌<◌, length, take};
@@ -8,49 +8,53 @@ ghost use Rattle.rules.specs.Locks.{make_permit, add_permit};
 ghost use Rattle.rules.specs.Ties.{make_tie, add_tie, acyclic};
 ghost use Rattle.rules.specs.Calls.{Permit, Delegate, Depend};
 ghost use Rattle.rules.specs.Refusals.{checks, first_failed};
-ghost use Rattle.layout.specs.Codec.{window_size, decode};
-ghost use Rattle.layout.specs.Memory.{sound_bytes};
+ghost use Rattle.layout.specs.Codec.{decode};
+ghost use Rattle.replies.specs.Refused.{refused};
 
 use layout::{Log, Permits, Ties};
-use reads::{given, is_live, no_change, no_entry, outside};
+use reads::{Sound, outside};
+use replies::Refusal;
 
 // For a delegate's entry: every entry.
 pub const EVERY: u32 = 65535;
 
 // The first five checks of permit: refusals 3 to 6.
-fn permit_numbers(w: &[u8], giver: u32, taker: u32, entry: u32, operations: u32) -> u32
-    requires w_len { length w.now ≡ window_size }
-    requires w_value { sound_bytes w.now ≡ true }
-    ensures { result ≡ first_failed (take 5 (checks limits (decode w.now) (Permit giver taker entry operations))) }
+fn permit_numbers(
+    view: Sound<'_>,
+    giver: u32,
+    taker: u32,
+    entry: u32,
+    operations: u32,
+) -> Result<(), Refusal>
+    ensures { refused result ≡ first_failed (take 5 (checks limits (decode view.entry.bytes.now) (Permit giver taker entry operations))) }
 {
-    if no_change(w, giver) {
-        return 3;
+    if view.no_change(giver) {
+        return Err(Refusal::NoChange);
     }
-    if (given(w) as u32) < taker {
-        return 3;
+    if (view.given() as u32) < taker {
+        return Err(Refusal::NoChange);
     }
-    if no_entry(w, entry) {
-        return 4;
+    if view.no_entry(entry) {
+        return Err(Refusal::NoEntry);
     }
     if outside(1, 3, operations) {
-        return 5;
+        return Err(Refusal::NoSuchValue);
     }
     if giver == taker {
-        return 6;
+        return Err(Refusal::SameChange);
     }
-    0
+    Ok(())
 }
 
 // Whether a permit can be added, with any operations.
-fn permit_fits(w: &[u8], giver: u32, taker: u32, entry: u32) -> bool
-    requires w_len { length w.now ≡ window_size }
-    requires w_value { sound_bytes w.now ≡ true }
-    requires giver_bound { (giver ≤ (decode w.now).given) × (taker ≤ (decode w.now).given) × (entry < (decode w.now).entries) }
-    ensures { (o : ℕ) → result ≡ not (exceeds (length (add_permit (make_permit giver taker entry o) (decode w.now).permits)) limits.permits) }
+fn permit_fits(view: Sound<'_>, giver: u32, taker: u32, entry: u32) -> bool
+    requires giver_bound { (giver ≤ (decode view.bytes.now).given) × (taker ≤ (decode view.bytes.now).given) × (entry < (decode view.bytes.now).entries) }
+    ensures { (o : ℕ) → result ≡ not (exceeds (length (add_permit (make_permit giver taker entry o) (decode view.entry.bytes.now).permits)) limits.permits) }
 {
-    let count = reads::permits(w);
+    let bytes = view.bytes;
+    let count = view.permits();
     permits::fits(
-        &w[Permits::AT..Ties::AT],
+        &bytes[Permits::AT..Ties::AT],
         count,
         giver as u8,
         taker as u8,
@@ -59,82 +63,78 @@ fn permit_fits(w: &[u8], giver: u32, taker: u32, entry: u32) -> bool
 }
 
 // Permit.
-pub fn permit(w: &[u8], giver: u32, taker: u32, entry: u32, operations: u32) -> u32
-    requires w_len { length w.now ≡ window_size }
-    requires w_value { sound_bytes w.now ≡ true }
-    ensures { result ≡ first_failed (checks limits (decode w.now) (Permit giver taker entry operations)) }
+pub fn permit(
+    view: Sound<'_>,
+    giver: u32,
+    taker: u32,
+    entry: u32,
+    operations: u32,
+) -> Result<(), Refusal>
+    ensures { refused result ≡ first_failed (checks limits (decode view.entry.bytes.now) (Permit giver taker entry operations)) }
 {
-    let numbers = permit_numbers(w, giver, taker, entry, operations);
-    if numbers != 0 {
-        return numbers;
+    permit_numbers(view, giver, taker, entry, operations)?;
+    if !view.is_live(giver) {
+        return Err(Refusal::Status);
     }
-    if !is_live(w, giver) {
-        return 7;
+    if !((taker == 0) | view.is_live(taker)) {
+        return Err(Refusal::Status);
     }
-    if !((taker == 0) | is_live(w, taker)) {
-        return 7;
+    if !permit_fits(view, giver, taker, entry) {
+        return Err(Refusal::NoRoom);
     }
-    if !permit_fits(w, giver, taker, entry) {
-        return 11;
-    }
-    0
+    Ok(())
 }
 
 // Delegate, but for its last check: refusal 10 is judged on what the hand-over would leave.
-pub fn delegate(w: &[u8], from: u32, to: u32, entry: u32) -> u32
-    requires w_len { length w.now ≡ window_size }
-    requires w_value { sound_bytes w.now ≡ true }
-    ensures { result ≡ first_failed (take 5 (checks limits (decode w.now) (Delegate from to entry))) }
+pub fn delegate(view: Sound<'_>, from: u32, to: u32, entry: u32) -> Result<(), Refusal>
+    ensures { refused result ≡ first_failed (take 5 (checks limits (decode view.entry.bytes.now) (Delegate from to entry))) }
 {
-    if no_change(w, from) {
-        return 3;
+    if view.no_change(from) {
+        return Err(Refusal::NoChange);
     }
-    if no_change(w, to) {
-        return 3;
+    if view.no_change(to) {
+        return Err(Refusal::NoChange);
     }
-    if (entry != EVERY) & no_entry(w, entry) {
-        return 4;
+    if (entry != EVERY) & view.no_entry(entry) {
+        return Err(Refusal::NoEntry);
     }
     if from == to {
-        return 6;
+        return Err(Refusal::SameChange);
     }
-    if !(is_live(w, from) & is_live(w, to)) {
-        return 7;
+    if !(view.is_live(from) & view.is_live(to)) {
+        return Err(Refusal::Status);
     }
-    0
+    Ok(())
 }
 
 // The first four checks of depend: refusals 3 to 6.
-fn depend_numbers(w: &[u8], kind: u32, leader: u32, follower: u32) -> u32
-    requires w_len { length w.now ≡ window_size }
-    requires w_value { sound_bytes w.now ≡ true }
-    ensures { result ≡ first_failed (take 4 (checks limits (decode w.now) (Depend kind leader follower))) }
+fn depend_numbers(view: Sound<'_>, kind: u32, leader: u32, follower: u32) -> Result<(), Refusal>
+    ensures { refused result ≡ first_failed (take 4 (checks limits (decode view.entry.bytes.now) (Depend kind leader follower))) }
 {
-    if no_change(w, leader) {
-        return 3;
+    if view.no_change(leader) {
+        return Err(Refusal::NoChange);
     }
-    if no_change(w, follower) {
-        return 3;
+    if view.no_change(follower) {
+        return Err(Refusal::NoChange);
     }
     if outside(1, 3, kind) {
-        return 5;
+        return Err(Refusal::NoSuchValue);
     }
     if leader == follower {
-        return 6;
+        return Err(Refusal::SameChange);
     }
-    0
+    Ok(())
 }
 
 // Whether a new tie would let a path of arrows return to its group.
-fn tie_returns(w: &[u8], kind: u32, leader: u32, follower: u32) -> bool
-    requires w_len { length w.now ≡ window_size }
-    requires w_value { sound_bytes w.now ≡ true }
-    requires kind_value { (isOutside 1 3 kind ≡ false) × (leader ≤ (decode w.now).given) × (follower ≤ (decode w.now).given) }
-    ensures { result ≡ not (acyclic (suc (decode w.now).given) (add_tie (make_tie kind leader follower) (decode w.now).ties)) }
+fn tie_returns(view: Sound<'_>, kind: u32, leader: u32, follower: u32) -> bool
+    requires kind_value { (isOutside 1 3 kind ≡ false) × (leader ≤ (decode view.bytes.now).given) × (follower ≤ (decode view.bytes.now).given) }
+    ensures { result ≡ not (acyclic (suc (decode view.entry.bytes.now).given) (add_tie (make_tie kind leader follower) (decode view.entry.bytes.now).ties)) }
 {
-    let count = reads::ties(w);
+    let bytes = view.bytes;
+    let count = view.ties();
     graph::returns(
-        &w[Ties::AT..Log::AT],
+        &bytes[Ties::AT..Log::AT],
         count,
         kind as u8,
         leader as u8,
@@ -143,15 +143,14 @@ fn tie_returns(w: &[u8], kind: u32, leader: u32, follower: u32) -> bool
 }
 
 // Whether a tie can be added.
-fn tie_fits(w: &[u8], kind: u32, leader: u32, follower: u32) -> bool
-    requires w_len { length w.now ≡ window_size }
-    requires w_value { sound_bytes w.now ≡ true }
-    requires kind_value { (isOutside 1 3 kind ≡ false) × (leader ≤ (decode w.now).given) × (follower ≤ (decode w.now).given) }
-    ensures { result ≡ not (exceeds (length (add_tie (make_tie kind leader follower) (decode w.now).ties)) limits.ties) }
+fn tie_fits(view: Sound<'_>, kind: u32, leader: u32, follower: u32) -> bool
+    requires kind_value { (isOutside 1 3 kind ≡ false) × (leader ≤ (decode view.bytes.now).given) × (follower ≤ (decode view.bytes.now).given) }
+    ensures { result ≡ not (exceeds (length (add_tie (make_tie kind leader follower) (decode view.entry.bytes.now).ties)) limits.ties) }
 {
-    let count = reads::ties(w);
+    let bytes = view.bytes;
+    let count = view.ties();
     ties::fits(
-        &w[Ties::AT..Log::AT],
+        &bytes[Ties::AT..Log::AT],
         count,
         kind as u8,
         leader as u8,
@@ -160,23 +159,18 @@ fn tie_fits(w: &[u8], kind: u32, leader: u32, follower: u32) -> bool
 }
 
 // Depend.
-pub fn depend(w: &[u8], kind: u32, leader: u32, follower: u32) -> u32
-    requires w_len { length w.now ≡ window_size }
-    requires w_value { sound_bytes w.now ≡ true }
-    ensures { result ≡ first_failed (checks limits (decode w.now) (Depend kind leader follower)) }
+pub fn depend(view: Sound<'_>, kind: u32, leader: u32, follower: u32) -> Result<(), Refusal>
+    ensures { refused result ≡ first_failed (checks limits (decode view.entry.bytes.now) (Depend kind leader follower)) }
 {
-    let numbers = depend_numbers(w, kind, leader, follower);
-    if numbers != 0 {
-        return numbers;
+    depend_numbers(view, kind, leader, follower)?;
+    if !(view.is_live(leader) & view.is_live(follower)) {
+        return Err(Refusal::Status);
     }
-    if !(is_live(w, leader) & is_live(w, follower)) {
-        return 7;
+    if tie_returns(view, kind, leader, follower) {
+        return Err(Refusal::Returns);
     }
-    if tie_returns(w, kind, leader, follower) {
-        return 9;
+    if !tie_fits(view, kind, leader, follower) {
+        return Err(Refusal::NoRoom);
     }
-    if !tie_fits(w, kind, leader, follower) {
-        return 11;
-    }
-    0
+    Ok(())
 }

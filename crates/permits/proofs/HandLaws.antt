@@ -1,6 +1,6 @@
 -- What a hand-over of permits comes to: the rows that move, those that stay, and the first added to the second. Assumes nothing.
 use mathlib.Core.Path.{◌≡◌, refl, sym, ap, ap₂, ◌∙◌}
-use mathlib.Core.Bool.{true, false}
+use mathlib.Core.Bool.{true}
 use mathlib.Core.List.{List, map, foldr, map-map}
 use Prim.Native.Nat.{ℕ, ◌+◌, ◌≤◌}
 use native.Mathlib.Omega.{arith}
@@ -18,7 +18,7 @@ use Rattle.rows.specs.Rows.{Row, row_key, rows, add_row, Stored, Closed}
 use Rattle.rows.proofs.RowLaws.{length-rows}
 use Rattle.rows.proofs.CloseLaws.{closed-rows}
 use Rattle.rows.proofs.TableLaws.{keep-map, added_all-map, table-rows, table-rising, table-stored, table-closed}
-use Rattle.permits.specs.PermitRows.{given_by, handed, with_giver}
+use Rattle.permits.specs.PermitRows.{given_by, moves, stays, with_giver}
 use Rattle.permits.proofs.PermitLaws.{permit_row, permit_table, permit_united}
 
 -- the rows of moved permits are their rows with another giver
@@ -29,23 +29,23 @@ moved_rows to ps = map-map (with_giver to) permit_row ps ∙ sym (map-map permit
 -- the rows that a hand-over leaves and takes away
 pub record Parted (bytes : List ℕ) (n from to : ℕ) (on : Set) (moved : List ℕ) (m : ℕ) (rest : List ℕ) (left : ℕ) : Type 0 where
   -- those that move, out of a copy
-  pub taken : Closed (handed from to on true) n bytes m moved
+  pub taken : Closed (moves from to on) n bytes m moved
   -- those that stay
-  pub kept : Closed (handed from to on false) n bytes left rest
+  pub kept : Closed (stays from on) n bytes left rest
 
 module _ (ps : List PermitRecord) (n : ℕ) (bytes : List ℕ) (len : length ps ≡ n) (is : bytes ≡ permit_section ps) (few : n ≤ 1024)
     (from to : ℕ) (on : Set) (moved : List ℕ) (m : ℕ) (rest : List ℕ) (left : ℕ) (p : Parted bytes n from to on moved m rest left) where
   -- the permits that stay are what is left
   here : Tabled permit_section (keep (permit_kept from on) ps) left rest
-  unfolding handed given_by permit_row permit_given permit_kept
-  here = table-closed permit_row permit_key permit_section 1024 permit_table ps n bytes len is few (handed from to on false) (permit_kept from on) (λ q. refl) left rest p.kept
+  unfolding stays given_by permit_row permit_given permit_kept
+  here = table-closed permit_row permit_key permit_section 1024 permit_table ps n bytes len is few (stays from on) (permit_kept from on) (λ q. refl) left rest p.kept
 
   -- the permits that move are what was taken
   gone : rows m moved ≡ map permit_row (keep (permit_moves from to on) ps)
-  unfolding handed given_by permit_row permit_given permit_moves
-  gone = closed-rows (handed from to on true) n bytes m moved p.taken
-      ∙ ap (keep (handed from to on true)) (table-rows permit_row permit_key permit_section 1024 permit_table ps n bytes len is few)
-      ∙ keep-map permit_row (handed from to on true) (permit_moves from to on) (λ q. refl) ps
+  unfolding moves given_by permit_row permit_given permit_moves
+  gone = closed-rows (moves from to on) n bytes m moved p.taken
+      ∙ ap (keep (moves from to on)) (table-rows permit_row permit_key permit_section 1024 permit_table ps n bytes len is few)
+      ∙ keep-map permit_row (moves from to on) (permit_moves from to on) (λ q. refl) ps
 
   -- as many as were taken
   how_many : m ≡ length (keep (permit_moves from to on) ps)

@@ -1,5 +1,5 @@
 -- A permit's row is entry, giver, taker, operations: who gave it, who may use it, and where it goes in a delegate. Assumes nothing.
-use Rattle.std.specs.Prelude.{Bool, not, cond, ◌&&◌, ◌||◌, ℕ, eqb}
+use Rattle.std.specs.Prelude.{Bool, not, ◌&&◌, ◌||◌, ℕ, eqb}
 use Rattle.rules.specs.Sets.{Set}
 use Rattle.rules.specs.Locks.{contains}
 use Rattle.rows.specs.Rows.{Row, row}
@@ -8,9 +8,13 @@ use Rattle.rows.specs.Rows.{Row, row}
 unfoldable pub given_by : ℕ → Set → Row → Bool
 given_by from on r = eqb r.k2 from && on r.k1
 
--- it moves to another giver (moving), or stays (not moving); one that would be from `to` to itself does neither
-unfoldable pub handed : ℕ → ℕ → Set → Bool → Row → Bool
-handed from to on moving r = cond moving (given_by from on r && not (eqb r.k3 to)) (not (given_by from on r))
+-- it moves to another giver, unless it would be from `to` to itself
+unfoldable pub moves : ℕ → ℕ → Set → Row → Bool
+moves from to on r = given_by from on r && not (eqb r.k3 to)
+
+-- it stays as it is
+unfoldable pub stays : ℕ → Set → Row → Bool
+stays from on r = not (given_by from on r)
 
 -- as another's
 unfoldable pub with_giver : ℕ → Row → Row

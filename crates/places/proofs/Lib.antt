@@ -5,3 +5,5 @@ pub mod PlaceLaws
 pub mod TableLaws
 -- statuses of a set of changes, and the changes of some statuses
 pub mod StatusLaws
+-- rows of bytes cut from a section
+pub mod RowLaws

@@ -7,6 +7,7 @@ use native.Mathlib.Nat.{zero-mul}
 use native.Mathlib.Omega.{arith}
 use native.Mathlib.Numerals.{add-one}
 use lib.Dec.{ltb, eqb}
+use mir.Val.{bool_byte}
 use lib.Bits.{bit_or}
 use borrow.Author.Tests.{eq-eqb, lt-ltb, le-ltb, eqb-true, ltb-true, not-true}
 use lib.ListN.{get_or}
@@ -91,6 +92,11 @@ firsts_same s m n k f g = ap (λ (b : Bool). b && s k) (both_ways _ _ (λ e. lt-
 pub firsts_above : (s : Set) (n k : ℕ) → n ≤ k → firsts n s k ≡ false
 unfolding firsts
 firsts_above s n k h = rw (le-ltb k n h)
+
+-- a test as a number is its bit
+pub bit_of : (t : Bool) → bool_byte t ≡ bit t
+bit_of true = refl
+bit_of false = refl
 
 -- a bit moved up to place i
 bit_moved : (t : Bool) (i j : ℕ) → j < 64 → unpack ((bit t * 2 ^ i) % 2 ^ 64) j ≡ eqb j i && t

@@ -3,186 +3,183 @@
 #![tactic(auto)]
 
 ghost use Rattle.std.specs.Prelude.{◌≡◌, true, false, ◌≤◌, length};
+ghost use Rattle.std.specs.Option.{unwrap_or};
 ghost use Rattle.rules.specs.Base.{outside as isOutside};
 ghost use Rattle.rules.specs.Window.{no_change, no_entry, live, running};
 ghost use Rattle.rules.specs.Line.{waits_elsewhere, first_in_line};
-ghost use Rattle.layout.specs.Codec.{window_size, decode};
+ghost use Rattle.layout.specs.Codec.{decode};
 ghost use Rattle.layout.specs.Memory.{sound_bytes};
 
-use layout::{Changes, Entries, Header, Line, Locks, Permits};
-use places::figure;
+use layout::{Changes, Entries, Header, Line, Locks, Permits, Window};
+use places::changes::Status;
+use places::header::Figure;
 
-// How many entries there are.
-pub fn entries(w: &[u8]) -> usize
-    requires w_len { length w.now ≡ window_size }
-    requires w_value { sound_bytes w.now ≡ true }
-    ensures value { result ≡ (decode w.now).entries }
-    ensures upper_bound { result ≤ 256 }
-{
-    figure(&w[Header::AT..Entries::AT], 0)
+// The bytes of a sound window, lent to be read.
+#[derive(Clone, Copy)]
+pub struct Sound<'a> {
+    pub bytes: &'a [u8; Window::SIZE],
+    ghost sound: { sound_bytes bytes.now ≡ true },
 }
 
-// The highest change number given.
-pub fn given(w: &[u8]) -> usize
-    requires w_len { length w.now ≡ window_size }
-    requires w_value { sound_bytes w.now ≡ true }
-    ensures value { result ≡ (decode w.now).given }
-    ensures upper_bound { result ≤ 255 }
-{
-    figure(&w[Header::AT..Entries::AT], 1)
-}
-
-// How many log records there are.
-pub fn records(w: &[u8]) -> usize
-    requires w_len { length w.now ≡ window_size }
-    requires w_value { sound_bytes w.now ≡ true }
-    ensures value { result ≡ length (decode w.now).log }
-    ensures upper_bound { result ≤ 2048 }
-{
-    figure(&w[Header::AT..Entries::AT], 2)
-}
-
-// How many permits there are.
-pub fn permits(w: &[u8]) -> usize
-    requires w_len { length w.now ≡ window_size }
-    requires w_value { sound_bytes w.now ≡ true }
-    ensures value { result ≡ length (decode w.now).permits }
-    ensures upper_bound { result ≤ 1024 }
-{
-    figure(&w[Header::AT..Entries::AT], 3)
-}
-
-// How many ties there are.
-pub fn ties(w: &[u8]) -> usize
-    requires w_len { length w.now ≡ window_size }
-    requires w_value { sound_bytes w.now ≡ true }
-    ensures value { result ≡ length (decode w.now).ties }
-    ensures upper_bound { result ≤ 512 }
-{
-    figure(&w[Header::AT..Entries::AT], 4)
-}
-
-// How many stand in line.
-pub fn waiters(w: &[u8]) -> usize
-    requires w_len { length w.now ≡ window_size }
-    requires w_value { sound_bytes w.now ≡ true }
-    ensures value { result ≡ length (decode w.now).line }
-    ensures upper_bound { result ≤ 255 }
-{
-    figure(&w[Header::AT..Entries::AT], 5)
-}
-
-// The status of a change.
-pub fn status(w: &[u8], c: u32) -> u8
-    requires w_len { length w.now ≡ window_size }
-    requires w_value { sound_bytes w.now ≡ true }
-    ensures { result ≡ (decode w.now).status c }
-{
-    if Changes::MOST < c as usize {
-        return 0;
+impl Sound<'_> {
+    // How many entries there are.
+    pub fn entries(self) -> usize
+        ensures value { result ≡ (decode self.entry.bytes.now).entries }
+        ensures upper_bound { result ≤ 256 }
+    {
+        let bytes = self.bytes;
+        Figure::Entries.read(&bytes[Header::AT..Entries::AT])
     }
-    places::status(&w[Changes::AT..Line::AT], c as u8)
-}
 
-// The parent of a change.
-pub fn parent(w: &[u8], c: u32) -> u8
-    requires w_len { length w.now ≡ window_size }
-    requires w_value { sound_bytes w.now ≡ true }
-    ensures { result ≡ (decode w.now).parent c }
-{
-    if Changes::MOST < c as usize {
-        return 0;
+    // The highest change number given.
+    pub fn given(self) -> usize
+        ensures value { result ≡ (decode self.entry.bytes.now).given }
+        ensures upper_bound { result ≤ 255 }
+    {
+        let bytes = self.bytes;
+        Figure::Given.read(&bytes[Header::AT..Entries::AT])
     }
-    places::parent(&w[Changes::AT..Line::AT], c as u8)
-}
 
-// The value of an entry.
-pub fn value(w: &[u8], e: u32) -> u32
-    requires w_len { length w.now ≡ window_size }
-    requires w_value { sound_bytes w.now ≡ true }
-    ensures { result ≡ (decode w.now).value e }
-{
-    if Entries::MOST <= e as usize {
-        return 0;
+    // How many log records there are.
+    pub fn records(self) -> usize
+        ensures value { result ≡ length (decode self.entry.bytes.now).log }
+        ensures upper_bound { result ≤ 2048 }
+    {
+        let bytes = self.bytes;
+        Figure::Records.read(&bytes[Header::AT..Entries::AT])
     }
-    places::value(&w[Entries::AT..Changes::AT], e as u8)
-}
 
-// The lock of a change on an entry.
-pub fn held(w: &[u8], e: u32, c: u32) -> u8
-    requires w_len { length w.now ≡ window_size }
-    requires w_value { sound_bytes w.now ≡ true }
-    ensures { result ≡ (decode w.now).held e c }
-{
-    if Entries::MOST <= e as usize {
-        return 0;
+    // How many permits there are.
+    pub fn permits(self) -> usize
+        ensures value { result ≡ length (decode self.entry.bytes.now).permits }
+        ensures upper_bound { result ≤ 1024 }
+    {
+        let bytes = self.bytes;
+        Figure::Permits.read(&bytes[Header::AT..Entries::AT])
     }
-    if Changes::MOST < c as usize {
-        return 0;
+
+    // How many ties there are.
+    pub fn ties(self) -> usize
+        ensures value { result ≡ length (decode self.entry.bytes.now).ties }
+        ensures upper_bound { result ≤ 512 }
+    {
+        let bytes = self.bytes;
+        Figure::Ties.read(&bytes[Header::AT..Entries::AT])
     }
-    locks::mode(&w[Locks::AT..Permits::AT], e as u8, c as u8)
-}
 
-// The first change in the line of an entry; 0 where the line is empty.
-pub fn first_in_line(w: &[u8], e: u32) -> u8
-    requires w_len { length w.now ≡ window_size }
-    requires w_value { sound_bytes w.now ≡ true }
-    requires e_value { no_entry (decode w.now) e ≡ false }
-    ensures { result ≡ first_in_line (decode w.now).line e }
-{
-    let count = waiters(w);
-    line::first(&w[Line::AT..Locks::AT], count, e as u8)
-}
+    // How many stand in line.
+    pub fn waiters(self) -> usize
+        ensures value { result ≡ length (decode self.entry.bytes.now).line }
+        ensures upper_bound { result ≤ 255 }
+    {
+        let bytes = self.bytes;
+        Figure::Waiters.read(&bytes[Header::AT..Entries::AT])
+    }
 
-// Whether a change stands in the line of another entry.
-pub fn waits_elsewhere(w: &[u8], c: u32, e: u32) -> bool
-    requires w_len { length w.now ≡ window_size }
-    requires w_value { sound_bytes w.now ≡ true }
-    requires c_value { no_change (decode w.now) c ≡ false }
-    requires e_value { no_entry (decode w.now) e ≡ false }
-    ensures { result ≡ waits_elsewhere (decode w.now).line c e }
-{
-    let count = waiters(w);
-    line::elsewhere(&w[Line::AT..Locks::AT], count, c as u8, e as u8)
-}
+    // The status of a change.
+    pub fn status(self, change: u32) -> u8
+        ensures { result ≡ (decode self.entry.bytes.now).status change }
+    {
+        if Changes::MOST < change as usize {
+            return 0;
+        }
+        let bytes = self.bytes;
+        places::status(&bytes[Changes::AT..Line::AT], change as u8)
+    }
 
-// Whether no change has the number.
-pub fn no_change(w: &[u8], c: u32) -> bool
-    requires w_len { length w.now ≡ window_size }
-    requires w_value { sound_bytes w.now ≡ true }
-    ensures { result ≡ no_change (decode w.now) c }
-{
-    let n = given(w) as u32;
-    (c == 0) | (n < c)
-}
+    // The parent of a change.
+    pub fn parent(self, change: u32) -> u8
+        ensures { result ≡ (decode self.entry.bytes.now).parent change }
+    {
+        if Changes::MOST < change as usize {
+            return 0;
+        }
+        let bytes = self.bytes;
+        places::parent(&bytes[Changes::AT..Line::AT], change as u8)
+    }
 
-// Whether there is no such entry.
-pub fn no_entry(w: &[u8], e: u32) -> bool
-    requires w_len { length w.now ≡ window_size }
-    requires w_value { sound_bytes w.now ≡ true }
-    ensures { result ≡ no_entry (decode w.now) e }
-{
-    entries(w) as u32 <= e
-}
+    // The value of an entry.
+    pub fn value(self, entry: u32) -> u32
+        ensures { result ≡ (decode self.entry.bytes.now).value entry }
+    {
+        if Entries::MOST <= entry as usize {
+            return 0;
+        }
+        let bytes = self.bytes;
+        places::value(&bytes[Entries::AT..Changes::AT], entry as u8)
+    }
 
-// Whether a change is live.
-pub fn is_live(w: &[u8], c: u32) -> bool
-    requires w_len { length w.now ≡ window_size }
-    requires w_value { sound_bytes w.now ≡ true }
-    ensures { result ≡ live (decode w.now) c }
-{
-    let n = given(w) as u32;
-    let s = status(w, c);
-    (c <= n) & !outside(1, 3, s as u32)
-}
+    // The lock of a change on an entry.
+    pub fn held(self, entry: u32, change: u32) -> u8
+        ensures { result ≡ (decode self.entry.bytes.now).held entry change }
+    {
+        if Entries::MOST <= entry as usize {
+            return 0;
+        }
+        if Changes::MOST < change as usize {
+            return 0;
+        }
+        let bytes = self.bytes;
+        let table = &bytes[Locks::AT..Permits::AT];
+        locks::mode(table, entry as u8, change as u8)
+    }
 
-// Whether a change is running.
-pub fn is_running(w: &[u8], c: u32) -> bool
-    requires w_len { length w.now ≡ window_size }
-    requires w_value { sound_bytes w.now ≡ true }
-    ensures { result ≡ running (decode w.now) c }
-{
-    status(w, c) == 2
+    // The first change in the line of an entry.
+    pub fn first_in_line(self, entry: u32) -> Option<u8>
+        requires entry_value { no_entry (decode self.bytes.now) entry ≡ false }
+        ensures { unwrap_or result 0 ≡ first_in_line (decode self.entry.bytes.now).line entry }
+    {
+        let bytes = self.bytes;
+        let count = self.waiters();
+        line::front(&bytes[Line::AT..Locks::AT], count, entry as u8)
+    }
+
+    // Whether a change stands in the line of another entry.
+    pub fn waits_elsewhere(self, change: u32, entry: u32) -> bool
+        requires change_value { no_change (decode self.bytes.now) change ≡ false }
+        requires entry_value { no_entry (decode self.bytes.now) entry ≡ false }
+        ensures { result ≡ waits_elsewhere (decode self.entry.bytes.now).line change entry }
+    {
+        let bytes = self.bytes;
+        let count = self.waiters();
+        line::elsewhere(
+            &bytes[Line::AT..Locks::AT],
+            count,
+            change as u8,
+            entry as u8,
+        )
+    }
+
+    // Whether no change has the number.
+    pub fn no_change(self, change: u32) -> bool
+        ensures { result ≡ no_change (decode self.entry.bytes.now) change }
+    {
+        let given = self.given() as u32;
+        (change == 0) | (given < change)
+    }
+
+    // Whether there is no such entry.
+    pub fn no_entry(self, entry: u32) -> bool
+        ensures { result ≡ no_entry (decode self.entry.bytes.now) entry }
+    {
+        self.entries() as u32 <= entry
+    }
+
+    // Whether a change is live.
+    pub fn is_live(self, change: u32) -> bool
+        ensures { result ≡ live (decode self.entry.bytes.now) change }
+    {
+        let given = self.given() as u32;
+        let status = self.status(change);
+        (change <= given) & !outside(1, 3, u32::from(status))
+    }
+
+    // Whether a change is running.
+    pub fn is_running(self, change: u32) -> bool
+        ensures { result ≡ running (decode self.entry.bytes.now) change }
+    {
+        self.status(change) == Status::Running as u8
+    }
 }
 
 // Whether a number does not lie from low to high.

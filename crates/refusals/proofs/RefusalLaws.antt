@@ -1,5 +1,5 @@
 -- The first refusal of a list of checks, from the tests of the code. Assumes nothing.
-use mathlib.Core.Path.{◌≡◌, refl, sym, ◌∙◌}
+use mathlib.Core.Path.{◌≡◌, refl, sym}
 use mathlib.Core.Logic.{◌≢◌}
 use mathlib.Core.Bool.{Bool, true, false, not, cond, ◌||◌}
 use mathlib.Core.List.{List, [], ◌∷◌}
@@ -13,6 +13,9 @@ use Rattle.rules.specs.Window.{Window, no_change}
 use Rattle.rules.specs.Refusals.{Check, ◌if◌, checks, first_failed}
 use Rattle.rules.proofs.BaseLaws.{over_false, over_true}
 use Rattle.rules.proofs.SoundStep.{Passed, passed}
+use Rattle.replies.specs.declared.Refusal.{Refusal}
+use Rattle.replies.specs.Refused.{code}
+use Rattle.replies.proofs.RefusedLaws.{code_some}
 use Rattle.refusals.specs.Shared.{ChangeRefusal}
 
 -- checks made in order give a number: t is the code's test
@@ -30,15 +33,18 @@ first (passes e h q) = rw (sym e, h) (first q)
 
 -- THE FIRST n CHECKS OF A LIST
 -- one of them fails
-pub stopped : (n : ℕ) (l : List Check) (r : ℕ) → r ≡ first_failed (take n l) → r ≢ 0 → r ≡ first_failed l
+stops : (n : ℕ) (l : List Check) (r : ℕ) → r ≡ first_failed (take n l) → r ≢ 0 → r ≡ first_failed l
 unfolding first_failed
-stopped zero l r e h = absurd (h e)
-stopped (suc n) [] r e h = e
-stopped (suc n) (k ∷ l) r e h = go k.fails e (λ q. stopped n l r q h)
+stops zero l r e h = absurd (h e)
+stops (suc n) [] r e h = e
+stops (suc n) (k ∷ l) r e h = go k.fails e (λ q. stops n l r q h)
   where
     go : (b : Bool) → r ≡ cond b k.code (first_failed (take n l)) → (r ≡ first_failed (take n l) → r ≡ first_failed l) → r ≡ cond b k.code (first_failed l)
     go true q f = q
     go false q f = f q
+
+pub stopped : (n : ℕ) (l : List Check) (e : Refusal) → code e ≡ first_failed (take n l) → code e ≡ first_failed l
+stopped n l e q = stops n l (code e) q (code_some e)
 
 -- none does, and the others decide
 rest_decides : (n : ℕ) (l : List Check) (s : ℕ) → Passed (take n l) → s ≡ first_failed (drop n l) → s ≡ first_failed l
@@ -47,8 +53,8 @@ rest_decides zero l s p q = q
 rest_decides (suc n) [] s p q = q
 rest_decides (suc n) (k ∷ l) s p q = rw p.0 (rest_decides n l s p.1 q)
 
-pub went_on : (n : ℕ) (l : List Check) {r s : ℕ} → all (λ k. ltb 0 k.code) (take n l) ≡ true → r ≡ first_failed (take n l) → r ≡ 0 → Checked (drop n l) s → s ≡ first_failed l
-went_on n l c e z q = rest_decides n l _ (passed (take n l) c (sym e ∙ z)) (first q)
+pub went_on : (n : ℕ) (l : List Check) {s : ℕ} → all (λ k. ltb 0 k.code) (take n l) ≡ true → 0 ≡ first_failed (take n l) → Checked (drop n l) s → s ≡ first_failed l
+went_on n l c e q = rest_decides n l _ (passed (take n l) c (sym e)) (first q)
 
 -- the four calls that only ask that there is the change have the same checks
 pub change_refusal : {W : Window} {c r : ℕ} → Checked (3 if no_change W c ∷ []) r → ChangeRefusal W c r

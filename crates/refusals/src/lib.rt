@@ -1,171 +1,146 @@
-// The number of the first refusal of a call that names one change or one entry, in checking order, and 0 where none applies: read from a sound window's bytes.
+// The first refusal of a call that names one change or one entry, in checking order: read from a sound window's bytes.
 #![tactic(auto)]
 
 ghost use Rattle.std.specs.Prelude.{◌≡◌, true, not, [], ◌∷◌, ℕ, eqb, length, take};
 ghost use Rattle.rules.specs.Window.{limits, no_change};
 ghost use Rattle.rules.specs.Calls.{Initiate, Begin, Complete, Lock, Read, Write, Value};
 ghost use Rattle.rules.specs.Refusals.{◌if◌, checks, first_failed};
-ghost use Rattle.layout.specs.Codec.{window_size, decode};
-ghost use Rattle.layout.specs.Memory.{sound_bytes};
+ghost use Rattle.layout.specs.Codec.{decode};
+ghost use Rattle.replies.specs.Refused.{refused};
 ghost use Rattle.refusals.specs.Shared.{ChangeRefusal};
 
 use layout::{Changes, Log};
-use reads::{given, held, is_running, no_change, no_entry, outside, waits_elsewhere};
+use reads::{Sound, outside};
+use replies::Refusal;
 
 // Commit, abort, status and parent.
-pub fn change(w: &[u8], change: u32) -> u32
-    requires w_len { length w.now ≡ window_size }
-    requires w_value { sound_bytes w.now ≡ true }
-    ensures { ChangeRefusal (decode w.now) change result }
+pub fn change(view: Sound<'_>, change: u32) -> Result<(), Refusal>
+    ensures { ChangeRefusal (decode view.entry.bytes.now) change (refused result) }
 {
-    if no_change(w, change) {
-        return 3;
+    if view.no_change(change) {
+        return Err(Refusal::NoChange);
     }
-    0
+    Ok(())
 }
 
 // Value.
-pub fn value(w: &[u8], entry: u32) -> u32
-    requires w_len { length w.now ≡ window_size }
-    requires w_value { sound_bytes w.now ≡ true }
-    ensures { result ≡ first_failed (checks limits (decode w.now) (Value entry)) }
+pub fn value(view: Sound<'_>, entry: u32) -> Result<(), Refusal>
+    ensures { refused result ≡ first_failed (checks limits (decode view.entry.bytes.now) (Value entry)) }
 {
-    if no_entry(w, entry) {
-        return 4;
+    if view.no_entry(entry) {
+        return Err(Refusal::NoEntry);
     }
-    0
+    Ok(())
 }
 
 // Initiate.
-pub fn initiate(w: &[u8], parent: u32) -> u32
-    requires w_len { length w.now ≡ window_size }
-    requires w_value { sound_bytes w.now ≡ true }
-    ensures { result ≡ first_failed (checks limits (decode w.now) (Initiate parent)) }
+pub fn initiate(view: Sound<'_>, parent: u32) -> Result<(), Refusal>
+    ensures { refused result ≡ first_failed (checks limits (decode view.entry.bytes.now) (Initiate parent)) }
 {
-    let n = given(w);
+    let n = view.given();
     if (n as u32) < parent {
-        return 3;
+        return Err(Refusal::NoChange);
     }
-    if !((parent == 0) | is_running(w, parent)) {
-        return 7;
+    if !((parent == 0) | view.is_running(parent)) {
+        return Err(Refusal::Status);
     }
     let full = Changes::MOST <= n;
     if full {
-        return 11;
+        return Err(Refusal::NoRoom);
     }
-    0
+    Ok(())
 }
 
 // The checks of begin and complete: there is the change, and its status is s.
-fn in_status(w: &[u8], change: u32, s: u8) -> u32
-    requires w_len { length w.now ≡ window_size }
-    requires w_value { sound_bytes w.now ≡ true }
-    ensures { result ≡ first_failed (3 if no_change (decode w.now) change ∷ 7 if not (eqb ((decode w.now).status change) s) ∷ []) }
+fn in_status(view: Sound<'_>, change: u32, s: u8) -> Result<(), Refusal>
+    ensures { refused result ≡ first_failed (3 if no_change (decode view.entry.bytes.now) change ∷ 7 if not (eqb ((decode view.entry.bytes.now).status change) s) ∷ []) }
 {
-    if no_change(w, change) {
-        return 3;
+    if view.no_change(change) {
+        return Err(Refusal::NoChange);
     }
-    if reads::status(w, change) != s {
-        return 7;
+    if view.status(change) != s {
+        return Err(Refusal::Status);
     }
-    0
+    Ok(())
 }
 
 // Begin.
-pub fn begin(w: &[u8], change: u32) -> u32
-    requires w_len { length w.now ≡ window_size }
-    requires w_value { sound_bytes w.now ≡ true }
-    ensures { result ≡ first_failed (checks limits (decode w.now) (Begin change)) }
+pub fn begin(view: Sound<'_>, change: u32) -> Result<(), Refusal>
+    ensures { refused result ≡ first_failed (checks limits (decode view.entry.bytes.now) (Begin change)) }
 {
-    in_status(w, change, 1)
+    in_status(view, change, 1)
 }
 
 // Complete.
-pub fn complete(w: &[u8], change: u32) -> u32
-    requires w_len { length w.now ≡ window_size }
-    requires w_value { sound_bytes w.now ≡ true }
-    ensures { result ≡ first_failed (checks limits (decode w.now) (Complete change)) }
+pub fn complete(view: Sound<'_>, change: u32) -> Result<(), Refusal>
+    ensures { refused result ≡ first_failed (checks limits (decode view.entry.bytes.now) (Complete change)) }
 {
-    in_status(w, change, 2)
+    in_status(view, change, 2)
 }
 
 // Lock.
-pub fn lock(w: &[u8], change: u32, entry: u32, mode: u32) -> u32
-    requires w_len { length w.now ≡ window_size }
-    requires w_value { sound_bytes w.now ≡ true }
-    ensures { result ≡ first_failed (checks limits (decode w.now) (Lock change entry mode)) }
+pub fn lock(view: Sound<'_>, change: u32, entry: u32, mode: u32) -> Result<(), Refusal>
+    ensures { refused result ≡ first_failed (checks limits (decode view.entry.bytes.now) (Lock change entry mode)) }
 {
-    if no_change(w, change) {
-        return 3;
+    if view.no_change(change) {
+        return Err(Refusal::NoChange);
     }
-    if no_entry(w, entry) {
-        return 4;
+    if view.no_entry(entry) {
+        return Err(Refusal::NoEntry);
     }
     if outside(1, 2, mode) {
-        return 5;
+        return Err(Refusal::NoSuchValue);
     }
-    if !is_running(w, change) {
-        return 7;
+    if !view.is_running(change) {
+        return Err(Refusal::Status);
     }
-    let elsewhere = waits_elsewhere(w, change, entry);
+    let elsewhere = view.waits_elsewhere(change, entry);
     if elsewhere {
-        return 12;
+        return Err(Refusal::WaitsElsewhere);
     }
-    0
+    Ok(())
 }
 
 // The first checks of read and write: there are the change and the entry, and the change runs.
-fn on_entry(w: &[u8], change: u32, entry: u32) -> u32
-    requires w_len { length w.now ≡ window_size }
-    requires w_value { sound_bytes w.now ≡ true }
-    ensures { result ≡ first_failed (take 3 (checks limits (decode w.now) (Read change entry))) }
+fn on_entry(view: Sound<'_>, change: u32, entry: u32) -> Result<(), Refusal>
+    ensures { refused result ≡ first_failed (take 3 (checks limits (decode view.entry.bytes.now) (Read change entry))) }
 {
-    if no_change(w, change) {
-        return 3;
+    if view.no_change(change) {
+        return Err(Refusal::NoChange);
     }
-    if no_entry(w, entry) {
-        return 4;
+    if view.no_entry(entry) {
+        return Err(Refusal::NoEntry);
     }
-    if !is_running(w, change) {
-        return 7;
+    if !view.is_running(change) {
+        return Err(Refusal::Status);
     }
-    0
+    Ok(())
 }
 
 // Read.
-pub fn read(w: &[u8], change: u32, entry: u32) -> u32
-    requires w_len { length w.now ≡ window_size }
-    requires w_value { sound_bytes w.now ≡ true }
-    ensures { result ≡ first_failed (checks limits (decode w.now) (Read change entry)) }
+pub fn read(view: Sound<'_>, change: u32, entry: u32) -> Result<(), Refusal>
+    ensures { refused result ≡ first_failed (checks limits (decode view.entry.bytes.now) (Read change entry)) }
 {
-    let refused = on_entry(w, change, entry);
-    if refused != 0 {
-        return refused;
-    }
+    on_entry(view, change, entry)?;
     let none: u8 = 0;
-    if held(w, entry, change) == none {
-        return 8;
+    if view.held(entry, change) == none {
+        return Err(Refusal::NoLock);
     }
-    0
+    Ok(())
 }
 
 // Write, whatever the value.
-pub fn write(w: &[u8], change: u32, entry: u32) -> u32
-    requires w_len { length w.now ≡ window_size }
-    requires w_value { sound_bytes w.now ≡ true }
-    ensures { (v : ℕ) → result ≡ first_failed (checks limits (decode w.now) (Write change entry v)) }
+pub fn write(view: Sound<'_>, change: u32, entry: u32) -> Result<(), Refusal>
+    ensures { (v : ℕ) → refused result ≡ first_failed (checks limits (decode view.entry.bytes.now) (Write change entry v)) }
 {
-    let refused = on_entry(w, change, entry);
-    if refused != 0 {
-        return refused;
-    }
+    on_entry(view, change, entry)?;
     let write: u8 = 2;
-    if held(w, entry, change) != write {
-        return 8;
+    if view.held(entry, change) != write {
+        return Err(Refusal::NoLock);
     }
-    let full = Log::MOST <= reads::records(w);
+    let full = Log::MOST <= view.records();
     if full {
-        return 11;
+        return Err(Refusal::NoRoom);
     }
-    0
+    Ok(())
 }

@@ -14,7 +14,12 @@ use Rattle.rules.proofs.SoundStep.{Passed, passed, codes}
 use Rattle.layout.specs.Codec.{window_size, decode, encode}
 use Rattle.layout.specs.Memory.{sound_bytes, sound_memory, window_of, lay_into, hand_back, perform}
 use Rattle.layout.proofs.MemoryLaws.{bytes_again, perform-sound, perform_unsound}
+use Rattle.std.specs.Prelude.{Err}
 use Rattle.replies.specs.declared.Reply.{Reply}
+use Rattle.replies.specs.declared.Refusal.{Refusal}
+use Rattle.replies.specs.declared.Refusal.TheVariants.{UnsoundMemory}
+use Rattle.replies.specs.Refused.{code, reply_of}
+use Rattle.replies.proofs.RefusedLaws.{code_some}
 use Rattle.replies.specs.Gives.{Gives, written}
 
 -- ON A WINDOW'S BYTES
@@ -39,24 +44,23 @@ module _ (bs : List ℕ) (s : sound_bytes bs ≡ true) where
   looked k r e = given-done k (decode bs) r bs e (sym (bytes_again bs s))
 
   -- a refusal that applies
-  pub turned_back : (call : Call) (code : ℕ) (r : Reply) → code ≡ first_failed (checks limits (decode bs) call) → code ≢ 0 → (r.answer ≡ code) × (r.number ≡ 0)
-      → Gives (written (step limits (decode bs) call)) r bs
+  pub turned_back : (call : Call) (e : Refusal) → code e ≡ first_failed (checks limits (decode bs) call) → Gives (written (step limits (decode bs) call)) (reply_of (Err e)) bs
   unfolding step settle
-  turned_back call code r e n q = rw (sym e) (go code n q.0)
+  turned_back call e q = rw (sym q) (go (code e) (code_some e) refl)
     where
-      go : (a : ℕ) → a ≢ 0 → r.answer ≡ a → Gives (written (settle a (decode bs) (effect (decode bs) call))) r bs
+      go : (a : ℕ) → a ≢ 0 → code e ≡ a → Gives (written (settle a (decode bs) (effect (decode bs) call))) (reply_of (Err e)) bs
       go zero n p = absurd (n refl)
-      go (suc a) n p = left (suc a) 0 r p q.1
+      go (suc a) n p = left (suc a) 0 (reply_of (Err e)) p refl
 
 -- no refusal applies: each check is passed
 pub unrefused : (W : Window) (call : Call) → first_failed (checks limits W call) ≡ 0 → Passed (checks limits W call)
 unrefused W call = passed (checks limits W call) (codes limits W call)
 
 -- and the step is the effect
-pub let_through : (W : Window) (call : Call) (code : ℕ) {r : Reply} {after : List ℕ} → code ≡ first_failed (checks limits W call) → code ≡ 0
+pub let_through : (W : Window) (call : Call) {r : Reply} {after : List ℕ} → 0 ≡ first_failed (checks limits W call)
     → Gives (written (effect W call)) r after → Gives (written (step limits W call)) r after
 unfolding step settle
-let_through W call code e z g = let q = sym e ∙ z in rw q g
+let_through W call e g = rw (sym e) g
 
 -- ON LENT MEMORY
 -- handed back as it was
@@ -66,8 +70,8 @@ handed_back mem a r e = record { answer = e.0; number = e.1; bytes = refl }
 
 module _ (mem : List ℕ) (call : Call) where
   -- memory that is not a sound window
-  pub unsound : sound_memory mem ≡ false → is_open call ≡ false → (r : Reply) → (r.answer ≡ 1) × (r.number ≡ 0) → Gives (perform mem call) r mem
-  unsound h o r e = rw (perform_unsound mem call h o) (handed_back mem 1 r e)
+  pub unsound : sound_memory mem ≡ false → is_open call ≡ false → Gives (perform mem call) (reply_of (Err UnsoundMemory)) mem
+  unsound h o = rw (perform_unsound mem call h o) (handed_back mem 1 (reply_of (Err UnsoundMemory)) (refl, refl))
 
   -- the window at its front, lent and handed back
   pub on_memory : sound_memory mem ≡ true → (r : Reply) (after : List ℕ) → Gives (written (step limits (window_of mem) call)) r after

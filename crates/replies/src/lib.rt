@@ -2,6 +2,7 @@
 #![tactic(auto)]
 
 ghost use Rattle.std.specs.Prelude.{◌≡◌};
+ghost use Rattle.replies.specs.Refused.{code, reply_of};
 
 #[repr(C)]
 #[derive(Clone, Copy)]
@@ -29,4 +30,42 @@ pub fn unchanged(answer: u32) -> Reply
     ensures { (result.answer ≡ answer) × (result.number ≡ 0) }
 {
     Reply { answer, number: 0 }
+}
+
+// Why a call is turned back. Each has the number of its answer.
+#[derive(Clone, Copy, Debug, PartialEq, Eq)]
+pub enum Refusal {
+    UnsoundMemory = 1,
+    EntryCount = 2,
+    NoChange = 3,
+    NoEntry = 4,
+    NoSuchValue = 5,
+    SameChange = 6,
+    Status = 7,
+    NoLock = 8,
+    Returns = 9,
+    NoPermit = 10,
+    NoRoom = 11,
+    WaitsElsewhere = 12,
+    BrokenLine = 30,
+}
+
+impl From<Refusal> for u32 {
+    ghost from_gives = { λ refusal answer. answer ≡ code refusal };
+
+    fn from(refusal: Refusal) -> u32 {
+        refusal as u32
+    }
+}
+
+// What a call gives, as C sees it: a refusal with second number 0.
+impl From<Result<Reply, Refusal>> for Reply {
+    ghost from_gives = { λ outcome reply. reply ≡ reply_of outcome };
+
+    fn from(outcome: Result<Reply, Refusal>) -> Reply {
+        match outcome {
+            Ok(reply) => reply,
+            Err(refusal) => unchanged(u32::from(refusal)),
+        }
+    }
 }

@@ -1,10 +1,8 @@
--- Keys and their ranks, the search by halves, and a row put behind, before or in place of another. Assumes nothing.
+-- Keys and their ranks, and a row put behind, before or in place of another. Assumes nothing.
 use mathlib.Core.Path.{◌≡◌, refl, sym, ap}
-use mathlib.Core.Logic.{⊎_elim}
 use mathlib.Core.Bool.{true}
 use mathlib.Core.List.{List, ◌∷◌, ◌++◌}
 use Prim.Native.Nat.{ℕ, zero, suc, ◌+◌, ◌*◌, ◌≤◌, ◌<◌, Ordering}
-use native.Mathlib.Nat.{eq-or-lt_of_le}
 use native.Mathlib.Omega.{arith}
 use Rattle.rules.specs.Base.{Key, by_order, table, insert, rising}
 use Rattle.rules.proofs.SortLaws.{Before, by1, by2, by3, Ordered, below, equal, above, ordered, rising_at}
@@ -53,15 +51,6 @@ ranks_rise l n b e i j h k =
     let none : Row = row 0 0 0 0 in
     rank-before (row_at l i) (row_at l j) (small_at l b i) (small_at l b j)
     (rw (get_or_table0 n (row_at l) i none (omega arith), get_or_table0 n (row_at l) j none k) at (rising_at row_key none (table n 0 (row_at l)) e i j h (rw length-table k)))
-
--- a search by halves: the middle row is lower, or not
-module _ (l : List ℕ) (n : ℕ) (b : Bytes l) (e : rising row_key (rows n l) ≡ true) (k mid : ℕ) where
-  pub half_lower : mid < n → rank (row_at l mid) < k → (j : ℕ) → j < mid + 1 → rank (row_at l j) < k
-  half_lower h low j g = ⊎_elim (λ q. rw q low) (λ q. omega (arith, ranks_rise l n b e j mid q h)) (eq-or-lt_of_le {n = j} {m = mid} (omega arith))
-
-  -- those from a row on that is not lower are not lower
-  pub half_higher : k ≤ rank (row_at l mid) → (j : ℕ) → mid ≤ j → j < n → k ≤ rank (row_at l j)
-  half_higher high j g f = ⊎_elim (λ q. rw (← q) high) (λ q. omega (arith, ranks_rise l n b e mid j q f)) (eq-or-lt_of_le g)
 
 -- a row put behind lower ones, before a higher one, in place of an equal one
 module _ (f : ℕ → Row) (x : Row) (s : Small x) (t : (j : ℕ) → Small (f j)) where

@@ -4,14 +4,14 @@ use mathlib.Core.List.{List, [], ◌∷◌, ◌++◌, append_assoc, flat_map}
 use Prim.Native.Nat.{ℕ, zero, suc, ◌+◌, ◌-◌, ◌*◌, ◌≤◌, ◌<◌}
 use native.Mathlib.Omega.{arith}
 use lib.ListN.{length, take, drop, get_or, replicate, length-append, length-replicate, take-append-drop, replicate-append-replicate}
-use lib.Seq.{take-add, drop-drop, drop_at, drop-append-add}
+use lib.Seq.{take-add, drop-drop, drop_at, drop-append-add, take_all}
 use Rattle.rules.specs.Base.{table}
 use Rattle.rules.proofs.ListLaws.{table-append}
 use Rattle.layout.proofs.SectionLaws.{length-table, table_list}
 use Rattle.cells.specs.Part.{part, patch}
 use Rattle.cells.proofs.NumLaws.{part4}
 use Rattle.cells.proofs.CloseLaws.{flat_append}
-use Rattle.rows.specs.Rows.{Row, row, row_bytes, rows_bytes, row_at, rows, Stored}
+use Rattle.rows.specs.Rows.{Row, row, row_of, row_bytes, rows_bytes, row_at, rows, Stored}
 
 -- how many
 pub length-bytes : (rs : List Row) → length (rows_bytes rs) ≡ 4 * length rs
@@ -28,6 +28,11 @@ length-rows n l = length-table n 0 (row_at l)
 pub row-part : (l : List ℕ) (i : ℕ) → 4 * i + 4 ≤ length l → row_bytes (row_at l i) ≡ part l (4 * i) 4
 unfolding row_bytes row_at
 row-part l i h = sym (part4 l (4 * i) h)
+
+-- four bytes are those of the row that they make
+pub bytes_of : (x : List ℕ) → length x ≡ 4 → row_bytes (row_of x) ≡ x
+unfolding row_bytes row_of part
+bytes_of x e = sym (part4 x 0 (omega arith)) ∙ take_all 4 x (omega arith)
 
 -- so are those of several
 bytes-part : (l : List ℕ) (m i : ℕ) → 4 * i + 4 * m ≤ length l → rows_bytes (table m i (row_at l)) ≡ part l (4 * i) (4 * m)

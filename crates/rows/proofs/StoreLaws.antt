@@ -1,48 +1,16 @@
--- A row stored among those of a section: bytes moved up, the gap filled, or a row's last byte replaced. Assumes nothing.
+-- A row stored among those of a section: the gap filled, or a row's last byte replaced. Assumes nothing.
 use mathlib.Core.Path.{◌≡◌, refl, sym, ap, ap₂, ◌∙◌}
 use mathlib.Core.List.{List, [], ◌∷◌, ◌++◌, append_assoc, flat_map}
 use Prim.Native.Nat.{ℕ, suc, ◌+◌, ◌-◌, ◌*◌, ◌≤◌, ◌<◌}
-use native.Mathlib.Nat.{sub_self}
 use native.Mathlib.Omega.{arith}
-use lib.ListN.{length, take, drop, get_or, set, length-append, length-take, length-drop}
-use lib.Seq.{take_at, drop_at, set_at, drop-drop, length-take-le, take-append-add, drop-append-add, set-append_left, take-set-lt, drop-set-lt}
+use lib.ListN.{length, take, drop, set, length-append, length-drop}
+use lib.Seq.{take_at, drop_at, set_at, drop-drop, length-take-le, take-append-add, drop-append-add}
 use Rattle.rules.specs.Base.{table}
 use Rattle.layout.proofs.SectionLaws.{length-table}
 use Rattle.cells.specs.Part.{part, patch}
-use Rattle.cells.proofs.PartLaws.{patch_nil, patch_cons, part_cons, get_or-patch-before}
 use Rattle.cells.proofs.CloseLaws.{flat_append}
 use Rattle.rows.specs.Rows.{Row, row, row_bytes, rows_bytes, row_at}
 use Rattle.rows.proofs.RowLaws.{length-bytes, pieces}
-
--- THE LOOP THAT MOVES BYTES UP
--- a store right before what has been put
-set_before : (l : List ℕ) (at : ℕ) (xs : List ℕ) (v : ℕ) → at < length l → set (patch l (suc at) xs) at v ≡ patch l at (v ∷ xs)
-set_before l at xs v h = swap ∙ patch_cons l at v xs h
-  where
-    swap : set (patch l (suc at) xs) at v ≡ patch (set l at v) (suc at) xs
-    swap = unfold patch in
-        set-append_left (take (suc at) l) (xs ++ drop (length xs) (drop (suc at) l)) at v (simp length-take (omega arith))
-        ∙ sym (ap₂ (λ (a b : List ℕ). a ++ (xs ++ drop (length xs) b)) (take-set-lt (suc at) l at v (omega arith)) (drop-set-lt (suc at) l at v (omega arith)))
-
--- the bytes from i up to an index have been moved up by k
-unfoldable pub lifted : List ℕ → ℕ → ℕ → ℕ → List ℕ
-lifted l k to i = patch l (i + k) (part l i (to - i))
-
--- none has
-pub lift_none : (l : List ℕ) (k to : ℕ) → l ≡ lifted l k to to
-unfolding lifted part
-lift_none l k to = sym (rw (sub_self to) (patch_nil l (to + k)))
-
--- one byte more has
-pub lift_next : (l : List ℕ) (k to i : ℕ) → i < to → to + k ≤ length l → set (lifted l k to (suc i)) (i + k) (get_or (lifted l k to (suc i)) i 0) ≡ lifted l k to i
-unfolding lifted
-lift_next l k to i h room =
-    let a : suc i + k ≡ suc (i + k) = omega arith in
-    let m : to - i ≡ suc (to - suc i) = omega arith in
-    ap (set (patch l (suc i + k) (part l (suc i) (to - suc i))) (i + k)) (get_or-patch-before l (suc i + k) (part l (suc i) (to - suc i)) i (omega arith) (omega arith))
-    ∙ ap (λ (j : ℕ). set (patch l j (part l (suc i) (to - suc i))) (i + k) (get_or l i 0)) a
-    ∙ set_before l (i + k) (part l (suc i) (to - suc i)) (get_or l i 0) (omega arith)
-    ∙ ap (patch l (i + k)) (sym (ap (part l i) m ∙ part_cons l i (to - suc i) (omega arith)))
 
 -- A ROW PUT IN
 -- a gap made in the middle and filled

@@ -1,6 +1,9 @@
 -- Rows of four bytes, the first three of which are their sort key: what the tables of permits and of ties are made of; places in line are rows too, in order of coming. Assumes nothing.
-use Rattle.std.specs.Prelude.{◌≡◌, Bool, not, cond, ◌&&◌, ◌||◌, ℕ, ◌+◌, ◌-◌, ◌*◌, ◌≤◌, ◌<◌, ltb, eqb, length, get_or, replicate}
+use Rattle.std.specs.Prelude.{◌≡◌, Bool, not, cond, ◌&&◌, ◌||◌, ℕ, ◌+◌, ◌-◌, ◌*◌, ◌≤◌, ◌<◌, ltb, eqb, length, get_or, drop, replicate}
 use mathlib.Core.List.{List, [], ◌∷◌, ◌++◌, flat_map}
+use Rattle.std.specs.List.{concat}
+use Rattle.std.specs.List.Retain.{IsFiltered}
+use Rattle.std.specs.Simd.{first_chunks}
 use Rattle.rules.specs.Base.{Key, table, insert, exceeds, keep}
 use Rattle.rules.specs.Sets.{Set}
 use Rattle.rules.specs.Locks.{contains}
@@ -28,6 +31,18 @@ rank_of a b c = a * 65536 + b * 256 + c
 -- a row's
 unfoldable pub rank : Row → ℕ
 rank r = rank_of r.k1 r.k2 r.k3
+
+-- that of a key's three bytes
+abbrev pub key_rank : List ℕ → ℕ
+key_rank k = rank_of (get_or k 0 0) (get_or k 1 0) (get_or k 2 0)
+
+-- the row of four bytes
+unfoldable pub row_of : List ℕ → Row
+row_of x = row (get_or x 0 0) (get_or x 1 0) (get_or x 2 0) (get_or x 3 0)
+
+-- the row of a key's three bytes and one more
+abbrev pub with_key : List ℕ → ℕ → Row
+with_key k more = row (get_or k 0 0) (get_or k 1 0) (get_or k 2 0) more
 
 -- the bytes of a row
 unfoldable pub row_bytes : Row → List ℕ
@@ -85,3 +100,13 @@ pub record Closed (q : Row → Bool) (n : ℕ) (before : List ℕ) (r : ℕ) (af
   pub count : r ≡ length (keep q (rows n before))
   -- theirs are the first bytes, the places that got free are 0, and the bytes past the n rows are as they were
   pub bytes : after ≡ patch before 0 (rows_bytes (keep q (rows n before)) ++ replicate (4 * n - 4 * r) 0)
+
+-- of the first n records of w bytes those that a test lets stay, closed up: it answers by R, and started as p
+pub record Retained {P : Type 0} (R : P → List ℕ → Bool → P → Type 0) (p : P) (w n : ℕ) (before : List ℕ) (r : ℕ) (after : List ℕ) : Type 0 where
+  -- the records that stay, in order
+  pub kept : List (List ℕ)
+  pub passed : IsFiltered R p (first_chunks w n before) kept
+  -- how many there are
+  pub count : r ≡ length kept
+  -- theirs are the first bytes, the places that got free are 0, and the bytes past the n records are as they were
+  pub bytes : after ≡ concat kept ++ (replicate (n * w - r * w) 0 ++ drop (n * w) before)

@@ -2,13 +2,13 @@
 use mathlib.Core.Path.{◌≡◌, refl}
 use mathlib.Core.Logic.{◌≢◌}
 use mathlib.Core.Bool.{Bool, true, false, cond, ◌&&◌, ◌||◌}
-use mathlib.Core.List.{List, ◌∷◌}
+use mathlib.Core.List.{List, [], ◌∷◌}
 use mathlib.Core.Option.{Option, none, some}
 use Prim.Native.Nat.{ℕ, ◌+◌, ◌*◌, ◌-◌, ◌≤◌, ◌<◌}
 use native.Mathlib.Omega.{arith}
 use borrow.Author.Tests.{ltb-true, leb-true, le-ltb, lt-leb, le-leb, ne_eqb}
 use lib.Dec.{eqb, ltb, leb}
-use lib.ListN.{get_or-eq_default}
+use lib.ListN.{length, get_or, get_or-eq_default}
 use Rattle.rules.specs.Calls.{Call, Read}
 use Rattle.rules.specs.Base.{all_below}
 use Rattle.rules.proofs.BaseLaws.{Below, under, over, below, all_below_at}
@@ -16,7 +16,10 @@ use Rattle.layout.specs.Memory.{perform}
 use Rattle.replies.specs.declared.Reply.{Reply}
 use Rattle.replies.specs.Gives.{Gives}
 use Rattle.replies.proofs.GiveLaws.{handed_back}
-use Rattle.script_calls.specs.Fields.{Reads, nothing, one, two, three, four, readings, placed, made, call_of, reply_of, last_field}
+use Rattle.script_calls.specs.Fields.{Reads, nothing, one, two, three, four, readings, placed, made, call_of, call_with, reply_of, last_field}
+use Rattle.script_calls.specs.declared.Name.{Name}
+use Rattle.script_calls.specs.declared.Name.TheVariants as name
+use Rattle.script_calls.specs.Meant.{number_of}
 
 -- a broken line does nothing
 pub broken : (mem : List ℕ) (r : Reply) → (r.answer ≡ 30) × (r.number ≡ 0) → Gives (reply_of mem none) r mem
@@ -129,22 +132,61 @@ module _ (k a b c d l : ℕ) (e : l ≡ last_field b c d) where
             let row : all_below 4 (λ i. unread from to k (1 + i)) ≡ true = all_below_at 16 (λ j. all_below 4 (λ i. unread from to j (1 + i))) t k h in
             rw e at (more_used (rw q at (all_below_at 4 (λ i. unread from to k (1 + i)) row (l - 1) (omega (arith, last_most b c d)))) h)
 
+-- THE FOUR FIELDS AS A LIST
+with_four : (k : ℕ) (l : List ℕ) → length l ≡ 4 → call_with k l ≡ call_of k (get_or l 0 0) (get_or l 1 0) (get_or l 2 0) (get_or l 3 0)
+unfolding call_with
+with_four k (a ∷ b ∷ c ∷ d ∷ []) h = refl
+with_four k [] h = absurd (omega arith)
+with_four k (a ∷ []) h = absurd (omega arith)
+with_four k (a ∷ b ∷ []) h = absurd (omega arith)
+with_four k (a ∷ b ∷ c ∷ []) h = absurd (omega arith)
+with_four k (a ∷ b ∷ c ∷ d ∷ e ∷ l) h = absurd (omega arith)
+
+-- the last of them in use
+abbrev pub used : List ℕ → ℕ
+used l = last_field (get_or l 1 0) (get_or l 2 0) (get_or l 3 0)
+
+pub used_most : (l : List ℕ) → used l ≤ 4
+used_most l = last_most (get_or l 1 0) (get_or l 2 0) (get_or l 3 0)
+
+-- the call of a reading of them
+abbrev pub of_four : Reads → List ℕ → Option Call
+of_four r l = asked r (get_or l 0 0) (get_or l 1 0) (get_or l 2 0) (get_or l 3 0)
+
+-- a call number is at most 15
+pub number_most : (n : Name) → number_of n ≤ 15
+number_most name.Open = omega arith
+number_most name.Initiate = omega arith
+number_most name.Begin = omega arith
+number_most name.Complete = omega arith
+number_most name.Lock = omega arith
+number_most name.Read = omega arith
+number_most name.Write = omega arith
+number_most name.Permit = omega arith
+number_most name.Delegate = omega arith
+number_most name.Depend = omega arith
+number_most name.Commit = omega arith
+number_most name.Abort = omega arith
+number_most name.Status = omega arith
+number_most name.Parent = omega arith
+number_most name.Value = omega arith
+
 -- THE REPLY, by where the number stands in the decision
-module _ (mem : List ℕ) (k a b c d : ℕ) {r : Reply} {after : List ℕ} where
+module _ (mem : List ℕ) (k : ℕ) (l : List ℕ) (n : length l ≡ 4) {r : Reply} {after : List ℕ} where
   -- in an arm
-  pub arm : (K : ℕ) → K * 10 + 1 ≤ k * 10 + last_field b c d → k * 10 + last_field b c d < K * 10 + 1 + fields_read K
-      → Gives (reply_of mem (asked (placed K readings) a b c d)) r after → Gives (reply_of mem (call_of k a b c d)) r after
-  arm K lo hi g = rw (in_arm k a b c d (last_field b c d) refl K lo hi) g
+  pub arm : (K : ℕ) → K * 10 + 1 ≤ k * 10 + used l → k * 10 + used l < K * 10 + 1 + fields_read K
+      → Gives (reply_of mem (of_four (placed K readings) l)) r after → Gives (reply_of mem (call_with k l)) r after
+  arm K lo hi g = rw (with_four k l n, in_arm k (get_or l 0 0) (get_or l 1 0) (get_or l 2 0) (get_or l 3 0) (used l) refl K lo hi) g
 
   -- in an arm of a call that reads one field
-  pub single : (K : ℕ) → fields_read K ≡ 1 → k * 10 + last_field b c d ≡ K * 10 + 1
-      → Gives (reply_of mem (asked (placed K readings) a b c d)) r after → Gives (reply_of mem (call_of k a b c d)) r after
-  single K n e = arm K (omega arith) (omega arith)
+  pub single : (K : ℕ) → fields_read K ≡ 1 → k * 10 + used l ≡ K * 10 + 1
+      → Gives (reply_of mem (of_four (placed K readings) l)) r after → Gives (reply_of mem (call_with k l)) r after
+  single K e q = arm K (omega arith) (omega arith)
 
 -- in the arm of read
-pub read_made : (mem : List ℕ) (k a b c d : ℕ) → 61 ≤ k * 10 + last_field b c d → k * 10 + last_field b c d < 63 → reply_of mem (call_of k a b c d) ≡ perform mem (Read a b)
+pub read_made : (mem : List ℕ) (k : ℕ) (l : List ℕ) → length l ≡ 4 → 61 ≤ k * 10 + used l → k * 10 + used l < 63 → reply_of mem (call_with k l) ≡ perform mem (Read (get_or l 0 0) (get_or l 1 0))
 unfolding fields_read fields_of asked placed readings reply_of
-read_made mem k a b c d lo hi = rw (in_arm k a b c d (last_field b c d) refl 6 lo hi)
+read_made mem k l n lo hi = rw (with_four k l n, in_arm k (get_or l 0 0) (get_or l 1 0) (get_or l 2 0) (get_or l 3 0) (used l) refl 6 lo hi)
 
 -- in no arm
 module _ (k a b c d : ℕ) where
@@ -167,3 +209,8 @@ module _ (k a b c d : ℕ) where
       go (over _) (over _) (over _) (over g) (under h) _ = gap 85 91 refl m (omega (arith, h8 g)) (λ _. omega arith)
       go (over _) (over _) (over _) (over _) (over g) (under h) = gap 94 101 refl m (omega (arith, h9 g)) (λ _. omega arith)
       go (over _) (over _) (over _) (over _) (over _) (over g) = gap 104 160 refl m (omega (arith, h10 g)) (λ h. omega (arith, last_most b c d))
+
+-- the same, of the four as a list
+pub none_made : (mem : List ℕ) (k : ℕ) (l : List ℕ) → length l ≡ 4 → call_of k (get_or l 0 0) (get_or l 1 0) (get_or l 2 0) (get_or l 3 0) ≡ none → (r : Reply) → (r.answer ≡ 30) × (r.number ≡ 0)
+    → Gives (reply_of mem (call_with k l)) r mem
+none_made mem k l n q r e = rw (with_four k l n, q) (broken mem r e)

@@ -34,6 +34,11 @@ made (four f) a b c d = some (f a b c d)
 unfoldable pub call_of : (call a b c d : ℕ) → Option Call
 call_of k a b c d = made (placed k readings) a b c d
 
+-- the same, of four fields as a list
+unfoldable pub call_with : (call : ℕ) → List ℕ → Option Call
+call_with k (a ∷ b ∷ c ∷ d ∷ []) = call_of k a b c d
+call_with k _ = none
+
 -- the reply to a call; no call "prints answer 30 and number 0 and does nothing"
 unfoldable pub reply_of : List ℕ → Option Call → Reply (List ℕ)
 reply_of mem none = hand_back mem 30

@@ -1,2 +1,3 @@
--- Which call a line of a script asks for, by its call number.
+-- Which call a line of a script asks for, by its call name and fields.
 pub mod Fields
+pub mod Meant

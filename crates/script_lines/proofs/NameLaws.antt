@@ -1,62 +1,49 @@
--- The place of a text among names. Assumes nothing.
-use mathlib.Core.Path.{◌≡◌, refl, sym, ◌∙◌}
-use mathlib.Core.Bool.{Bool, true, false, cond}
-use mathlib.Core.List.{List, [], ◌∷◌, ◌++◌}
-use Prim.Native.Nat.{ℕ, suc, ◌+◌, ◌≤◌}
-use native.Mathlib.Omega.{arith}
-use lib.ListN.{length, take, drop}
+-- The search for a text among the names. Assumes nothing.
+use mathlib.Core.Path.{◌≡◌, refl, sym, ap, ◌∙◌}
+use mathlib.Core.Bool.{true, false, cond}
+use mathlib.Core.List.{List, map}
+use Prim.Native.Nat.{ℕ, suc, ◌+◌, ◌<◌}
+use native.Mathlib.Numerals.{add-one}
+use lib.Dec.{eqb}
+use lib.ListN.{get_or, drop}
+use lib.Seq.{drop-cons}
+use borrow.Author.Tests.{eqb-true}
+use Rattle.rules.specs.Base.{all_below}
+use Rattle.rules.proofs.BaseLaws.{all_below_at}
 use Rattle.layout.specs.Memory.{same_bytes}
+use Rattle.text.specs.Decimal.{ascii}
+use Rattle.script_calls.specs.declared.Name.{Name}
+use Rattle.script_calls.specs.Meant.{number_of}
+use Rattle.script_lines.specs.declared.TheConstants.{NAMES}
 use Rattle.script_lines.specs.Lines.{names, place_among, call_number}
+use Rattle.script_lines.specs.Texts.{text_of}
 
-module _ (l n : List ℕ) (ns : List (List ℕ)) {b : Bool} where
-  -- it is the first
-  pub here : (k : ℕ) → b ≡ same_bytes l n → b ≡ true → k ≡ place_among k (n ∷ ns) l
+-- the place of a text among the names from place i on
+abbrev pub place_from : ℕ → List ℕ → ℕ
+place_from i l = place_among (suc i) (map text_of (drop i NAMES)) l
+
+pub from_first : (l : List ℕ) → place_from 0 l ≡ call_number l
+unfolding names ascii call_number
+from_first l = refl
+
+pub past_last : (l : List ℕ) → place_from 15 l ≡ 0
+unfolding place_among
+past_last l = refl
+
+-- the names are numbered from 1
+number_at : (i : ℕ) (d : Name) → i < 15 → number_of (get_or NAMES i d) ≡ suc i
+unfolding all_below
+number_at i d h = eqb-true (number_of (get_or NAMES i d)) (suc i) (all_below_at 15 (λ k. eqb (number_of (get_or NAMES k d)) (suc k)) refl i h)
+
+module _ (i : ℕ) (d : Name) (l : List ℕ) (h : i < 15) where
+  at_name : place_from i l ≡ cond (same_bytes l (text_of (get_or NAMES i d))) (suc i) (place_from (suc i) l)
   unfolding place_among
-  here k e t = rw (sym e ∙ t)
+  at_name = ap (λ (ns : List Name). place_among (suc i) (map text_of ns) l) (drop-cons NAMES i d h)
+
+  -- it is this one
+  pub name_here : same_bytes l (text_of (get_or NAMES i d)) ≡ true → number_of (get_or NAMES i d) ≡ place_from i l
+  name_here e = number_at i d h ∙ sym (at_name ∙ rw e)
 
   -- it is not
-  pub further : (k : ℕ) {r : ℕ} → b ≡ same_bytes l n → b ≡ false → r ≡ place_among (suc k) ns l → r ≡ place_among k (n ∷ ns) l
-  unfolding place_among
-  further k e t h = rw (sym e ∙ t) h
-
-pub nowhere : (l : List ℕ) (k : ℕ) → 0 ≡ place_among k [] l
-unfolding place_among
-nowhere l k = refl
-
--- IN ONE OF TWO LISTS OF NAMES
-among_both : (k : ℕ) (ns ms : List (List ℕ)) (l : List ℕ) {r : ℕ} → r ≡ place_among k ns l → (r ≡ 0 → ⊥) → r ≡ place_among k (ns ++ ms) l
-unfolding place_among
-among_both k [] ms l e z = absurd (z e)
-among_both k (n ∷ ns) ms l e z = go (same_bytes l n) (λ q. among_both (suc k) ns ms l q z) e
-  where
-    go : {r : ℕ} (b : Bool) → (r ≡ place_among (suc k) ns l → r ≡ place_among (suc k) (ns ++ ms) l) → r ≡ cond b k (place_among (suc k) ns l) → r ≡ cond b k (place_among (suc k) (ns ++ ms) l)
-    go true ih q = q
-    go false ih q = ih q
-
-among_second : (k : ℕ) (ns ms : List (List ℕ)) (l : List ℕ) → 1 ≤ k → 0 ≡ place_among k ns l → place_among k (ns ++ ms) l ≡ place_among (length ns + k) ms l
-unfolding place_among
-among_second k [] ms l h z = let e : length {A = List ℕ} [] + k ≡ k = omega arith in rw e
-among_second k (n ∷ ns) ms l h z = go (same_bytes l n) (among_second (suc k) ns ms l (omega arith)) z
-  where
-    go : (b : Bool) → (0 ≡ place_among (suc k) ns l → place_among (suc k) (ns ++ ms) l ≡ place_among (length ns + suc k) ms l) → 0 ≡ cond b k (place_among (suc k) ns l)
-        → cond b k (place_among (suc k) (ns ++ ms) l) ≡ place_among (length (n ∷ ns) + k) ms l
-    go true ih q = absurd (omega arith)
-    go false ih q = let e : length (n ∷ ns) + k ≡ length ns + suc k = omega arith in rw e (ih q)
-
--- THE CALL NUMBER
-module _ (l : List ℕ) where
-  pub among_first_five : {r : ℕ} → r ≡ place_among 1 (take 5 names) l → (r ≡ 0 → ⊥) → r ≡ call_number l
-  unfolding call_number names
-  among_first_five e z = among_both 1 (take 5 names) (drop 5 names) l e z
-
-  rest : {p : ℕ} → p ≡ place_among 1 (take 5 names) l → p ≡ 0 → call_number l ≡ place_among 6 (drop 5 names) l
-  unfolding call_number names
-  rest e z = among_second 1 (take 5 names) (drop 5 names) l (omega arith) (sym z ∙ e)
-
-  pub among_next_five : {p r : ℕ} → p ≡ place_among 1 (take 5 names) l → p ≡ 0 → r ≡ place_among 6 (take 5 (drop 5 names)) l → (r ≡ 0 → ⊥) → r ≡ call_number l
-  unfolding names
-  among_next_five e z q y = among_both 6 (take 5 (drop 5 names)) (drop 10 names) l q y ∙ sym (rest e z)
-
-  pub among_last_five : {p q r : ℕ} → p ≡ place_among 1 (take 5 names) l → p ≡ 0 → q ≡ place_among 6 (take 5 (drop 5 names)) l → q ≡ 0 → r ≡ place_among 11 (drop 10 names) l → r ≡ call_number l
-  unfolding names
-  among_last_five e z f y g = g ∙ sym (among_second 6 (take 5 (drop 5 names)) (drop 10 names) l (omega arith) (sym y ∙ f)) ∙ sym (rest e z)
+  pub name_further : same_bytes l (text_of (get_or NAMES i d)) ≡ false → place_from (i + 1) l ≡ place_from i l
+  name_further e = rw (add-one i) (sym (at_name ∙ rw e))

@@ -1,141 +1,132 @@
--- A line taken apart at its commas. Assumes nothing.
-use mathlib.Core.Path.{◌≡◌, refl, sym, ◌∙◌, ap}
-use mathlib.Core.Bool.{Bool, true, false, cond}
-use mathlib.Core.List.{List, [], ◌∷◌}
+-- A line taken apart at its commas by the library's split. Assumes nothing.
+use mathlib.Core.Path.{◌≡◌, refl, sym, ap, subst, ◌∙◌}
+use mathlib.Core.Bool.{Bool, true, false, cond, false≢true}
+use mathlib.Core.List.{List, [], ◌∷◌, ◌++◌}
 use mathlib.Core.Option.{none}
-use Prim.Native.Nat.{ℕ, suc, ◌+◌, ◌-◌, ◌≤◌, ◌<◌}
+use Prim.Native.Nat.{ℕ}
 use native.Mathlib.Omega.{arith}
 use lib.Dec.{eqb}
-use lib.ListN.{length, get_or, take, drop, length-drop, drop_of_length-le}
-use lib.Seq.{take_all, drop-drop, drop-cons}
-use borrow.Author.Tests.{ne_eqb}
-use Rattle.std.proofs.Common.{add-one}
-use Rattle.rules.proofs.BaseLaws.{Below, under, over, below, eqb_same}
+use lib.ListN.{length}
+use denote.Ref.{Bor}
+use denote.Param.Members.{Mut}
+use Rattle.std.specs.Prelude.{Option, Some, None, is_some}
+use Rattle.std.specs.Bool.{MatchBool}
+use Rattle.std.specs.Fn.{ComputesKey, CalledAt}
+use Rattle.std.specs.List.{All, slice_split, onto_first, IsFirstMatchOrLen}
+use Rattle.std.specs.Slice.Iter as slice
+use Rattle.std.specs.declared.slice.Split.{Split}
+use Rattle.std.proofs.lemmas.Fn.{always_returns_same}
+use Rattle.std.proofs.lemmas.List.Splits.{slice_split_none, slice_split_at}
+use Rattle.std.proofs.lemmas.Grind.{common_steps}
 use Rattle.text.specs.Parts.{in_front, parted_by}
 use Rattle.text.specs.Decimal.{number}
-use Rattle.script_calls.specs.Fields.{readings, placed, made, call_of}
-use Rattle.script_lines.specs.Lines.{call_number, is_argument, numbered, fielded}
-use Rattle.script_lines.specs.Apart.{between, Next, Found}
-use Rattle.script_lines.specs.declared.Commas.{Commas}
+use Rattle.script_lines.specs.Lines.{call_number, numbered, fielded}
 
--- THE PLACE OF THE FIRST OF A BYTE, or the length where there is none
-unfoldable pub index_after : Bool → ℕ → ℕ
-index_after true n = 0
-index_after false n = suc n
+-- the library parts a list as the rules do
+front_same : (x : ℕ) (fs : List (List ℕ)) → onto_first x fs ≡ in_front x fs
+unfolding in_front
+front_same x [] = refl
+front_same x (f ∷ fs) = refl
 
-unfoldable pub index_of : ℕ → List ℕ → ℕ
-index_of s [] = 0
-index_of s (x ∷ l) = index_after (eqb x s) (index_of s l)
+split_same : (s : ℕ) (l : List ℕ) → slice_split (λ b. eqb b s) l ≡ parted_by s l
+unfolding parted_by
+split_same s [] = refl
+split_same s (x ∷ l) = rw (split_same s l, front_same x (parted_by s l))
 
--- AT THE FIRST OF A BYTE
-module _ (s : ℕ) where
-  parted_at : (l : List ℕ) → index_of s l < length l → parted_by s l ≡ take (index_of s l) l ∷ parted_by s (drop (suc (index_of s l)) l)
-  unfolding index_of index_after parted_by in_front
-  parted_at [] h = absurd (omega arith)
-  parted_at (x ∷ l) h = go (parted_at l) (eqb x s) h
-    where
-      go : (index_of s l < length l → parted_by s l ≡ take (index_of s l) l ∷ parted_by s (drop (suc (index_of s l)) l)) → (b : Bool) → index_after b (index_of s l) < length (x ∷ l)
-          → cond b ([] ∷ parted_by s l) (in_front x (parted_by s l)) ≡ take (index_after b (index_of s l)) (x ∷ l) ∷ parted_by s (drop (suc (index_after b (index_of s l))) (x ∷ l))
-      go ih true h = refl
-      go ih false h = ap (in_front x) (ih (omega arith))
+-- up to a byte s, or whole, and what follows it
+parted_first : (s : ℕ) (l x rest : List ℕ) (done : Bool) → MatchBool done (l ≡ x) ((y : ℕ) × (l ≡ x ++ (y ∷ rest))) → IsFirstMatchOrLen (λ b. eqb b s) l (length x)
+    → parted_by s l ≡ x ∷ cond done [] (parted_by s rest)
+parted_first s l x rest true e h =
+    sym (split_same s l) ∙ ap (slice_split (λ b. eqb b s)) e
+    ∙ slice_split_none (λ b. eqb b s) x (λ k d i. let a = h.0 k d (omega arith) i in rw e at a)
+parted_first s l x rest false e h =
+    let before : All (λ z. eqb z s ≡ false) x = λ k d i. let a = h.0 k d (omega arith) i in let b = e.1 in grind (arith, common_steps) in
+    let hit : eqb e.0 s ≡ true = let b = e.1 in let a = h.1 (grind (arith, common_steps)) e.0 in grind (arith, common_steps) in
+    sym (split_same s l) ∙ ap (slice_split (λ b. eqb b s)) e.1 ∙ slice_split_at (λ b. eqb b s) x e.0 rest before hit ∙ ap (λ (ps : List (List ℕ)). x ∷ ps) (split_same s rest)
 
-  parted_none : (l : List ℕ) → index_of s l ≡ length l → parted_by s l ≡ l ∷ []
-  unfolding index_of index_after parted_by in_front
-  parted_none [] h = refl
-  parted_none (x ∷ l) h = go (parted_none l) (eqb x s) h
-    where
-      go : (index_of s l ≡ length l → parted_by s l ≡ l ∷ []) → (b : Bool) → index_after b (index_of s l) ≡ length (x ∷ l) → cond b ([] ∷ parted_by s l) (in_front x (parted_by s l)) ≡ (x ∷ l) ∷ []
-      go ih true h = absurd (omega arith)
-      go ih false h = ap (in_front x) (ih (omega arith))
+-- WHAT IS LEFT of a split at commas
+module _ {F : Type 0} (g : Mut F (Bor ℕ × Unit {0}) Bool) where
+  pub record Left (t : Split ℕ F) (ps : List (List ℕ)) : Type 0 where
+    pub parts : ps ≡ cond (slice.split_done t) [] (parted_by 44 (slice.split_rest t))
+    pub tests : ComputesKey g (λ b. eqb b 44) (slice.split_callee t)
 
--- there is always a part
-some-part : (s : ℕ) (l : List ℕ) → (f : List ℕ) × ((fs : List (List ℕ)) × (parted_by s l ≡ f ∷ fs))
-unfolding parted_by in_front
-some-part s [] = ([], ([], refl))
-some-part s (x ∷ l) = go (eqb x s) (some-part s l)
-  where
-    go : (b : Bool) → (f : List ℕ) × ((fs : List (List ℕ)) × (parted_by s l ≡ f ∷ fs)) → (f : List ℕ) × ((fs : List (List ℕ)) × (cond b ([] ∷ parted_by s l) (in_front x (parted_by s l)) ≡ f ∷ fs))
-    go true h = ([], (parted_by s l, refl))
-    go false (f, (fs, e)) = (x ∷ f, (fs, ap (in_front x) e))
-
--- THE COMMA FROM A PLACE ON
-module _ (l : List ℕ) (from i : ℕ) where
-  pub past_end : length l < from → i ≡ length l → Next l from i
-  past_end h e = record {
-    within = omega arith;
-    after = λ g. absurd (omega arith);
-    parted = λ g. absurd (omega arith);
-    last = λ g _. absurd (omega arith);
-  }
-
-  pub found-next : from ≤ length l → i ≡ from + index_of 44 (drop from l) → i ≤ length l → Next l from i
-  found-next h q w = let n : length (drop from l) ≡ length l - from = length-drop from l in
-      let d : i - from ≡ index_of 44 (drop from l) = omega arith in
-      let k : i + 1 ≡ from + suc (index_of 44 (drop from l)) = omega arith in
+  pub left_all : (t : Split ℕ F) (f : F) (l : List ℕ) → slice.split_rest t ≡ l → slice.split_done t ≡ false → slice.split_callee t ≡ f
+      → ((x : ℕ) (b : Bool) (q : F) → CalledAt g f x b q → (q ≡ f) × (b ≡ eqb x 44)) → Left t (parted_by 44 l)
+  left_all t f l r d c h =
       record {
-        within = w;
-        after = λ g. omega arith;
-        parted = λ g. rw (d, k, ← drop-drop (suc (index_of 44 (drop from l))) from l) (parted_at 44 (drop from l) (omega arith));
-        last = λ g z. rw (take_all (i - from) (drop from l) (omega arith)) (parted_none 44 (drop from l) (omega arith));
+        parts = rw (d, r);
+        tests = subst (ComputesKey g (λ b. eqb b 44)) (sym c)
+            (always_returns_same g (λ a b. b ≡ eqb a.0.now 44) f (λ a b q k. let m = h a.0.now b q (record { shown = a.0; shows = refl; called = k }) in (m.1, m.0)));
       }
 
--- THE SEARCH FOR A BYTE
--- none of it stands from a place up to another
-pub record Searched (s : ℕ) (l : List ℕ) (from i : ℕ) : Type 0 where
-  pub within : i ≤ length l
-  pub same : from + index_of s (drop from l) ≡ i + index_of s (drop i l)
+-- a part in front of others, if it is one
+abbrev pub part_before : Option (Bor (List ℕ)) → List (List ℕ) → List (List ℕ)
+part_before None ps = []
+part_before (Some x) ps = x.now ∷ ps
 
-module _ (s : ℕ) (l : List ℕ) (from : ℕ) where
-  pub searched_none : from ≤ length l → Searched s l from from
-  searched_none h = record { within = h; same = refl }
+module _ {F : Type 0} (g : Mut F (Bor ℕ × Unit {0}) Bool) where
+  pub left_next : (s t : Split ℕ F) (r : Option (Bor (List ℕ))) (ps : List (List ℕ)) → Left g s ps → slice.split_steps g s r t → (qs : List (List ℕ)) × (ps ≡ part_before r qs) × Left g t qs
+  left_next s t None ps l h = ([], l.parts ∙ rw h.0, record { parts = rw (h.1, h.0); tests = rw h.1 l.tests })
+  left_next s t (Some x) ps l h =
+      let k = h.2 (λ b. eqb b 44) l.tests in (
+        cond (slice.split_done t) [] (parted_by 44 (slice.split_rest t)),
+        l.parts ∙ rw h.0 (parted_first 44 (slice.split_rest s) x.now (slice.split_rest t) (slice.split_done t) h.1 k.1),
+        record { parts = refl; tests = k.0 },
+      )
 
-  module _ {i : ℕ} (h : Searched s l from i) where
-    pub searched_here : i < length l → get_or l i 0 ≡ s → i ≡ from + index_of s (drop from l)
-    unfolding index_of index_after
-    searched_here r e = let z : index_of s (drop i l) ≡ 0 = rw (drop-cons l i 0, e, eqb_same s) in omega (arith, h.same)
+  -- five of them
+  pub left_five : (s₀ s₁ s₂ s₃ s₄ s₅ : Split ℕ F) (p₁ p₂ p₃ p₄ p₅ : Option (Bor (List ℕ))) (f : F) (l : List ℕ) → slice.split_steps g s₀ p₁ s₁ → slice.split_steps g s₁ p₂ s₂
+      → slice.split_steps g s₂ p₃ s₃ → slice.split_steps g s₃ p₄ s₄ → slice.split_steps g s₄ p₅ s₅ → slice.split_rest s₀ ≡ l → slice.split_done s₀ ≡ false → slice.split_callee s₀ ≡ f
+      → ((x : ℕ) (b : Bool) (q : F) → CalledAt g f x b q → (q ≡ f) × (b ≡ eqb x 44))
+      → (ps : List (List ℕ)) × (parted_by 44 l ≡ part_before p₁ (part_before p₂ (part_before p₃ (part_before p₄ (part_before p₅ ps))))) × Left g s₅ ps
+  left_five s₀ s₁ s₂ s₃ s₄ s₅ p₁ p₂ p₃ p₄ p₅ f l h₁ h₂ h₃ h₄ h₅ r d c k =
+      let (q₁, e₁, l₁) = left_next s₀ s₁ p₁ (parted_by 44 l) (left_all g s₀ f l r d c k) h₁ in
+      let (q₂, e₂, l₂) = left_next s₁ s₂ p₂ q₁ l₁ h₂ in
+      let (q₃, e₃, l₃) = left_next s₂ s₃ p₃ q₂ l₂ h₃ in
+      let (q₄, e₄, l₄) = left_next s₃ s₄ p₄ q₃ l₃ h₄ in
+      let (q₅, e₅, l₅) = left_next s₄ s₅ p₅ q₄ l₄ h₅ in
+      (q₅, e₁ ∙ ap (part_before p₁) (e₂ ∙ ap (part_before p₂) (e₃ ∙ ap (part_before p₃) (e₄ ∙ ap (part_before p₄) e₅))), l₅)
 
-    pub searched_more : i < length l → (get_or l i 0 ≡ s → ⊥) → Searched s l from (i + 1)
-    unfolding index_of index_after
-    searched_more r e =
-        let z : index_of s (drop i l) ≡ suc (index_of s (drop (i + 1) l)) = rw (drop-cons l i 0, ne_eqb (get_or l i 0) s e, add-one) in
-        record { within = omega arith; same = omega (arith, h.same) }
-
-    pub searched_all : length l ≤ i → i ≡ from + index_of s (drop from l)
-    unfolding index_of
-    searched_all r = let z : index_of s (drop i l) ≡ 0 = rw drop_of_length-le in omega (arith, h.same)
-
--- no call has the number 0
-no_fields : numbered 0 0 0 0 0 ≡ none
-unfolding numbered is_argument call_of made placed readings
-no_fields = refl
-
--- FOUR COMMAS, FEWER OR MORE
-module _ (l : List ℕ) (p : Commas) (f : Found l p) where
-  pub rising : p.fourth < length l → (p.first < p.second) × (p.second < p.third) × (p.third < p.fourth)
-  rising h = let a : p.third + 1 ≤ p.fourth = f.fourth.after h in
-      let b : p.second + 1 ≤ p.third = f.third.after (omega arith) in
-      let c : p.first + 1 ≤ p.second = f.second.after (omega arith) in
-      (omega arith, omega arith, omega arith)
-
-  pub four_commas : p.fourth < length l → p.fifth ≡ length l → {k a b c d : ℕ} → k ≡ call_number (between l 0 p.first) → a ≡ number (between l (p.first + 1) p.second)
-      → b ≡ number (between l (p.second + 1) p.third) → c ≡ number (between l (p.third + 1) p.fourth) → d ≡ number (between l (p.fourth + 1) p.fifth)
-      → fielded (parted_by 44 l) ≡ numbered k a b c d
+-- FEWER THAN FIVE PARTS, five, and more
+module _ (l : List (List ℕ)) (p₁ p₂ p₃ p₄ p₅ : Option (Bor (List ℕ))) (ps : List (List ℕ)) (e : l ≡ part_before p₁ (part_before p₂ (part_before p₃ (part_before p₄ (part_before p₅ ps))))) where
+  pub no_part : p₁ ≡ None → fielded l ≡ none
   unfolding fielded
-  four_commas h z ek ea eb ec ed = let r = rising h in
-      rw (f.first.parted (omega arith), f.second.parted (omega arith), f.third.parted (omega arith), f.fourth.parted h, f.fifth.last (omega arith) z, ek, ea, eb, ec, ed)
+  no_part h₁ = rw (e, h₁)
 
-  pub fewer_commas : length l ≤ p.fourth → fielded (parted_by 44 l) ≡ numbered 0 0 0 0 0
-  unfolding fielded
-  fewer_commas h = go (below p.first (length l)) (below p.second (length l)) (below p.third (length l)) ∙ sym no_fields
-    where
-      go : {a b c : Bool} → Below p.first (length l) a → Below p.second (length l) b → Below p.third (length l) c → fielded (parted_by 44 l) ≡ none
-      go (over a) _ _ = rw (f.first.last (omega arith) (omega (arith, f.first.within)))
-      go (under a) (over b) _ = rw (f.first.parted a, f.second.last (omega arith) (omega (arith, f.second.within)))
-      go (under a) (under b) (over c) = rw (f.first.parted a, f.second.parted b, f.third.last (omega arith) (omega (arith, f.third.within)))
-      go (under a) (under b) (under c) = rw (f.first.parted a, f.second.parted b, f.third.parted c, f.fourth.last (omega arith) (omega (arith, f.fourth.within)))
+  module _ {n : Bor (List ℕ)} (h₁ : p₁ ≡ Some n) where
+    pub one_part : p₂ ≡ None → fielded l ≡ none
+    unfolding fielded
+    one_part h₂ = rw (e, h₁, h₂)
 
-  pub more_commas : p.fourth < length l → p.fifth < length l → fielded (parted_by 44 l) ≡ numbered 0 0 0 0 0
-  unfolding fielded
-  more_commas h z = let r = rising h in
-      let (x, (xs, q)) = some-part 44 (drop (p.fifth + 1) l) in
-      rw (f.first.parted (omega arith), f.second.parted (omega arith), f.third.parted (omega arith), f.fourth.parted h, f.fifth.parted z, q) (sym no_fields)
+    module _ {a : Bor (List ℕ)} (h₂ : p₂ ≡ Some a) where
+      pub two_parts : p₃ ≡ None → fielded l ≡ none
+      unfolding fielded
+      two_parts h₃ = rw (e, h₁, h₂, h₃)
+
+      module _ {b : Bor (List ℕ)} (h₃ : p₃ ≡ Some b) where
+        pub three_parts : p₄ ≡ None → fielded l ≡ none
+        unfolding fielded
+        three_parts h₄ = rw (e, h₁, h₂, h₃, h₄)
+
+        module _ {c : Bor (List ℕ)} (h₄ : p₄ ≡ Some c) where
+          pub four_parts : p₅ ≡ None → fielded l ≡ none
+          unfolding fielded
+          four_parts h₅ = rw (e, h₁, h₂, h₃, h₄, h₅)
+
+          -- with a sixth after them, or not
+          module _ {d : Bor (List ℕ)} (h₅ : p₅ ≡ Some d) (p₆ : Option (Bor (List ℕ))) (qs : List (List ℕ)) (h₆ : ps ≡ part_before p₆ qs) where
+            pub six_parts : is_some p₆ ≡ true → fielded l ≡ none
+            unfolding fielded
+            six_parts h = rw (e, h₁, h₂, h₃, h₄, h₅, h₆) (go p₆ h)
+              where
+                go : (p : Option (Bor (List ℕ))) → is_some p ≡ true → fielded (n.now ∷ a.now ∷ b.now ∷ c.now ∷ d.now ∷ part_before p qs) ≡ none
+                go None t = absurd (false≢true t)
+                go (Some x) t = refl
+
+            pub five_parts : is_some p₆ ≡ false → fielded l ≡ numbered (call_number n.now) (number a.now) (number b.now) (number c.now) (number d.now)
+            unfolding fielded
+            five_parts h = rw (e, h₁, h₂, h₃, h₄, h₅, h₆) (go p₆ h)
+              where
+                go : (p : Option (Bor (List ℕ))) → is_some p ≡ false → fielded (n.now ∷ a.now ∷ b.now ∷ c.now ∷ d.now ∷ part_before p qs) ≡ numbered (call_number n.now) (number a.now) (number b.now) (number c.now) (number d.now)
+                go None t = refl
+                go (Some x) t = absurd (false≢true (sym t))

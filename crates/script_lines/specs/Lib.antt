@@ -1,3 +1,3 @@
 -- The lines of a script.
 pub mod Lines
-pub mod Apart
+pub mod Texts

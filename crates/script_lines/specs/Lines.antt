@@ -1,5 +1,5 @@
 -- docs/RULES.md, "The script program": which call a line of a script asks for, and what it is answered. Assumes nothing.
-use Rattle.std.specs.Prelude.{Bool, cond, ◌&&◌, List, [], ◌∷◌, ℕ, suc, ◌^◌, leb, ltb, length}
+use Rattle.std.specs.Prelude.{cond, List, [], ◌∷◌, ℕ, suc, leb, length, Option as Maybe, Some}
 use Rattle.std.proofs.Math.Option.{Option, none}
 use Rattle.rules.specs.Calls.{Call, Reply}
 use Rattle.layout.specs.Memory.{same_bytes}
@@ -22,12 +22,10 @@ place_among k (n ∷ ns) l = cond (same_bytes l n) k (place_among (suc k) ns l)
 unfoldable pub call_number : List ℕ → ℕ
 call_number l = place_among 1 names l
 
-unfoldable pub is_argument : ℕ → Bool
-is_argument a = ltb a (2 ^ 32)
-
 -- the call of a call number with four fields that may be no number
-unfoldable pub numbered : (call a b c d : ℕ) → Option Call
-numbered k a b c d = cond (is_argument a && is_argument b && is_argument c && is_argument d) (call_of k a b c d) none
+unfoldable pub numbered : (call : ℕ) (a b c d : Maybe ℕ) → Option Call
+numbered k (Some a) (Some b) (Some c) (Some d) = call_of k a b c d
+numbered k _ _ _ _ = none
 
 -- "a call name and four numbers, parted by single commas"
 unfoldable pub fielded : List (List ℕ) → Option Call

@@ -1,209 +1,117 @@
 // A script's lines: which call a line asks for, and its reply.
 #![tactic(auto)]
 
-ghost use Rattle.std.specs.Prelude.{◌≡◌, ◌≤◌, length, take, drop};
+ghost use Rattle.std.specs.Prelude.{◌≡◌};
 ghost use Rattle.replies.specs.Gives.{Gives};
 ghost use Rattle.text.specs.Decimal.{number as number_of};
-ghost use Rattle.text.specs.Parts.{parted_by};
-ghost use Rattle.script_lines.specs.Lines.{names, place_among, call_number, numbered, fielded, reply_to};
-ghost use Rattle.script_lines.specs.Apart.{between, Next, Found};
+ghost use Rattle.script_lines.specs.Lines.{call_number, numbered, line_call, reply_to};
+ghost use Rattle.script_lines.specs.Texts.{text_of, number_if, asked};
 
 use replies::{Reply, unchanged};
-use script_calls::make;
-use text::NO_NUMBER;
+use script_calls::{Name, make};
+use text::{number, same};
 
-// The number of a call with one of the first five names, 0 if it has none of them.
-fn among_first(name: &[u8]) -> u32
-    ensures { result ≡ place_among 1 (take 5 names) name.now }
+// The names of the calls, in the order of "The calls".
+const NAMES: [Name; 15] = [
+    Name::Open,
+    Name::Initiate,
+    Name::Begin,
+    Name::Complete,
+    Name::Lock,
+    Name::Read,
+    Name::Write,
+    Name::Permit,
+    Name::Delegate,
+    Name::Depend,
+    Name::Commit,
+    Name::Abort,
+    Name::Status,
+    Name::Parent,
+    Name::Value,
+];
+
+// What a name is in a script.
+#[tactic(auto, unfolding(text::specs::Decimal::ascii))]
+fn text_of(name: Name) -> &'static [u8]
+    ensures { result.now ≡ text_of name }
 {
-    if text::same(name, b"open") {
-        return 1;
+    match name {
+        Name::Open => b"open",
+        Name::Initiate => b"initiate",
+        Name::Begin => b"begin",
+        Name::Complete => b"complete",
+        Name::Lock => b"lock",
+        Name::Read => b"read",
+        Name::Write => b"write",
+        Name::Permit => b"permit",
+        Name::Delegate => b"delegate",
+        Name::Depend => b"depend",
+        Name::Commit => b"commit",
+        Name::Abort => b"abort",
+        Name::Status => b"status",
+        Name::Parent => b"parent",
+        Name::Value => b"value",
     }
-    if text::same(name, b"initiate") {
-        return 2;
-    }
-    if text::same(name, b"begin") {
-        return 3;
-    }
-    if text::same(name, b"complete") {
-        return 4;
-    }
-    if text::same(name, b"lock") {
-        return 5;
-    }
-    0
 }
 
-// The number of a call with one of the next five names, 0 if it has none of them.
-fn among_middle(name: &[u8]) -> u32
-    ensures { result ≡ place_among 6 (take 5 (drop 5 names)) name.now }
+// The name that a text is, if it is one.
+fn name_of(text: &[u8]) -> Option<Name>
+    ensures { number_if result ≡ call_number text.now }
 {
-    if text::same(name, b"read") {
-        return 6;
-    }
-    if text::same(name, b"write") {
-        return 7;
-    }
-    if text::same(name, b"permit") {
-        return 8;
-    }
-    if text::same(name, b"delegate") {
-        return 9;
-    }
-    if text::same(name, b"depend") {
-        return 10;
-    }
-    0
-}
-
-// The number of a call with one of the last five names, 0 if it has none of them.
-fn among_last(name: &[u8]) -> u32
-    ensures { result ≡ place_among 11 (drop 10 names) name.now }
-{
-    if text::same(name, b"commit") {
-        return 11;
-    }
-    if text::same(name, b"abort") {
-        return 12;
-    }
-    if text::same(name, b"status") {
-        return 13;
-    }
-    if text::same(name, b"parent") {
-        return 14;
-    }
-    if text::same(name, b"value") {
-        return 15;
-    }
-    0
-}
-
-// The number of the call with a name, 0 if no call has it.
-fn call_number(name: &[u8]) -> u32
-    ensures { result ≡ call_number name.now }
-{
-    let low = among_first(name);
-    if low != 0 {
-        return low;
-    }
-    let middle = among_middle(name);
-    if middle != 0 {
-        return middle;
-    }
-    among_last(name)
-}
-
-// The places of a line's first five commas, each after the one before it; the line's length where there is no more.
-#[derive(Clone, Copy)]
-struct Commas {
-    first: usize,
-    second: usize,
-    third: usize,
-    fourth: usize,
-    fifth: usize,
-}
-
-// The place of the first comma from a place on, or the line's length.
-fn comma(line: &[u8], from: usize) -> usize
-    ensures { Next line.now from result }
-{
-    let n = line.len();
-    if from > n {
-        return n;
-    }
-    let mut i = from;
-    while i < n {
-        if line[i] == b',' {
-            return i;
-        }
-        i += 1;
-    }
-    n
-}
-
-// The first five commas of a line of at most 64 bytes.
-fn find_commas(line: &[u8]) -> Commas
-    requires { length line.now ≤ 64 }
-    ensures { Found line.now result }
-{
-    let first = comma(line, 0);
-    let second = comma(line, first + 1);
-    let third = comma(line, second + 1);
-    let fourth = comma(line, third + 1);
-    let fifth = comma(line, fourth + 1);
-    Commas {
-        first,
-        second,
-        third,
-        fourth,
-        fifth,
-    }
-}
-
-// The number of a field from a place up to another.
-fn field(line: &[u8], from: usize, to: usize) -> u64
-    requires from_le_to { from ≤ to }
-    requires to_in_bounds { to ≤ length line.now }
-    ensures { result ≡ number_of (between line.now from to) }
-{
-    text::number(&line[from..to])
-}
-
-// What a line says: a call number, and four numbers that may be text::NO_NUMBER.
-#[derive(Clone, Copy)]
-struct Fields {
-    call: u32,
-    a: u64,
-    b: u64,
-    c: u64,
-    d: u64,
-}
-
-// The fields of a line of at most 64 bytes with four commas; those of no call for any other.
-fn take_apart(line: &[u8]) -> Fields
-    requires { length line.now ≤ 64 }
-    ensures { fielded (parted_by 44 line.now) ≡ numbered result.call result.a result.b result.c result.d }
-{
-    let at = find_commas(line);
-    let first = at.first;
-    let second = at.second;
-    let third = at.third;
-    let fourth = at.fourth;
-    let fifth = at.fifth;
-    if fourth < line.len() {
-        if fifth == line.len() {
-            return Fields {
-                call: call_number(&line[0..first]),
-                a: field(line, first + 1, second),
-                b: field(line, second + 1, third),
-                c: field(line, third + 1, fourth),
-                d: field(line, fourth + 1, fifth),
-            };
+    for name in NAMES {
+        if same(text, text_of(name)) {
+            return Some(name);
         }
     }
-    Fields {
-        call: 0,
-        a: 0,
-        b: 0,
-        c: 0,
-        d: 0,
-    }
+    None
 }
 
-// The reply to a line, whose call is made on the memory.
-pub fn answer(memory: &mut [u8], line: &[u8]) -> Reply
-    ensures { Gives (reply_to memory.old line.now) result memory.new }
+// A name and four numbers that are given as text; None where the first is no name or another no number.
+#[tactic(auto, using(crate::proofs::LineLaws::no_name), unfolding(crate::specs::Lines::numbered, script_calls::specs::Fields::call_with))]
+fn read_fields(name: &[u8], a: &[u8], b: &[u8], c: &[u8], d: &[u8]) -> Option<(Name, [u32; 4])>
+    ensures { asked result ≡ numbered (call_number name.now) (number_of a.now) (number_of b.now) (number_of c.now) (number_of d.now) }
+{
+    Some((
+        name_of(name)?,
+        [number(a)?, number(b)?, number(c)?, number(d)?],
+    ))
+}
+
+// The name and the fields of the call that a line asks for; None where it is no name and four numbers.
+fn read_call(line: &[u8]) -> Option<(Name, [u32; 4])>
+    ensures { asked result ≡ line_call line.now }
 {
     let long = line.len() > 64;
     if long {
-        return unchanged(30);
+        return None;
     }
-    let f = take_apart(line);
-    let arguments = (f.a < NO_NUMBER) & (f.b < NO_NUMBER) & (f.c < NO_NUMBER) & (f.d < NO_NUMBER);
-    if !arguments {
-        return unchanged(30);
+    let mut parts = line.split(|b| *b == b',');
+    let (Some(name), Some(a), Some(b), Some(c), Some(d)) = (
+        parts.next(),
+        parts.next(),
+        parts.next(),
+        parts.next(),
+        parts.next(),
+    ) else {
+        return None;
+    };
+    let more = parts.next().is_some();
+    if more {
+        return None;
     }
-    make(
-        memory, f.call, f.a as u32, f.b as u32, f.c as u32, f.d as u32,
-    )
+    read_fields(name, a, b, c, d)
+}
+
+// The reply to a line, whose call is made on the memory.
+#[tactic(auto, unfolding(crate::specs::Lines::reply_to, script_calls::specs::Fields::reply_of))]
+pub fn answer(memory: &mut [u8], line: &[u8]) -> Reply
+    ensures { Gives (reply_to memory.old line.now) result memory.new }
+{
+    match read_call(line) {
+        Some(call) => {
+            let (name, fields) = call;
+            make(memory, name, fields)
+        }
+        None => unchanged(30),
+    }
 }

@@ -1,6 +1,6 @@
 -- An entry's locks, byte by byte: eight changes are tested at once, and what does not fit is gathered by `|`. Assumes nothing.
 use mathlib.Core.Path.{◌≡◌, sym, ap, ◌∙◌}
-use mathlib.Core.Bool.{Bool, not, ◌&&◌, ◌||◌, or_assoc, not-not}
+use mathlib.Core.Bool.{Bool, not, ◌&&◌, ◌||◌, not-not}
 use mathlib.Core.List.{List}
 use Prim.Native.Nat.{ℕ, ◌+◌, ◌-◌, ◌*◌, ◌/◌, ◌%◌, ◌^◌, ◌<◌}
 use native.Mathlib.Nat.{zero-add}
@@ -25,16 +25,16 @@ misfits bs lives e c = not (lock_fits bs lives e c)
 
 -- one byte more: r of the readers, w of the writers, v of the live changes
 pub gather_more : (bs live : List ℕ) (e acc i r w v : ℕ) → r ≡ get_or bs (e * 64 + i) 0 → w ≡ get_or bs (e * 64 + 32 + i) 0 → v ≡ get_or live i 0 → r < 256 → v < 256
-    → Gathered (misfits bs (bytes_have live 0) e) i acc → Gathered (misfits bs (bytes_have live 0) e) (i + 1) (bit_or (bit_or acc (bit_and r w)) (bit_and (bit_or r w) (2 ^ 8 - 1 - v)))
+    → Gathered (misfits bs (bytes_have live 0) e) i acc → Gathered (misfits bs (bytes_have live 0) e) (i + 1) (bit_or acc (bit_or (bit_and r w) (bit_and (bit_or r w) (2 ^ 8 - 1 - v))))
 unfolding misfits lock_fits reads writes
-gather_more bs live e acc i r w v er ew ev hr hv g = gathered_more (misfits bs (bytes_have live 0) e) i acc (bit_or (bit_or acc (bit_and r w)) (bit_and (bit_or r w) (2 ^ 8 - 1 - v)))
-    (or_lt 8 (bit_or acc (bit_and r w)) (bit_and (bit_or r w) (2 ^ 8 - 1 - v)) (or_lt 8 acc (bit_and r w) g.small (omega (arith, and_le_l r w))) (omega (arith, and_le_r (bit_or r w) (2 ^ 8 - 1 - v))))
+gather_more bs live e acc i r w v er ew ev hr hv g = gathered_more (misfits bs (bytes_have live 0) e) i acc (bit_or acc (bit_or (bit_and r w) (bit_and (bit_or r w) (2 ^ 8 - 1 - v))))
+    (or_lt 8 acc (bit_or (bit_and r w) (bit_and (bit_or r w) (2 ^ 8 - 1 - v))) g.small (or_lt 8 (bit_and r w) (bit_and (bit_or r w) (2 ^ 8 - 1 - v)) (omega (arith, and_le_l r w)) (omega (arith, and_le_r (bit_or r w) (2 ^ 8 - 1 - v)))))
     (λ j l.
     let q : (i * 8 + j) / 8 ≡ i = omega arith in
     let d : (i * 8 + j) % 8 ≡ j = omega arith in
     rw (
-      unpack_or (bit_or acc (bit_and r w)) (bit_and (bit_or r w) (2 ^ 8 - 1 - v)) j,
-      unpack_or acc (bit_and r w) j,
+      unpack_or acc (bit_or (bit_and r w) (bit_and (bit_or r w) (2 ^ 8 - 1 - v))) j,
+      unpack_or (bit_and r w) (bit_and (bit_or r w) (2 ^ 8 - 1 - v)) j,
       unpack_and r w j,
       unpack_and (bit_or r w) (2 ^ 8 - 1 - v) j,
       unpack_or r w j,
@@ -45,7 +45,7 @@ gather_more bs live e acc i r w v er ew ev hr hv g = gathered_more (misfits bs (
       ← er,
       ← ew,
       ← ev,
-    ) (or_assoc (unpack acc j) _ _ ∙ ap (λ (t : Bool). unpack acc j || t) (sym (not-not (unpack r j && unpack w j || (unpack r j || unpack w j) && not (unpack v j))))))
+    ) (ap (λ (t : Bool). unpack acc j || t) (sym (not-not (unpack r j && unpack w j || (unpack r j || unpack w j) && not (unpack v j))))))
     g
 
 -- of all 32 bytes: nothing was gathered where the entry's locks fit

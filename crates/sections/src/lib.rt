@@ -5,40 +5,46 @@ ghost use Rattle.std.specs.Prelude.{◌≡◌, true, ◌↔◌, ℕ, ◌+◌, �
 ghost use Rattle.rules.specs.Base.{all_below};
 ghost use Rattle.rules.specs.Sets.{Set};
 ghost use Rattle.layout.specs.Codec.{head_size, values_size, changes_size, locks_size, log_size};
+ghost use Rattle.cells.specs.Part.{part};
+ghost use Rattle.cells.specs.Num.{num};
 ghost use Rattle.cells.specs.Bits.{bytes_have};
 ghost use Rattle.sets.specs.Members.{members};
 ghost use Rattle.sections.specs.Fits.{change_fits, next_fits, writes, row_fits, record_fits};
 ghost use Rattle.sections.specs.Sections.{HeadSound, ValuesSound, ChangesSound, LocksSound, LogSound};
 
-use cells::{all_zero, index, read_u16};
+use cells::{all_zero, read_u16};
 use layout::{Changes, Entries, Header, Locks, Log, Permits, Ties};
 use sets::ChangeSet;
+
+// Figure k of the header.
+fn figure(head: &[u8], k: usize) -> usize
+    requires { k * 2 + 2 ≤ length head.now }
+    ensures { result ≡ num (part head.now (k * 2) 2) }
+{
+    usize::from(read_u16(head, k * 2))
+}
 
 // Every figure is in its range, and the rest of the header is 0.
 pub fn header(head: &[u8]) -> bool
     requires { length head.now ≡ head_size }
     ensures { result ≡ true ↔ HeadSound head.now }
 {
-    let entries = read_u16(head, 0) as usize;
-    if entries < 1 {
+    if !(1..=Entries::MOST).contains(&figure(head, 0)) {
         return false;
     }
-    if Entries::MOST < entries {
+    if Changes::MOST < figure(head, 1) {
         return false;
     }
-    if Changes::MOST < read_u16(head, 2) as usize {
+    if Log::MOST < figure(head, 2) {
         return false;
     }
-    if Log::MOST < read_u16(head, 4) as usize {
+    if Permits::MOST < figure(head, 3) {
         return false;
     }
-    if Permits::MOST < read_u16(head, 6) as usize {
+    if Ties::MOST < figure(head, 4) {
         return false;
     }
-    if Ties::MOST < read_u16(head, 8) as usize {
-        return false;
-    }
-    if Changes::MOST < read_u16(head, 10) as usize {
+    if Changes::MOST < figure(head, 5) {
         return false;
     }
     all_zero(head, 12, Header::SIZE)
@@ -61,8 +67,8 @@ fn change(changes: &[u8], c: usize) -> bool
 {
     let at = c * 4;
     let status = changes[at];
-    !((status < 1) | (5 < status))
-        & (index(changes[at + 1]) < c)
+    (1..=5).contains(&status)
+        & (usize::from(changes[at + 1]) < c)
         & (changes[at + 2] == 0)
         & (changes[at + 3] == 0)
 }
@@ -73,12 +79,10 @@ fn given_changes(changes: &[u8], given: usize) -> bool
     requires given_bound { given < 256 }
     ensures { result ≡ all_below given (next_fits changes.now) }
 {
-    let mut c = 0;
-    while c < given {
+    for c in 0..given {
         if !change(changes, c + 1) {
             return false;
         }
-        c += 1;
     }
     true
 }
@@ -99,37 +103,31 @@ pub fn changes(changes: &[u8], given: usize) -> bool
 }
 
 // An entry's locks: no change both reads and writes, and each is among the live ones' bytes. No early way out: the or of what does not fit.
-fn row(locks: &[u8], e: usize, live: &[u8]) -> bool
+fn row(locks: &[u8], e: usize, live: &[u8; Locks::SET]) -> bool
     requires locks_len { length locks.now ≡ locks_size }
     requires e_bound { e < 256 }
-    requires live_len { length live.now ≡ 32 }
     ensures { result ≡ row_fits locks.now (bytes_have live.now 0) e }
 {
     let at = e * Locks::ENTRY;
     let mut acc: u8 = 0;
-    let mut i: usize = 0;
-    while i < Locks::SET {
+    for i in 0..Locks::SET {
         let r = locks[at + i];
         let w = locks[at + Locks::SET + i];
-        acc = acc | (r & w) | ((r | w) & !live[i]);
-        i += 1;
+        acc |= (r & w) | ((r | w) & !live[i]);
     }
     acc == 0
 }
 
 // The locks on the entries that there are, held against the live ones' bytes.
-fn rows_against(locks: &[u8], entries: usize, live: &[u8]) -> bool
+fn rows_against(locks: &[u8], entries: usize, live: &[u8; Locks::SET]) -> bool
     requires locks_len { length locks.now ≡ locks_size }
     requires entries_bound { entries ≤ 256 }
-    requires live_len { length live.now ≡ 32 }
     ensures { result ≡ all_below entries (row_fits locks.now (bytes_have live.now 0)) }
 {
-    let mut e = 0;
-    while e < entries {
+    for e in 0..entries {
         if !row(locks, e, live) {
             return false;
         }
-        e += 1;
     }
     true
 }
@@ -162,7 +160,8 @@ fn is_writer(locks: &[u8], e: u8, c: u8) -> bool
     requires { length locks.now ≡ locks_size }
     ensures { result ≡ writes locks.now e c }
 {
-    (locks[index(e) * Locks::ENTRY + Locks::SET + index(c / 8)] >> (c % 8)) % 2 == 1
+    let writers = usize::from(e) * Locks::ENTRY + Locks::SET;
+    (locks[writers + usize::from(c / 8)] >> (c % 8)) % 2 == 1
 }
 
 // The log record at place j: the owner among the entry's writers.
@@ -184,12 +183,10 @@ fn standing_records(log: &[u8], count: usize, locks: &[u8]) -> bool
     requires locks_len { length locks.now ≡ locks_size }
     ensures { result ≡ all_below count (record_fits log.now locks.now) }
 {
-    let mut i = 0;
-    while i < count {
+    for i in 0..count {
         if !record_at(log, i, locks) {
             return false;
         }
-        i += 1;
     }
     true
 }

@@ -15,5 +15,3 @@ pub mod GatherLaws
 pub mod ClosureLaws
 -- what spreads along rows in which ties are noted
 pub mod SpreadLaws
--- the entries that a delegate names
-pub mod EntryLaws

@@ -55,28 +55,30 @@ row-set rows c = four_words (row_has rows c) _ _ _ _ (λ k h. rw (le-ltb k 256 h
         let y : j ≡ (64 * i + j) % 64 = omega arith in
         rw (lt-ltb (64 * i + j) 256 (omega arith)) (ap₂ (λ (u v : ℕ). unpack (get_or rows u 0) v) x y)
 
--- SPREADING: s has grown from the seed, `left` are the members whose rows are still to be taken in, c the lowest of them
-pub record Spreading (rows : List ℕ) (seed s left : Set) (c : ℕ) : Type 0 where
+-- SPREADING: s has grown from the seed, `left` are the members whose rows are still to be taken in
+pub record Spreading (rows : List ℕ) (seed s left : Set) : Type 0 where
   pub holds : Inside seed s
   pub least : (u : Set) → ((a b : ℕ) → u a ≡ true → row_has rows a b ≡ true → u b ≡ true) → Inside seed u → Inside s u
   pub inside : Inside left s
   pub done : (a b : ℕ) → s a ≡ true → left a ≡ false → row_has rows a b ≡ true → s b ≡ true
-  pub lowest : Lowest left c
 
-pub spreading_start : (rows : List ℕ) (seed : Set) (c : ℕ) → c ≡ lowest_below 256 seed → Spreading rows seed seed seed c
-spreading_start rows seed c e = record {
+pub spreading_start : (rows : List ℕ) (seed : Set) → Spreading rows seed seed seed
+spreading_start rows seed = record {
   holds = λ k q. q;
   least = λ u z w. w;
   inside = λ k q. q;
   done = λ a b p q r. absurd (false≢true (sym q ∙ p));
-  lowest = lowest_of seed c e;
 }
 
-module _ (rows : List ℕ) (seed s left : Set) (c : ℕ) (g : Spreading rows seed s left c) (hc : c < 256) (row rest fresh left' s' : Set) (er : (k : ℕ) → row k ≡ row_has rows c k)
+-- c, the lowest of those left, is taken out
+module _ (rows : List ℕ) (seed s left : Set) (g : Spreading rows seed s left) (c : ℕ) (ec : c ≡ lowest_below 256 left) (hc : c < 256) (row rest fresh left' s' : Set) (er : (k : ℕ) → row k ≡ row_has rows c k)
     (et : (k : ℕ) → rest k ≡ not (eqb k (lowest_below 256 left)) && left k) (ef : (k : ℕ) → fresh k ≡ row k && not (s k)) (el : (k : ℕ) → left' k ≡ rest k || fresh k) (es : (k : ℕ) → s' k ≡ s k || row k) where
-  -- the lowest is left; members stay members
+  lowest : Lowest left c
+  lowest = lowest_of left c ec
+
+  -- it is left; members stay members
   here : left c ≡ true
-  here = g.lowest.hit hc
+  here = lowest.hit hc
 
   keeps : Inside s s'
   keeps k q = es k ∙ rw q
@@ -84,21 +86,20 @@ module _ (rows : List ℕ) (seed s left : Set) (c : ℕ) (g : Spreading rows see
   -- who is left afterwards
   left_in : Inside left' s'
   left_in k q = ⊎_elim
-      (λ r. keeps k (g.inside k (and_right (not (eqb k c)) (left k) (sym (rest_without left c g.lowest rest et k) ∙ r))))
+      (λ r. keeps k (g.inside k (and_right (not (eqb k c)) (left k) (sym (rest_without left c lowest rest et k) ∙ r))))
       (λ r. es k ∙ or_right (s k) (row k) (and_left (row k) (not (s k)) (sym (ef k) ∙ r)))
       (or_cases (rest k) (fresh k) (sym (el k) ∙ q))
 
   -- a member whose row is taken in stays so, and c is one now
   left_not : (k : ℕ) → s k ≡ true → not (eqb k c) && left k ≡ false → left' k ≡ false
-  left_not k p q = el k ∙ rw (rest_without left c g.lowest rest et k ∙ q, ef k, p, and-false (row k))
+  left_not k p q = el k ∙ rw (rest_without left c lowest rest et k ∙ q, ef k, p, and-false (row k))
 
-  spreading_on : (c' : ℕ) → c' ≡ lowest_below 256 left' → Spreading rows seed s' left' c'
-  spreading_on c' e = record {
+  pub spreading_on : Spreading rows seed s' left'
+  spreading_on = record {
     holds = λ k q. keeps k (g.holds k q);
     least = λ u z w k q. ⊎_elim (g.least u z w k) (λ r. z c k (g.least u z w c (g.inside c here)) (sym (er k) ∙ r)) (or_cases (s k) (row k) (sym (es k) ∙ q));
     inside = left_in;
     done = λ a b p q r. after a b p q r (same? a c);
-    lowest = lowest_of left' c' e;
   }
     where
       after : (a b : ℕ) → s' a ≡ true → left' a ≡ false → row_has rows a b ≡ true → {t : Bool} → Same a c t → s' b ≡ true
@@ -106,14 +107,14 @@ module _ (rows : List ℕ) (seed s left : Set) (c : ℕ) (g : Spreading rows see
       after a b p q r (other n) = ⊎_elim old (go (s a) refl) (or_cases (s a) (row a) (sym (es a) ∙ p))
         where
           old : s a ≡ true → s' b ≡ true
-          old m = keeps b (g.done a b m (no_true (left a) (λ t. false≢true (sym q ∙ el a ∙ or_left (rest a) (fresh a) (rest_without left c g.lowest rest et a ∙ rw (ne_eqb a c n, t))))) r)
+          old m = keeps b (g.done a b m (no_true (left a) (λ t. false≢true (sym q ∙ el a ∙ or_left (rest a) (fresh a) (rest_without left c lowest rest et a ∙ rw (ne_eqb a c n, t))))) r)
 
           go : (in-s : Bool) → s a ≡ in-s → row a ≡ true → s' b ≡ true
           go true m _ = old m
           go false m t = absurd (false≢true (sym q ∙ el a ∙ or_right (rest a) (fresh a) (ef a ∙ rw (t, m))))
 
   -- and more rows have been taken in, which leaves fewer of the 256
-  spreading_less : 256 - count_below 256 (λ k. s' k && not (left' k)) < 256 - count_below 256 (λ k. s k && not (left k))
+  pub spreading_less : 256 - count_below 256 (λ k. s' k && not (left' k)) < 256 - count_below 256 (λ k. s k && not (left k))
   spreading_less = omega (
     arith,
     count-le 256 (λ k. s' k && not (left' k)),
@@ -125,15 +126,12 @@ module _ (rows : List ℕ) (seed s left : Set) (c : ℕ) (g : Spreading rows see
           let p = and_left (s k) (not (left k)) q in
           rw (keeps k p, left_not k p (rw (not-true (left k) (and_right (s k) (not (left k)) q), and-false (not (eqb k c)))))
 
-  -- a turn
-  pub spreading_turn : (c' : ℕ) → c' ≡ lowest_below 256 left' → (256 - count_below 256 (λ k. s' k && not (left' k)) < 256 - count_below 256 (λ k. s k && not (left k))) × Spreading rows seed s' left' c'
-  spreading_turn c' e = (spreading_less, spreading_on c' e)
-
-pub spreading_end : (rows : List ℕ) (seed s left : Set) (c : ℕ) → Spreading rows seed s left c → 256 ≤ c → ((k : ℕ) → 256 ≤ k → s k ≡ false) → Spread rows seed s
-spreading_end rows seed s left c g h above = record { holds = g.holds; closed = λ a b p r. g.done a b p (nobody a p (dec_lt a 256)) r; least = g.least }
+-- none is left
+pub spreading_end : (rows : List ℕ) (seed s left : Set) → Spreading rows seed s left → 256 ≡ lowest_below 256 left → ((k : ℕ) → 256 ≤ k → s k ≡ false) → Spread rows seed s
+spreading_end rows seed s left g e above = record { holds = g.holds; closed = λ a b p r. g.done a b p (nobody a p (dec_lt a 256)) r; least = g.least }
   where
     nobody : (a : ℕ) → s a ≡ true → Dec (a < 256) → left a ≡ false
-    nobody a p (yes l) = g.lowest.before a (omega arith)
+    nobody a p (yes l) = (lowest_of left 256 e).before a l
     nobody a p (no n) = absurd (false≢true (sym (above a (omega arith)) ∙ p))
 
 -- THE CLOSURE: rows in which the first n ties are noted

@@ -6,11 +6,11 @@ use Prim.Native.Nat.{ℕ, ◌+◌, ◌*◌, ◌^◌, ◌<◌}
 use native.Mathlib.Decide.{ℕ_discrete}
 use native.Mathlib.Omega.{arith}
 use borrow.Author.Tests.{eq-eqb, ne_eqb, eqb-true, not-true}
-use lib.Bits.{bit_or, bit_xor, xor_self}
+use lib.Bits.{bit_or}
 use lib.Count.{count_trailing_zeros}
 use lib.Dec.{eqb}
 use lib.ListN.{length, get_or}
-use lib.Seq.{ext_get_or}
+use lib.Pointwise.{pointwise, bytes_decides}
 use Rattle.rules.specs.Base.{any_below, all_below, lowest_below}
 use Rattle.rules.proofs.BaseLaws.{both_ways, none_below, any_below_none, eqb_iff}
 use Rattle.layout.specs.Codec.{unpack}
@@ -18,15 +18,12 @@ use Rattle.cells.proofs.Digits.{unpack_zero, unpack_ext, trailing_hit}
 use Rattle.sets.specs.Members.{members, agree}
 use Rattle.sets.specs.declared.ChangeSet.{ChangeSet}
 use Rattle.rules.proofs.BoundLaws.{lowest_is}
-use Rattle.sets.proofs.Words.{of_words, place, each_of_4, or_four, xor_zero, low_at}
+use Rattle.sets.proofs.Words.{of_words, place, each_of_4, or_four, low_at}
 use Rattle.sets.proofs.MemberLaws.{members_above, words_are, words_none, members_ext, agree_at, agree-all}
 
--- the words joined by `|`, and those of two sets by `^` and `|`
+-- the words joined by `|`
 abbrev united : List ℕ → ℕ
 united w = bit_or (bit_or (bit_or (get_or w 0 0) (get_or w 1 0)) (get_or w 2 0)) (get_or w 3 0)
-
-abbrev apart : List ℕ → List ℕ → ℕ
-apart a b = bit_or (bit_or (bit_or (bit_xor (get_or a 0 0) (get_or b 0 0)) (bit_xor (get_or a 1 0) (get_or b 1 0))) (bit_xor (get_or a 2 0) (get_or b 2 0))) (bit_xor (get_or a 3 0) (get_or b 3 0))
 
 -- where each word is 0 the lowest member is 256, and there is nothing to take away
 module _ (s : ChangeSet) (len : length s.words ≡ 4) (z : (i : ℕ) → i < 4 → get_or s.words i 0 ≡ 0) where
@@ -75,15 +72,8 @@ module _ (s : ChangeSet) (len : length s.words ≡ 4) (fits : (i : ℕ) → get_
     rest_words k = rw (← lowest_word s i (64 * i + low) (fits i) h some zeros refl)
         (words_are ws (λ k. not (eqb k (64 * i + low)) && members s k) four (λ k l. rw (members_above s len k l, and-false (not (eqb k (64 * i + low))))) word_but k)
 
--- the words joined by `^` are all 0 just where the members agree
+-- the words are the same just where the members agree
 pub equal_test : (s t : ChangeSet) → length s.words ≡ 4 → length t.words ≡ 4 → ((i : ℕ) → get_or s.words i 0 < 2 ^ 64) → ((i : ℕ) → get_or t.words i 0 < 2 ^ 64)
-    → eqb (apart s.words t.words) 0 ≡ all_below 256 (agree (members s) (members t))
-equal_test s t ls lt fs ft = both_ways _ _ (λ e. agree-all 256 (members s) (members t) (λ k h. ap (λ (x : ChangeSet). members x k) (same (eqb-true _ 0 e))))
-    (λ e. eq-eqb (apart s.words t.words) 0 (rw (members_ext s t ls lt fs ft (agree_at 256 (members s) (members t) e))
-    (rw (xor_self (get_or t.words 0 0), xor_self (get_or t.words 1 0), xor_self (get_or t.words 2 0), xor_self (get_or t.words 3 0)))))
-  where
-    same : apart s.words t.words ≡ 0 → s ≡ t
-    same e =
-        let z = or_four _ _ _ _ e in
-        ap of_words (ext_get_or 0 s.words t.words (ls ∙ sym lt) (λ i h. each_of_4 (λ (i : ℕ). get_or s.words i 0 ≡ get_or t.words i 0)
-        (xor_zero _ _ z.0) (xor_zero _ _ z.1) (xor_zero _ _ z.2) (xor_zero _ _ z.3) i (omega arith)))
+    → pointwise eqb s.words t.words ≡ all_below 256 (agree (members s) (members t))
+equal_test s t ls lt fs ft = both_ways _ _ (λ e. agree-all 256 (members s) (members t) (λ k h. ap (λ (ws : List ℕ). members (of_words ws) k) ((bytes_decides s.words t.words).0 e)))
+    (λ e. (bytes_decides s.words t.words).1 (ap (λ (x : ChangeSet). x.words) (members_ext s t ls lt fs ft (agree_at 256 (members s) (members t) e))))

@@ -1,7 +1,8 @@
 // Sets of changes, in four 64-bit words by value.
 #![tactic(auto)]
 
-ghost use Rattle.std.specs.Prelude.{◌≡◌, false, not, ◌||◌, ◌&&◌, List, ℕ, ◌*◌, ◌≤◌, eqb, length};
+ghost use Rattle.std.specs.Prelude.{◌≡◌, false, not, ◌||◌, ◌&&◌, List, ℕ, ◌+◌, ◌*◌, ◌≤◌, leb, eqb, length};
+ghost use Rattle.std.specs.Option.{unwrap_or};
 ghost use Rattle.rules.specs.Base.{any_below, all_below, lowest_below, count_below};
 ghost use Rattle.rules.specs.Sets.{closure};
 ghost use Rattle.rules.specs.Window.{TieRecord};
@@ -18,17 +19,27 @@ use words::{among, bit_in, without_lowest};
 const FEW: usize = 32;
 
 // A set of change numbers (a bit set): bit c % 64 of word c / 64 says whether c is a member.
-#[derive(Clone, Copy)]
+#[derive(Clone, Copy, PartialEq, Eq)]
 pub struct ChangeSet {
     pub words: [u64; 4],
 }
 
 // The ties that a closure goes along: group ties either way; besides, from leader to follower, fall ties, or wait and fall ties.
+// Each by the lowest kind of tie that is gone along from leader to follower.
 #[derive(Clone, Copy)]
 pub enum Along {
-    Groups,
-    Falls,
-    Arrows,
+    Groups = 3,
+    Falls = 2,
+    Arrows = 1,
+}
+
+impl Along {
+    // The lowest kind of tie that is gone along from leader to follower.
+    fn low_kind(self) -> u8
+        ensures { result ≡ low_kind self }
+    {
+        self as u8
+    }
 }
 
 impl ChangeSet {
@@ -79,7 +90,7 @@ impl ChangeSet {
         self.minus(ChangeSet::single(c))
     }
 
-    // The members of either.
+    // The members of either. A method, as `minus`: at the callers `|` would be no plainer.
     pub fn unite(self, other: ChangeSet) -> ChangeSet
         ensures { (k : ℕ) → members result k ≡ members self k || members other k }
     {
@@ -101,7 +112,7 @@ impl ChangeSet {
         }
     }
 
-    // Whether there is no member.
+    // Whether there is no member. The four words by one test, and not each by its own as `==` would have it: each entry of a window is asked.
     pub fn is_empty(self) -> bool
         ensures { result ≡ not (any_below 256 (members self)) }
     {
@@ -113,29 +124,37 @@ impl ChangeSet {
     fn equal(self, other: ChangeSet) -> bool
         ensures { result ≡ all_below 256 (agree (members self) (members other)) }
     {
-        let a = self.words;
-        let b = other.words;
-        ((a[0] ^ b[0]) | (a[1] ^ b[1]) | (a[2] ^ b[2]) | (a[3] ^ b[3])) == 0
+        self == other
     }
 
-    // The lowest member; 256 where there is none.
-    pub fn lowest(self) -> u32
-        ensures { result ≡ lowest_below 256 (members self) }
+    // The lowest member, where there is one. Here and in `rest` each word by a test, as in `single`.
+    pub fn first(self) -> Option<u8>
+        ensures { unwrap_or result 256 ≡ lowest_below 256 (members self) }
     {
         let w = self.words;
         if w[0] != 0 {
-            return u64::trailing_zeros(w[0]);
+            return Some(w[0].trailing_zeros() as u8);
         }
         if w[1] != 0 {
-            return 64 + u64::trailing_zeros(w[1]);
+            return Some(64 + w[1].trailing_zeros() as u8);
         }
         if w[2] != 0 {
-            return 128 + u64::trailing_zeros(w[2]);
+            return Some(128 + w[2].trailing_zeros() as u8);
         }
         if w[3] != 0 {
-            return 192 + u64::trailing_zeros(w[3]);
+            return Some(192 + w[3].trailing_zeros() as u8);
         }
-        256
+        None
+    }
+
+    // The lowest member, taken out.
+    pub fn pop_first(&mut self) -> Option<u8>
+        ensures lowest { unwrap_or result 256 ≡ lowest_below 256 (members self.old) }
+        ensures rest { (k : ℕ) → members self.new k ≡ not (eqb k (lowest_below 256 (members self.old))) && members self.old k }
+    {
+        let first = self.first();
+        *self = self.rest();
+        first
     }
 
     // The set without its lowest member.
@@ -171,20 +190,14 @@ impl ChangeSet {
         ensures { result ≡ count_below 256 (members self) }
     {
         let w = self.words;
-        u64::count_ones(w[0])
-            + u64::count_ones(w[1])
-            + u64::count_ones(w[2])
-            + u64::count_ones(w[3])
+        w[0].count_ones() + w[1].count_ones() + w[2].count_ones() + w[3].count_ones()
     }
 
     // The set whose 32 bytes stand at a place; no members where there are not 32.
     pub fn load(bytes: &[u8], at: usize) -> ChangeSet
         ensures { (k : ℕ) → members result k ≡ loaded bytes.now at k }
     {
-        if bytes.len() < 32 {
-            return ChangeSet::empty();
-        }
-        if bytes.len() - 32 < at {
+        if !has_room(bytes, at) {
             return ChangeSet::empty();
         }
         ChangeSet {
@@ -201,10 +214,7 @@ impl ChangeSet {
     pub fn store(self, bytes: &mut [u8], at: usize)
         ensures { bytes.new ≡ stored (members self) bytes.old at }
     {
-        if bytes.len() < 32 {
-            return;
-        }
-        if bytes.len() - 32 < at {
+        if !has_room(bytes, at) {
             return;
         }
         let w = self.words;
@@ -222,7 +232,7 @@ impl ChangeSet {
         if count < FEW {
             return self.close_few(ties, count, along);
         }
-        let low = low_kind(along);
+        let low = along.low_kind();
         let mut rows = [0u64; 1024];
         note_ties(&mut rows, ties, count, low);
         self.spread(&rows)
@@ -233,57 +243,47 @@ impl ChangeSet {
         requires { 4 * count ≤ length ties.now }
         ensures { (ts : List TieRecord) → length ts ≡ count → ties.now ≡ tie_section ts → (k : ℕ) → members result k ≡ closure 256 (relation along ts) (members self) k }
     {
-        let low = low_kind(along);
-        let mut words = self.words;
+        let low = along.low_kind();
+        let mut set = self;
         let mut back = false;
         loop {
-            let before = ChangeSet { words };
-            pass(&mut words, ties, count, low, back);
-            let after = ChangeSet { words };
-            if after.equal(before) {
-                return after;
+            let before = set;
+            pass(&mut set.words, ties, count, low, back);
+            if set.equal(before) {
+                return set;
             }
-            if after.minus(before).rest().is_empty() {
-                back = !back;
-            }
+            // Where one member was added, the next pass goes the other way.
+            back ^= set.minus(before).count() == 1;
         }
     }
 
     // The least set that holds this one and is closed along rows: each member's row is taken in once, the lowest first.
-    fn spread(self, rows: &[u64]) -> ChangeSet
-        requires { length rows.now ≡ 1024 }
+    fn spread(self, rows: &[u64; 1024]) -> ChangeSet
         ensures { Spread rows.now (members self) (members result) }
     {
         let mut s = self;
         let mut left = self;
-        let mut c = left.lowest();
-        while c < 256 {
-            let row = row_at(rows, c as u8);
-            left = left.rest().unite(row.minus(s));
+        while let Some(c) = left.pop_first() {
+            let row = row_at(rows, c);
+            left = left.unite(row.minus(s));
             s = s.unite(row);
-            c = left.lowest();
         }
         s
     }
 }
 
-// The lowest kind of tie that is gone along from leader to follower.
-fn low_kind(along: Along) -> u8
-    ensures { result ≡ low_kind along }
+// Whether a set's 32 bytes have room at a place.
+fn has_room(bytes: &[u8], at: usize) -> bool
+    ensures { result ≡ leb (at + 32) (length bytes.now) }
 {
-    match along {
-        Along::Groups => 3,
-        Along::Falls => 2,
-        Along::Arrows => 1,
-    }
+    bytes.len().checked_sub(32).is_some_and(|last| at <= last)
 }
 
 // The row of a number, as a set.
-fn row_at(rows: &[u64], c: u8) -> ChangeSet
-    requires { length rows.now ≡ 1024 }
+fn row_at(rows: &[u64; 1024], c: u8) -> ChangeSet
     ensures { (k : ℕ) → members result k ≡ row_has rows.now c k }
 {
-    let i = c as usize * 4;
+    let i = usize::from(c) * 4;
     ChangeSet {
         words: [rows[i], rows[i + 1], rows[i + 2], rows[i + 3]],
     }

@@ -1,16 +1,16 @@
 // Whether lent bytes are a sound window.
 #![tactic(auto)]
 
-ghost use Rattle.std.specs.Prelude.{◌≡◌, length};
-ghost use Rattle.layout.specs.Codec.{head_at, head_size, window_size};
+ghost use Rattle.std.specs.Prelude.{◌≡◌};
+ghost use Rattle.layout.specs.Codec.{head_at, head_size};
 ghost use Rattle.layout.specs.Memory.{sound_bytes, sound_memory};
 ghost use Rattle.cells.specs.Part.{part};
 ghost use Rattle.sections.specs.Sections.{HeadSound};
 ghost use Rattle.soundness.specs.Read.{AreFigures};
 
-use layout::{Changes, Entries, Header, Line};
+use layout::{Changes, Entries, Header, Line, Window};
 use parts::{back, front, related};
-use places::figure;
+use places::header::Figure;
 
 // The figures of a header.
 #[derive(Clone, Copy)]
@@ -24,24 +24,22 @@ struct Figures {
 }
 
 // The figures of a window.
-fn read_figures(w: &[u8]) -> Figures
-    requires { length w.now ≡ window_size }
+fn read_figures(w: &[u8; Window::SIZE]) -> Figures
     ensures { (h : HeadSound (part w.now head_at head_size)) → AreFigures h result }
 {
     let head = &w[Header::AT..Entries::AT];
     Figures {
-        entries: figure(head, 0),
-        given: figure(head, 1),
-        records: figure(head, 2),
-        permits: figure(head, 3),
-        ties: figure(head, 4),
-        waiters: figure(head, 5),
+        entries: Figure::Entries.read(head),
+        given: Figure::Given.read(head),
+        records: Figure::Records.read(head),
+        permits: Figure::Permits.read(head),
+        ties: Figure::Ties.read(head),
+        waiters: Figure::Waiters.read(head),
     }
 }
 
 // Whether a window's bytes are sound.
-fn sound(w: &[u8]) -> bool
-    requires { length w.now ≡ window_size }
+fn sound(w: &[u8; Window::SIZE]) -> bool
     ensures { result ≡ sound_bytes w.now }
 {
     if !sections::header(&w[Header::AT..Entries::AT]) {
@@ -66,8 +64,8 @@ fn sound(w: &[u8]) -> bool
 pub fn sound_memory(memory: &[u8]) -> bool
     ensures { result ≡ sound_memory memory.now }
 {
-    if memory.len() < layout::Window::SIZE {
+    let Some(w) = memory.first_chunk::<{ Window::SIZE }>() else {
         return false;
-    }
-    sound(&memory[0..layout::Window::SIZE])
+    };
+    sound(w)
 }

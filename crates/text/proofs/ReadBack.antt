@@ -2,6 +2,7 @@
 use mathlib.Core.Path.{◌≡◌, refl, sym, ap, ◌∙◌}
 use mathlib.Core.Bool.{true, false, and-false}
 use mathlib.Core.List.{List, [], ◌∷◌}
+use Rattle.std.specs.Prelude.{Some}
 use Prim.Native.Nat.{ℕ, zero, suc, ◌+◌, ◌-◌, ◌*◌, ◌/◌, ◌%◌, ◌^◌, ◌≤◌, ◌<◌}
 use native.Mathlib.Nat.{pow-suc, pow-zero, div-lt_iff_lt-mul, zero-lt-suc}
 use native.Mathlib.Omega.{arith}
@@ -58,12 +59,12 @@ unfolding shown_before
 shown-some n after = (digits_count n (n / 10) ((48 + n % 10) ∷ after) (omega arith)).0
 
 -- READ BACK
-pub read_back : (n : ℕ) → n < 2 ^ 32 → number (shown_before n []) ≡ n
+pub read_back : (n : ℕ) → n < 2 ^ 32 → number (shown_before n []) ≡ Some n
 unfolding shown_before value_after all leading_zero
 read_back n h =
     let d : List ℕ = (48 + n % 10) ∷ [] in
     let less : n / 10 ≤ n = omega arith in
     let value : value_after 0 (shown_before n []) ≡ n = digits_say n (n / 10) d less ∙ omega arith in
     let each : all is_digit (shown_before n []) ≡ true = digits_all n (n / 10) d less ∙ rw (one_digit n) refl in
-    number-value (shown_before n []) n (sym (rw each value)) (shown-some n []) (shown-length n 9 [] (omega arith))
+    number-value (shown_before n []) n each (sym value) (shown-some n []) (shown-length n 9 [] (omega arith))
     (digits_first n (n / 10) d less (λ z. and-false (eqb (48 + n % 10) 48))) (omega arith)

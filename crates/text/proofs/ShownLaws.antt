@@ -1,11 +1,11 @@
--- Numbers in decimal, as the code prints them from the right. Assumes nothing.
+-- Numbers in decimal, digit by digit from the right, and as the library prints them. Assumes nothing.
 use mathlib.Core.Path.{◌≡◌, refl, sym, ap, ◌∙◌}
-use mathlib.Core.List.{List, ◌∷◌}
-use Prim.Native.Nat.{ℕ, zero, suc, ◌+◌, ◌-◌, ◌/◌, ◌%◌, ◌^◌, ◌≤◌, ◌<◌}
-use native.Mathlib.Nat.{pow-suc, pow-zero, div-lt_iff_lt-mul, zero-lt-suc}
+use mathlib.Core.List.{List, [], ◌∷◌, ◌++◌, append_assoc, append-nil}
+use Prim.Native.Nat.{ℕ, zero, suc, ◌+◌, ◌/◌, ◌%◌, ◌^◌, ◌≤◌, ◌<◌}
+use native.Mathlib.Nat.{zero-lt-suc}
 use native.Mathlib.Omega.{arith}
-use lib.ListN.{length, drop, set, length-set}
-use lib.Seq.{drop-cons, drop-set-lt, get_or-set_same}
+use Rattle.std.specs.Fmt.{decimal}
+use Rattle.std.proofs.lemmas.Fmt.{decimal_by_steps}
 use borrow.Author.Tests.{ne_eqb}
 use Rattle.text.specs.Decimal.{digits_before, shown_before}
 
@@ -53,60 +53,22 @@ shown-step : (n : ℕ) (after : List ℕ) → shown_before n after ≡ digits_be
 unfolding shown_before
 shown-step n after = digits_enough n (n / 10) ((48 + n % 10) ∷ after) (omega arith) (n / 10) (omega arith)
 
--- a store in front of other bytes
-pub drop-set : (l : List ℕ) (i v m : ℕ) → m ≡ suc i → i < length l → drop i (set l i v) ≡ v ∷ drop m l
-drop-set l i v m e h =
-    let there : i < length (set l i v) = rw length-set h in
-    drop-cons (set l i v) i 0 there ∙ rw (e, get_or-set_same l i v 0 h, drop-set-lt (suc i) l i v (omega arith))
+-- WHAT THE CODE PRINTS, in front of other bytes: the library's text of the number
+shown_one : (n : ℕ) → n < 10 → (after : List ℕ) → ((48 + n) ∷ []) ++ after ≡ shown_before n after
+unfolding shown_before
+shown_one n h after = let z : n / 10 ≡ 0 = omega arith in let m : n % 10 ≡ n = omega arith in rw (z, m, digits_none n ((48 + n) ∷ after))
 
--- PRINTING: the digits of n but those of `rest` stand from `at` on in text t, which was t₀, in front of what stood from `end` on
-pub record Showing (t₀ : List ℕ) (end n : ℕ) (t : List ℕ) (at rest : ℕ) : Type 0 where
-  pub size : length t ≡ length t₀
-  pub fits : end ≤ length t
-  pub low : end ≤ at + 20
-  pub high : at ≤ end
-  pub room : rest < 10 ^ (at + 20 - end)
-  pub shown : digits_before rest rest (drop at t) ≡ shown_before n (drop end t₀)
+shown_more : (n : ℕ) (l : List ℕ) → 10 ≤ n → ((after : List ℕ) → l ++ after ≡ shown_before (n / 10) after) → (after : List ℕ) → (l ++ ((48 + n % 10) ∷ [])) ++ after ≡ shown_before n after
+shown_more n l h e after =
+    append_assoc l ((48 + n % 10) ∷ []) after ∙ e ((48 + n % 10) ∷ after) ∙ shown-step (n / 10) ((48 + n % 10) ∷ after)
+    ∙ sym (digits_step (n / 10) ((48 + n % 10) ∷ after) (omega arith)) ∙ sym (shown-step n after)
 
--- the first digit d
-pub showing_first : (t : List ℕ) (end n d rest : ℕ) → 20 ≤ end → end ≤ length t → n < 2 ^ 64 → d ≡ 48 + n % 10 → rest ≡ n / 10
-    → Showing (set t (end - 1) d) end n (set t (end - 1) d) (end - 1) rest
-showing_first t end n d rest h k b ed er =
-    let left : end - 1 + 20 - end ≡ 19 = omega arith in
-    record {
-      size = refl;
-      fits = simp length-set k;
-      low = omega arith;
-      high = omega arith;
-      room = rw left (omega arith);
-      shown = ap (digits_before rest rest) (drop-set t (end - 1) d end (omega arith) (omega arith)) ∙ rw (er, ed) (sym (shown-step n (drop end t)))
-          ∙ ap (shown_before n) (sym (drop-set-lt end t (end - 1) d (omega arith)));
-    }
+decimal_shown : (n : ℕ) → n < 2 ^ 64 → (after : List ℕ) → decimal n ++ after ≡ shown_before n after
+decimal_shown = decimal_by_steps (λ n l. (after : List ℕ) → l ++ after ≡ shown_before n after) shown_one shown_more
 
--- there is room for one more, where one is left
-pub showing_room : {t₀ t : List ℕ} {end n at rest : ℕ} → Showing t₀ end n t at rest → 0 < rest → end < at + 20
-showing_room {t₀} {t} {end} {n} {at} {rest} s h = let left : 0 < at + 20 - end = go (at + 20 - end) s.room in omega arith
-  where
-    go : (k : ℕ) → rest < 10 ^ k → 0 < k
-    go zero b = absurd (omega (arith, rw pow-zero at b))
-    go (suc k) b = zero-lt-suc k
+pub shown-decimal : (n : ℕ) → n < 2 ^ 64 → decimal n ≡ shown_before n []
+shown-decimal n h = sym (append-nil (decimal n)) ∙ decimal_shown n h []
 
--- one digit more
-pub showing_next : {t₀ t : List ℕ} {end n at rest : ℕ} → Showing t₀ end n t at rest → 20 ≤ end → 0 < rest
-    → Showing t₀ end n (set t (at - 1) (48 + rest % 10)) (at - 1) (rest / 10)
-showing_next {t₀} {t} {end} {n} {at} {rest} s h b =
-    let some : end < at + 20 = showing_room s b in
-    let left : at + 20 - end ≡ suc (at - 1 + 20 - end) = omega arith in
-    record {
-      size = simp length-set s.size;
-      fits = simp length-set s.fits;
-      low = omega arith;
-      high = omega (arith, s.high);
-      room = (div-lt_iff_lt-mul (zero-lt-suc 9)).1 (rw (left, pow-suc) at s.room);
-      shown = ap (digits_before (rest / 10) (rest / 10)) (drop-set t (at - 1) (48 + rest % 10) at (omega arith) (omega (arith, s.high, s.fits)))
-          ∙ sym (digits_step rest (drop at t) b) ∙ s.shown;
-    }
-
--- no digit is left
-pub showing_all : {t₀ t : List ℕ} {end n at rest : ℕ} → Showing t₀ end n t at rest → rest ≡ 0 → drop at t ≡ shown_before n (drop end t₀)
-showing_all {t₀} {t} {end} {n} {at} {rest} s e = sym (ap (λ (r : ℕ). digits_before r r (drop at t)) e ∙ digits_none 0 (drop at t)) ∙ s.shown
+-- a number in front of other bytes is its text, and then they
+pub shown-append : (n : ℕ) → n < 2 ^ 64 → (after : List ℕ) → shown_before n [] ++ after ≡ shown_before n after
+shown-append n h after = ap (λ (l : List ℕ). l ++ after) (sym (shown-decimal n h)) ∙ decimal_shown n h after

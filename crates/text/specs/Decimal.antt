@@ -1,5 +1,5 @@
 -- docs/RULES.md, "The script program": numbers in decimal, read and printed. Text is a list of bytes. Assumes nothing.
-use Rattle.std.specs.Prelude.{Bool, false, not, cond, ◌&&◌, List, [], ◌∷◌, ℕ, zero, suc, ◌+◌, ◌-◌, ◌*◌, ◌/◌, ◌%◌, ◌^◌, eqb, leb, length}
+use Rattle.std.specs.Prelude.{Bool, false, not, cond, ◌&&◌, List, [], ◌∷◌, ℕ, zero, suc, ◌+◌, ◌-◌, ◌*◌, ◌/◌, ◌%◌, eqb, leb, length, Option, Some, None}
 use Prim.Native.Char.{code}
 use Prim.Native.String.{String, [] as empty, ◌∷◌ as ◌then◌}
 use Rattle.rules.specs.Base.{all}
@@ -26,12 +26,9 @@ leading_zero (b ∷ l) = eqb b 48 && not (eqb (length l) 0)
 unfoldable pub is_number : List ℕ → Bool
 is_number l = all is_digit l && leb 1 (length l) && leb (length l) 10 && not (leading_zero l) && leb (value_after 0 l) 4294967295
 
--- what stands for no number: it is above every number
-unfoldable pub no_number : ℕ
-no_number = 2 ^ 32
-
-unfoldable pub number : List ℕ → ℕ
-number l = cond (is_number l) (value_after 0 l) no_number
+-- the number that a text is, if it is one
+unfoldable pub number : List ℕ → Option ℕ
+number l = cond (is_number l) (Some (value_after 0 l)) None
 
 -- the digits of n in front of other bytes, none for 0; there are no more than k
 unfoldable pub digits_before : ℕ → ℕ → List ℕ → List ℕ

@@ -1,82 +1,57 @@
 // Text as bytes.
 #![tactic(auto)]
 
-ghost use Rattle.std.specs.Prelude.{◌≡◌, cond, ◌+◌, ◌≤◌, length, drop};
+ghost use Rattle.std.specs.Prelude.{◌≡◌, cond, ◌&&◌, leb, ◌+◌, ◌≤◌, [], ◌++◌, length, Some, None};
+ghost use Rattle.arrayvec.specs.ArrayVec.{array_vec_len};
 ghost use Rattle.rules.specs.Base.{all};
 ghost use Rattle.layout.specs.Memory.{same_bytes};
-ghost use Rattle.text.specs.Decimal.{is_digit, value_after, no_number, number as number_of, shown_before};
+ghost use Rattle.text.specs.Decimal.{is_digit, value_after, number as number_of, shown_before};
 
-// What stands for no number.
-pub const NO_NUMBER: u64 = 4294967296;
+use arrayvec::ArrayVec;
 
 // Whether two texts are the same, byte for byte.
 pub fn same(a: &[u8], b: &[u8]) -> bool
     ensures { result ≡ same_bytes a.now b.now }
 {
-    check::same(a, b)
+    a == b
 }
 
-// What at most ten digits say, or NO_NUMBER where another byte is among them.
-fn digits_value(l: &[u8]) -> u64
+// What at most ten digits say; None where another byte is among them, and above the largest number.
+fn digits_value(l: &[u8]) -> Option<u32>
     requires { length l.now ≤ 10 }
-    ensures { result ≡ cond (all is_digit l.now) (value_after 0 l.now) no_number }
+    ensures { result ≡ cond (all is_digit l.now && leb (value_after 0 l.now) 4294967295) (Some (value_after 0 l.now)) None }
 {
-    let mut v: u64 = 0;
-    let mut i = 0;
-    while i < l.len() {
-        let b = l[i];
-        if b < 48 {
-            return NO_NUMBER;
+    let mut value: u64 = 0;
+    for &b in l {
+        let digit = b.is_ascii_digit();
+        if !digit {
+            return None;
         }
-        let high = b > 57;
-        if high {
-            return NO_NUMBER;
-        }
-        v = 10 * v + (b - 48) as u64;
-        i += 1;
+        value = 10 * value + u64::from(b - b'0');
     }
-    v
+    u32::try_from(value).ok()
 }
 
-// The number that a text is, or NO_NUMBER.
-pub fn number(l: &[u8]) -> u64
+// The number that a text is, if it is one.
+pub fn number(l: &[u8]) -> Option<u32>
     ensures { result ≡ number_of l.now }
 {
-    if l.len() == 0 {
-        return NO_NUMBER;
-    }
     let long = l.len() > 10;
     if long {
-        return NO_NUMBER;
+        return None;
     }
-    if l.len() > 1 {
-        if l[0] == 48 {
-            return NO_NUMBER;
-        }
+    match l {
+        [] | [b'0', _, ..] => None,
+        _ => digits_value(l),
     }
-    let v = digits_value(l);
-    let large = v > 4294967295;
-    if large {
-        return NO_NUMBER;
-    }
-    v
 }
 
-// A number in decimal, in front of the bytes of text from `end` on. What comes back is where it begins.
-pub fn show_before(text: &mut [u8], end: usize, n: u64) -> usize
-    requires le_end { 20 ≤ end }
-    requires end_in_bounds { end ≤ length text.old }
-    ensures end_bound { end ≤ result + 20 }
-    ensures upper_bound { result ≤ end }
-    ensures text_after { drop result text.new ≡ shown_before n (drop end text.old) }
+// A number in decimal, put after what a buffer holds.
+pub fn show<const N: usize>(n: u64, out: &mut ArrayVec<u8, N>)
+    requires { array_vec_len out.old + 20 ≤ N }
+    ensures items { out.new.items ≡ out.old.items ++ shown_before n [] }
+    ensures len { array_vec_len out.new ≤ array_vec_len out.old + 20 }
 {
-    let mut at = end - 1;
-    text[at] = (48 + n % 10) as u8;
-    let mut rest = n / 10;
-    while rest > 0 {
-        at -= 1;
-        text[at] = (48 + rest % 10) as u8;
-        rest = rest / 10;
-    }
-    at
+    let mut digits = itoa::Buffer::new();
+    let _fits = out.try_extend_from_slice(digits.format(n).as_bytes());
 }

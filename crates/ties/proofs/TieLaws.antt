@@ -1,7 +1,7 @@
 -- Ties as rows, and what the calls on rows come to in ties. Assumes nothing.
 use mathlib.Core.Path.{◌≡◌, refl, ap, ◌∙◌}
 use mathlib.Core.Bool.{Bool, true, false, not, cond, ◌&&◌}
-use mathlib.Core.List.{List, ◌++◌}
+use mathlib.Core.List.{List, [], ◌∷◌, ◌++◌}
 use Prim.Native.Nat.{ℕ, ◌-◌, ◌*◌, ◌≤◌, ◌<◌, min, max}
 use native.Mathlib.Omega.{arith}
 use lib.Dec.{ltb, eqb}
@@ -17,7 +17,7 @@ use Rattle.rules.proofs.BaseLaws.{and_left, and_right}
 use Rattle.layout.specs.Codec.{tie_bytes, tie_section}
 use Rattle.layout.specs.Records.{Tabled}
 use Rattle.layout.proofs.RecordLaws.{ties_flat}
-use Rattle.rows.specs.Rows.{Row, row, row_key, row_bytes, rows, unite_rows, add_row, unless_over, spared, Stored, Closed}
+use Rattle.rows.specs.Rows.{Row, row, with_key, row_key, row_bytes, rows, unite_rows, add_row, unless_over, spared, Stored, Closed}
 use Rattle.rows.proofs.TableLaws.{TableOf, flat_rows, table-rising, table_fits, table_added, table_left}
 
 -- a tie's row
@@ -48,35 +48,36 @@ abbrev stored : Bool → ℕ → ℕ → ℕ → TieRecord
 stored b k l f = cond b (record { kind = 3; leader = min l f; follower = max l f }) (record { kind = k; leader = l; follower = f })
 
 module _ (k l f : ℕ) where
+  -- the three bytes of the tie as it is stored
+  abbrev pub made : List ℕ
+  made = (make_tie k l f).kind ∷ (make_tie k l f).leader ∷ (make_tie k l f).follower ∷ []
+
   -- a group tie whose ends are not in order
-  pub ends_swapped : eqb k 3 && ltb f l ≡ true → (f ≡ (make_tie k l f).leader) × (l ≡ (make_tie k l f).follower)
+  pub ends_swapped : eqb k 3 && ltb f l ≡ true → k ∷ f ∷ l ∷ [] ≡ made
   unfolding make_tie is_group
   ends_swapped e =
       let h : f < l = ltb-true f l (and_right (eqb k 3) (ltb f l) e) in
-      rw (and_left (eqb k 3) (ltb f l) e) (omega arith, omega arith)
+      let least : f ≡ min l f = omega arith in
+      let most : l ≡ max l f = omega arith in
+      rw (and_left (eqb k 3) (ltb f l) e) (λ i. eqb-true k 3 (and_left (eqb k 3) (ltb f l) e) i ∷ least i ∷ most i ∷ [])
 
   -- any other tie
-  pub ends-kept : eqb k 3 && ltb f l ≡ false → (l ≡ (make_tie k l f).leader) × (f ≡ (make_tie k l f).follower)
+  pub ends-kept : eqb k 3 && ltb f l ≡ false → k ∷ l ∷ f ∷ [] ≡ made
   unfolding make_tie is_group
-  ends-kept e = go (eqb k 3) e
+  ends-kept e = go (eqb k 3) (eqb-true k 3) e
     where
-      go : (b : Bool) → b && ltb f l ≡ false → (l ≡ (stored b k l f).leader) × (f ≡ (stored b k l f).follower)
-      go true q = let h : l ≤ f = ltb-false f l q in (omega arith, omega arith)
-      go false q = (refl, refl)
-
-  -- the kind is as it was named
-  kind-kept : k ≡ (make_tie k l f).kind
-  unfolding make_tie is_group
-  kind-kept = go (eqb k 3) (eqb-true k 3)
-    where
-      go : (b : Bool) → (b ≡ true → k ≡ 3) → k ≡ (stored b k l f).kind
-      go true h = h refl
-      go false h = refl
+      go : (b : Bool) → (b ≡ true → k ≡ 3) → b && ltb f l ≡ false → k ∷ l ∷ f ∷ [] ≡ (stored b k l f).kind ∷ (stored b k l f).leader ∷ (stored b k l f).follower ∷ []
+      go true h q =
+          let n : l ≤ f = ltb-false f l q in
+          let least : l ≡ min l f = omega arith in
+          let most : f ≡ max l f = omega arith in
+          λ i. h refl i ∷ least i ∷ most i ∷ []
+      go false h q = refl
 
   -- the row of the tie as it is stored
-  pub tie_row_lem : (a b : ℕ) → a ≡ (make_tie k l f).leader → b ≡ (make_tie k l f).follower → row k a b 0 ≡ tie_row (make_tie k l f)
+  pub key_row : (x : List ℕ) → x ≡ made → with_key x 0 ≡ tie_row (make_tie k l f)
   unfolding tie_row
-  tie_row_lem a b ea eb = λ i. record { k1 = kind-kept i; k2 = ea i; k3 = eb i; more = 0 }
+  key_row x e = ap (λ (y : List ℕ). with_key y 0) e
 
 -- THE CALLS, on `ts` whose section is `bytes`
 module _ (ts : List TieRecord) (n : ℕ) (bytes : List ℕ) (len : length ts ≡ n) (is : bytes ≡ tie_section ts) (few : n ≤ 512) where

@@ -1,7 +1,7 @@
 // The table of ties in its lent section: each stands once, in rising order of kind, leader, follower.
 #![tactic(auto)]
 
-ghost use Rattle.std.specs.Prelude.{◌≡◌, true, not, List, ◌≤◌, length};
+ghost use Rattle.std.specs.Prelude.{◌≡◌, true, not, List, [], ◌∷◌, ◌≤◌, length};
 ghost use Rattle.rules.specs.Base.{rising, exceeds};
 ghost use Rattle.rules.specs.Window.{limits, TieRecord, tie_key};
 ghost use Rattle.rules.specs.Ties.{make_tie, add_tie};
@@ -14,25 +14,18 @@ ghost use Rattle.rows.specs.Rows.{unless_over};
 use layout::Ties;
 use sets::ChangeSet;
 
-// The ends of a tie as they are stored.
-#[derive(Clone, Copy)]
-struct Ends {
-    leader: u8,
-    follower: u8,
-}
+// The kind of a group tie.
+const GROUP: u8 = 3;
 
-// Of a group tie the lower number is the leader.
-fn stored_ends(kind: u8, leader: u8, follower: u8) -> Ends
-    ensures { (result.leader ≡ (make_tie kind leader follower).leader) × (result.follower ≡ (make_tie kind leader follower).follower) }
+// The key of a tie as it is stored: of a group tie the lower number is the leader.
+fn key(kind: u8, leader: u8, follower: u8) -> [u8; 3]
+    ensures { result ≡ (make_tie kind leader follower).kind ∷ (make_tie kind leader follower).leader ∷ (make_tie kind leader follower).follower ∷ [] }
 {
-    let turned = (kind == 3) & (follower < leader);
+    let turned = (kind == GROUP) & (follower < leader);
     if turned {
-        return Ends {
-            leader: follower,
-            follower: leader,
-        };
+        return [kind, follower, leader];
     }
-    Ends { leader, follower }
+    [kind, leader, follower]
 }
 
 // Whether a tie can be added: there is room, or it stands already.
@@ -41,8 +34,8 @@ pub fn fits(ties: &[u8], count: usize, kind: u8, leader: u8, follower: u8) -> bo
     requires count_bound { count ≤ 512 }
     ensures { (ts : List TieRecord) → length ts ≡ count → ties.now ≡ tie_section ts → rising tie_key ts ≡ true → result ≡ not (exceeds (length (add_tie (make_tie kind leader follower) ts)) limits.ties) }
 {
-    let e = stored_ends(kind, leader, follower);
-    rows::fits(ties, count, Ties::MOST, kind, e.leader, e.follower)
+    let [kind, first, second] = key(kind, leader, follower);
+    rows::has_room(ties, count, Ties::MOST, [kind, first, second])
 }
 
 // A tie is entered, unless it stands or there is no room. What comes back is how many ties there are.
@@ -52,8 +45,8 @@ pub fn add(ties: &mut [u8], count: usize, kind: u8, leader: u8, follower: u8) ->
     ensures upper_bound { result ≤ 512 }
     ensures tabled { (ts : List TieRecord) → length ts ≡ count → ties.old ≡ tie_section ts → rising tie_key ts ≡ true → Tabled tie_section (unless_over limits.ties (add_tie (make_tie kind leader follower) ts) ts) result ties.new }
 {
-    let e = stored_ends(kind, leader, follower);
-    rows::add(ties, count, Ties::MOST, kind, e.leader, e.follower, 0)
+    let [kind, leader, follower] = key(kind, leader, follower);
+    rows::insert(ties, count, Ties::MOST, [kind, leader, follower, 0])
 }
 
 // The ties that a change of the set leads or follows go. What comes back is how many are left.

@@ -3,13 +3,14 @@ use mathlib.Core.Path.{◌≡◌, refl, sym, ap, ◌∙◌}
 use mathlib.Core.Bool.{Bool, false, not, ◌&&◌, ◌||◌, and_comm, or_comm}
 use mathlib.Core.List.{List, [], ◌∷◌}
 use Prim.Native.Nat.{ℕ, zero, suc, ◌+◌, ◌-◌, ◌*◌, ◌/◌, ◌%◌, ◌^◌, ◌<◌}
-use native.Mathlib.Decide.{ℕ_discrete}
+use native.Mathlib.Decide.{ℕ_discrete, dec_lt}
 use native.Mathlib.Omega.{arith}
 use borrow.Author.Tests.{ne_eqb}
 use lib.Bits.{bit_and, bit_or}
 use lib.Dec.{eqb}
 use lib.ListN.{length, get_or, set, get_or-eq_default}
 use lib.Seq.{get_or-set_same, get_or-set_other}
+use Rattle.std.proofs.lemmas.List.{get_or_past}
 use Rattle.rules.proofs.BaseLaws.{eqb_iff}
 use Rattle.layout.specs.Codec.{unpack}
 use Rattle.cells.proofs.Digits.{unpack_zero, unpack-one, unpack_or, unpack_and, unpack_not}
@@ -73,25 +74,12 @@ remove_word ws c h = word_changed (λ p b. not p && b) (λ b. refl) ws c _ h (λ
     word_minus (get_or ws (c / 64) 0) ((1 * 2 ^ (c % 64)) % 2 ^ 64) (omega arith) j l ∙ and_comm (unpack (get_or ws (c / 64) 0) j) _
     ∙ ap (λ (t : Bool). not t && unpack (get_or ws (c / 64) 0) j) (bit-here c (c / 64) j refl l))
 
--- word i joined with that of other words
-abbrev with_word : (ℕ → ℕ → ℕ) → List ℕ → ℕ → List ℕ → List ℕ
-with_word f os i ws = set ws i (f (get_or ws i 0) (get_or os i 0))
-
--- so of each of four, one after the other
-one_by_one : (f : ℕ → ℕ → ℕ) (os ws : List ℕ) → length ws ≡ 4
-    → with_word f os 3 (with_word f os 2 (with_word f os 1 (with_word f os 0 ws)))
-    ≡ f (get_or ws 0 0) (get_or os 0 0) ∷ f (get_or ws 1 0) (get_or os 1 0) ∷ f (get_or ws 2 0) (get_or os 2 0) ∷ f (get_or ws 3 0) (get_or os 3 0) ∷ []
-one_by_one f os [] e = absurd (omega arith)
-one_by_one f os (a ∷ []) e = absurd (omega arith)
-one_by_one f os (a ∷ b ∷ []) e = absurd (omega arith)
-one_by_one f os (a ∷ b ∷ c ∷ []) e = absurd (omega arith)
-one_by_one f os (a ∷ b ∷ c ∷ d ∷ []) e = refl
-one_by_one f os (a ∷ b ∷ c ∷ d ∷ g ∷ ws) e = absurd (omega arith)
-
--- by `|`: the words with the members of others
-pub insert_words : (ws os : List ℕ) → length ws ≡ 4 → length os ≡ 4 → (out : List ℕ)
-    → out ≡ with_word bit_or os 3 (with_word bit_or os 2 (with_word bit_or os 1 (with_word bit_or os 0 ws)))
-    → (length out ≡ 4) × ((k : ℕ) → words_have out k ≡ words_have ws k || words_have os k)
-insert_words ws os l m out e =
-    rw (e ∙ one_by_one bit_or os ws l)
-    (refl, words_joined bit_or ◌||◌ refl ws os l m (λ i j h. unpack_or (get_or ws i 0) (get_or os i 0) j))
+-- four words that are joined by `|` with those of others have the members of both
+pub insert_words : (ws os out : List ℕ) → length ws ≡ 4 → length os ≡ 4 → length out ≡ 4
+    → ((i : ℕ) → i < 4 → get_or out i 0 ≡ bit_or (get_or ws i 0) (get_or os i 0)) → (k : ℕ) → words_have out k ≡ words_have ws k || words_have os k
+unfolding words_have
+insert_words ws os out l m n each k = go (dec_lt (k / 64) 4)
+  where
+    go : Dec (k / 64 < 4) → unpack (get_or out (k / 64) 0) (k % 64) ≡ unpack (get_or ws (k / 64) 0) (k % 64) || unpack (get_or os (k / 64) 0) (k % 64)
+    go (yes h) = rw (each (k / 64) h) (unpack_or (get_or ws (k / 64) 0) (get_or os (k / 64) 0) (k % 64))
+    go (no h) = rw (get_or_past out (k / 64) 0 (omega arith), get_or_past ws (k / 64) 0 (omega arith), get_or_past os (k / 64) 0 (omega arith), unpack_zero (k % 64)) refl

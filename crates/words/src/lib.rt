@@ -10,41 +10,34 @@ ghost use Rattle.words.specs.Members.{words_have};
 pub fn among(words: &[u64; 4], c: u8) -> bool
     ensures { result ≡ words_have words.now c }
 {
-    let i = (c / 64) as usize;
+    let i = usize::from(c / 64);
     (words[i] >> (c % 64)) % 2 == 1
 }
 
 // c becomes a member of the set of these words.
 pub fn insert(words: &mut [u64; 4], c: u8)
-    requires { length words.old ≡ 4 }
     ensures words_len { length words.new ≡ 4 }
     ensures by_index { (k : ℕ) → words_have words.new k ≡ eqb k c || words_have words.old k }
 {
-    let i = (c / 64) as usize;
-    words[i] = words[i] | (1 << (c % 64));
+    let i = usize::from(c / 64);
+    words[i] |= 1 << (c % 64);
 }
 
 // The members of the set of other words become members of the set of these.
 pub fn insert_all(words: &mut [u64; 4], others: &[u64; 4])
-    requires words_len { length words.old ≡ 4 }
-    requires others_len { length others.now ≡ 4 }
-    ensures words_len_2 { length words.new ≡ 4 }
     ensures by_index { (k : ℕ) → words_have words.new k ≡ words_have words.old k || words_have others.now k }
 {
-    words[0] = words[0] | others[0];
-    words[1] = words[1] | others[1];
-    words[2] = words[2] | others[2];
-    words[3] = words[3] | others[3];
+    for i in 0..4 {
+        words[i] |= others[i];
+    }
 }
 
 // c is a member of the set of these words no more.
 pub fn remove(words: &mut [u64; 4], c: u8)
-    requires { length words.old ≡ 4 }
-    ensures words_len { length words.new ≡ 4 }
     ensures by_index { (k : ℕ) → words_have words.new k ≡ not (eqb k c) && words_have words.old k }
 {
-    let i = (c / 64) as usize;
-    words[i] = words[i] & !(1 << (c % 64));
+    let i = usize::from(c / 64);
+    words[i] &= !(1 << (c % 64));
 }
 
 // A word without its lowest bit.
@@ -52,7 +45,7 @@ pub fn without_lowest(w: u64) -> u64
     requires { 0 < w }
     ensures { (j : ℕ) → j < 64 → unpack result j ≡ not (eqb j (count_trailing_zeros 64 w)) && unpack w j }
 {
-    w & !(1 << u64::trailing_zeros(w))
+    w & !(1 << w.trailing_zeros())
 }
 
 // Word `word` of the set of c alone.

@@ -2,18 +2,18 @@
 use mathlib.Core.Path.{refl, sym, ◌∙◌}
 use Rattle.rules.specs.Calls.{Commit}
 use Rattle.rules.specs.Events.{action_of, is_opening, is_open}
-use Rattle.replies.proofs.GiveLaws.{unsound, on_memory}
-use Rattle.calls.proofs.LentLaws.{lent_room, lent_window}
+use Rattle.replies.proofs.GiveLaws.{unsound}
+use Rattle.calls.proofs.LentLaws.{lent_room, lent_sound, stepped}
 use Rattle.calls.proofs.commit.Goals as goal
 
 pub returns-then-not-sound_memory : goal.returns-then-not-sound_memory
-returns-then-not-sound_memory c = unsound c.args.memory.now (Commit c.args.change) (sym c.sound_memory.ensures ∙ c.if-not-sound_memory.true) (unfold is_open action_of is_opening in refl) _ c.unchanged.ensures
+returns-then-not-sound_memory c = rw c.from.ensures (unsound c.args.memory.now (Commit c.args.change) (sym c.sound_memory.ensures ∙ c.if-not-sound_memory.true) (unfold is_open action_of is_opening in refl))
 
-pub slice_bounds-commit-end : goal.slice_bounds-commit-end
-slice_bounds-commit-end c = lent_room c.args.memory.now (sym c.sound_memory.ensures ∙ c.if-not-sound_memory.false)
+pub unwrap-w-requires : goal.unwrap-w-requires
+unwrap-w-requires c = c.first_chunk_mut.ensures.variant.1 (lent_room c.args.memory.now (sym c.sound_memory.ensures ∙ c.if-not-sound_memory.false))
 
 pub commit-requires : goal.commit-requires
-commit-requires c = let r = lent_window c.args.memory.now (sym c.sound_memory.ensures ∙ c.if-not-sound_memory.false) in record { w_len = r.0; w_value = r.1 }
+commit-requires c = lent_sound c.args.memory.now (sym c.sound_memory.ensures ∙ c.if-not-sound_memory.false) (rw c.unwrap-w.ensures at c.first_chunk_mut.ensures.cases).same
 
 pub returns : goal.returns
-returns c = on_memory c.args.memory.now (Commit c.args.change) (sym c.sound_memory.ensures ∙ c.if-not-sound_memory.false) _ _ c.commit.ensures
+returns c = let s = c in rw c.from-2.ensures (stepped s.args.memory.now (Commit s.args.change) (sym s.sound_memory.ensures ∙ s.if-not-sound_memory.false) _ (rw c.unwrap-w.ensures at c.first_chunk_mut.ensures.cases).same _ _ c.commit.ensures)

@@ -3,17 +3,17 @@ use mathlib.Core.Path.{refl, sym, ◌∙◌}
 use Rattle.rules.specs.Calls.{Status}
 use Rattle.rules.specs.Events.{action_of, is_opening, is_open}
 use Rattle.replies.proofs.GiveLaws.{unsound}
-use Rattle.calls.proofs.LentLaws.{lent_room, lent_window, looked_at}
+use Rattle.calls.proofs.LentLaws.{lent_room, lent_sound, looked_at}
 use Rattle.calls.proofs.status.Goals as goal
 
 pub returns-then-not-sound_memory : goal.returns-then-not-sound_memory
-returns-then-not-sound_memory c = unsound c.args.memory.now (Status c.args.change) (sym c.sound_memory.ensures ∙ c.if-not-sound_memory.true) (unfold is_open action_of is_opening in refl) _ c.unchanged.ensures
+returns-then-not-sound_memory c = rw c.from.ensures (unsound c.args.memory.now (Status c.args.change) (sym c.sound_memory.ensures ∙ c.if-not-sound_memory.true) (unfold is_open action_of is_opening in refl))
 
-pub slice_bounds-status-end : goal.slice_bounds-status-end
-slice_bounds-status-end c = lent_room c.args.memory.now (sym c.sound_memory.ensures ∙ c.if-not-sound_memory.false)
+pub unwrap-bytes-requires : goal.unwrap-bytes-requires
+unwrap-bytes-requires c = c.first_chunk.ensures.variant.1 (lent_room c.args.memory.now (sym c.sound_memory.ensures ∙ c.if-not-sound_memory.false))
 
-pub status-requires : goal.status-requires
-status-requires c = let r = lent_window c.args.memory.now (sym c.sound_memory.ensures ∙ c.if-not-sound_memory.false) in record { w_len = r.0; w_value = r.1 }
+pub invariant_of-status : goal.invariant_of-status
+invariant_of-status c = record { sound = lent_sound c.args.memory.now (sym c.sound_memory.ensures ∙ c.if-not-sound_memory.false) (rw c.unwrap-bytes.ensures at c.first_chunk.ensures.cases).same }
 
 pub returns : goal.returns
-returns c = looked_at c.args.memory.now (Status c.args.change) (sym c.sound_memory.ensures ∙ c.if-not-sound_memory.false) _ c.status.ensures
+returns c = let s = c in rw c.from-2.ensures (looked_at s.args.memory.now (Status s.args.change) (sym s.sound_memory.ensures ∙ s.if-not-sound_memory.false) _ (rw c.unwrap-bytes.ensures at c.first_chunk.ensures.cases).same c.status.ensures)

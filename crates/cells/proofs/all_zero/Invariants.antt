@@ -7,7 +7,4 @@ use Rattle.cells.specs.Part.{byte_is}
 use Rattle.cells.proofs.all_zero.Given as goal
 
 abbrev pub invariant-loop-i : goal.invariant-loop-i
-invariant-loop-i l = (l.from ≤ l.i) × (l.i ≤ l.to) × (all_below (l.i - l.from) (byte_is l.s l.from 0) ≡ true)
-
-abbrev pub decreases-loop-i : goal.decreases-loop-i
-decreases-loop-i l = l.to - l.i
+invariant-loop-i l = (l.from ≤ l.i) × (all_below (l.i - l.from) (byte_is l.s l.from 0) ≡ true)

@@ -1,11 +1,11 @@
 -- `cells::read_u32` meets its contract. Assumes nothing.
 use mathlib.Core.Path.{◌∙◌}
 use native.Mathlib.Omega.{arith}
+use borrow.Author.Rules.{rules}
 use Rattle.cells.specs.Num.{num}
 use Rattle.cells.proofs.NumLaws.{part4}
-use borrow.Author.Rules.{rules}
 use Rattle.cells.proofs.read_u32.Goals as goal
 
 pub returns : goal.returns
 unfolding num
-returns c = let a = c.args in c.join4.ensures ∙ rw (part4 a.s.now a.at (search rules)) (omega arith)
+returns c = let a = c.args in c.from_le_bytes.ensures ∙ rw (c.bytes_at-bytes.ensures, part4 a.s.now a.at (search rules)) (omega arith)

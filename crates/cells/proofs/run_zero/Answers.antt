@@ -1,19 +1,22 @@
--- `cells::run_zero` meets its contract: the or of i bytes is 0 where they all are. Assumes nothing.
+-- `cells::run_zero` meets its contract: the or of the bytes so far is 0 where they all are. Assumes nothing.
 use mathlib.Core.Path.{◌≡◌, refl, ◌∙◌}
+use Prim.Native.Nat.{◌+◌}
 use native.Mathlib.Omega.{arith}
-use borrow.Author.Rules.{rules}
+use Rattle.std.proofs.lemmas.List.Edits.{length-between, get_or-between}
 use Rattle.rules.specs.Base.{all_below}
 use Rattle.cells.proofs.ZeroLaws.{zero_more}
 use Rattle.cells.proofs.run_zero.Goals as goal
 
-pub loop-i-init : goal.loop-i-init
+pub loop-byte-init : goal.loop-byte-init
 unfolding all_below
-loop-i-init c = (search rules, refl)
+loop-byte-init c = refl
 
-pub loop-i-preserved : goal.loop-i-preserved
-loop-i-preserved c = let l = c.loop-i in let a = c.args in
-    (search rules, zero_more a.s.now a.at l.i l.acc l.invariant.1)
+pub loop-byte-preserved : goal.loop-byte-preserved
+loop-byte-preserved c = let l = c.loop-byte in let a = c.args in
+    let size = length-between a.s.now a.at (a.at + a.n) c.requires in
+    rw (get_or-between a.s.now a.at (a.at + a.n) l.byte-index 0 (omega arith)) (zero_more a.s.now a.at l.byte-index l.acc l.invariant)
 
 pub returns : goal.returns
-returns c = let l = c.loop-i in
-    let done : l.i ≡ c.args.n = omega arith in l.invariant.1 ∙ rw done
+returns c = let l = c.loop-byte in let a = c.args in
+    let size = length-between a.s.now a.at (a.at + a.n) c.requires in
+    let done : l.byte-index ≡ a.n = omega arith in l.invariant ∙ rw done

@@ -1,25 +1,20 @@
 -- `change_log::hand_over` meets its contract: the records before the next went over. Assumes nothing.
 use mathlib.Core.Path.{◌≡◌, ap, ◌∙◌}
 use native.Mathlib.Omega.{arith}
-use borrow.Author.Rules.{rules}
 use Rattle.rules.specs.Effects.{moved_record}
 use Rattle.layout.specs.Codec.{log_section}
-use Rattle.sets.specs.Entries.{on_entries}
+use Rattle.scope.specs.Entries.{entries_of}
 use Rattle.change_log.proofs.MoveLaws.{first_none, first_turn, first-all}
 use Rattle.change_log.proofs.hand_over.Goals as goal
 
 pub loop-next-init : goal.loop-next-init
-loop-next-init c = let a = c.args in
-    (search rules, c.requires.log_len, λ l e q. q ∙ ap log_section (first_none (moved_record a.from a.to (on_entries a.every a.entry)) l))
+loop-next-init c = let o = c.args.over in λ l e q. q ∙ ap log_section (first_none (moved_record o.from o.to (entries_of o.scope)) l)
 
 pub loop-next-preserved : goal.loop-next-preserved
-loop-next-preserved c = let a = c.args in let l = c.loop-next in (
-  search rules,
-  search rules,
-  λ r e q. first_turn (moved_record a.from a.to (on_entries a.every a.entry)) l.next r l.log _ (omega arith) (l.invariant.2 r e q) c.hand_record.ensures,
-)
+loop-next-preserved c = let o = c.args.over in let l = c.loop-next in
+    λ r e q. first_turn (moved_record o.from o.to (entries_of o.scope)) l.next r l.log _ (omega arith) (l.invariant r e q) c.hand_record.ensures
 
 pub returns : goal.returns
 returns c = let s = c in let a = s.args in let l = c.loop-next in
     let done : l.next ≡ a.count = omega arith in
-    λ r e q. l.invariant.2 r e q ∙ ap log_section (rw done (first-all a.from a.to (on_entries a.every a.entry) r a.count e))
+    λ r e q. l.invariant r e q ∙ ap log_section (rw done (first-all a.over.from a.over.to (entries_of a.over.scope) r a.count e))

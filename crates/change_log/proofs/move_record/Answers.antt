@@ -1,30 +1,14 @@
--- `change_log::move_record` meets its contract: six stores of what was read. Assumes nothing.
-use mathlib.Core.Path.{◌∙◌, ap, sym}
+-- `change_log::move_record` meets its contract: the bytes are read, and put in the other place. Assumes nothing.
+use mathlib.Core.Path.{◌∙◌}
 use Prim.Native.Nat.{◌*◌}
 use native.Mathlib.Omega.{arith}
-use lib.ListN.{length-set}
-use Rattle.cells.specs.Part.{patch}
-use Rattle.change_log.proofs.DropLaws.{record_bytes_lem, record_stores}
+use borrow.Author.Rules.{rules}
+use Rattle.cells.specs.Part.{part}
+use Rattle.cells.proofs.PartLaws.{put_mid-patch, length_part}
 use Rattle.change_log.proofs.move_record.Goals as goal
 
 pub returns : goal.returns
+unfolding part
 returns c = let a = c.args in
-    record_stores a.log.now (a.j * 6) _ _ _ _ _ _ (omega arith) ∙ ap (patch a.log.now (a.j * 6)) (sym (record_bytes_lem a.log.now (a.i * 6) (omega arith)))
-
-pub bounds-log-to-2 : goal.bounds-log-to-2
-bounds-log-to-2 c = simp length-set (omega arith)
-
-pub bounds-log-to-3 : goal.bounds-log-to-3
-bounds-log-to-3 c = simp length-set (omega arith)
-
-pub bounds-log-to-4 : goal.bounds-log-to-4
-bounds-log-to-4 c = simp length-set (omega arith)
-
-pub bounds-log-to-5 : goal.bounds-log-to-5
-bounds-log-to-5 c = simp length-set (omega arith)
-
-pub bounds-log-to-6 : goal.bounds-log-to-6
-bounds-log-to-6 c = simp length-set (omega arith)
-
-pub shape_of-log : goal.shape_of-log
-shape_of-log c = simp length-set
+    let l = a.log.now in
+    put_mid-patch (a.j * 6) _ l (part l (a.i * 6) 6) _ (c.copy_from_slice-2.ensures.after ∙ (search rules)) (length_part l (a.i * 6) 6 c.requires.i_in_bounds ∙ omega arith)

@@ -1,7 +1,7 @@
 -- `change_log::withdraw` meets its contract: of the records read, those left are closed up, and the values and the entries undone are what they make of them. Assumes nothing.
 use mathlib.Core.Path.{◌≡◌}
 use mathlib.Core.List.{List}
-use Prim.Native.Nat.{ℕ, ◌-◌, ◌^◌, ◌≤◌, ◌<◌}
+use Prim.Native.Nat.{ℕ, ◌^◌, ◌≤◌, ◌<◌}
 use lib.ListN.{length, take, get_or}
 use Rattle.rules.specs.Window.{LogRecord}
 use Rattle.rules.specs.Effects.{undo}
@@ -11,9 +11,6 @@ use Rattle.change_log.proofs.WithdrawLaws.{Withdrawing}
 use Rattle.change_log.proofs.withdraw.Given as goal
 
 abbrev pub invariant-loop-at : goal.invariant-loop-at
-invariant-loop-at l = (l.at ≤ l.count) × (l.left ≤ l.at) × (length l.values ≡ 1024) × (length l.log ≡ 12288) × (length l.undone ≡ 4)
+invariant-loop-at l = (l.left ≤ l.at)
     × ((r : List LogRecord) → length r ≡ l.count → l.initial.log ≡ log_section r → Withdrawing (words_have l.words) r (words_have l.undone) l.log l.at l.left)
     × ((v : ℕ → ℕ) (r : List LogRecord) → length r ≡ l.count → ((k : ℕ) → (get_or r k no_record).before < 2 ^ 32) → l.initial.values ≡ value_section v → l.initial.log ≡ log_section r → l.values ≡ value_section (undo (words_have l.words) (take l.at r) v))
-
-abbrev pub decreases-loop-at : goal.decreases-loop-at
-decreases-loop-at l = l.count - l.at

@@ -1,11 +1,11 @@
--- `clashes::entry_permitted` meets its contract: the part lent is the entry's own permits, and what is found of them is what is asked of the entry. Assumes nothing.
+-- `clashes::entry_permitted` meets its contract: what is found of the entry's own permits is what is asked of the entry. Assumes nothing.
+use Rattle.std.proofs.Common.{length}
+use Rattle.few_permits.specs.Rows.{permit_row}
 use Rattle.clashes.proofs.ClashLaws.{entry_found}
 use Rattle.clashes.proofs.entry_permitted.Goals as goal
 
-pub returns-then-count-lt-BLOCK : goal.returns-then-count-lt-BLOCK
-returns-then-count-lt-BLOCK c held e = let a = c.args in
-    entry_found a.permits.now a.from a.to (c.readers-readers.ensures held e) (c.writers-writers.ensures held e) c.few_permitted.ensures
+pub returns-then-few : goal.returns-then-few
+returns-then-few c held e = let p = c.args.permits.now in entry_found (length p) (permit_row p) (c.readers-readers.ensures held e) (c.writers-writers.ensures held e) c.few_fit.ensures
 
 pub returns : goal.returns
-returns c held e = let a = c.args in
-    entry_found a.permits.now a.from a.to (c.readers-readers.ensures held e) (c.writers-writers.ensures held e) c.many_permitted.ensures
+returns c held e = let p = c.args.permits.now in entry_found (length p) (permit_row p) (c.readers-readers.ensures held e) (c.writers-writers.ensures held e) c.many_fit.ensures

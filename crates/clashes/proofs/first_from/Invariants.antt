@@ -1,11 +1,8 @@
--- `clashes::first_from` meets its contract: the permits passed over are of lower entries. The measure is how many are left. Assumes nothing.
-use Prim.Native.Nat.{◌≤◌, ◌-◌}
-use Rattle.beside.proofs.PlaceLaws.{Skipped}
+-- `clashes::first_from` meets its contract: the permits passed over are of lower entries. Assumes nothing.
+use Rattle.std.proofs.Common.{◌≡◌, false, ℕ, ◌≤◌, ◌<◌}
+use Rattle.few_permits.specs.Rows.{permit_row}
 use Rattle.clashes.specs.Permits.{from_entry}
 use Rattle.clashes.proofs.first_from.Given as goal
 
-abbrev pub invariant-loop-j : goal.invariant-loop-j
-invariant-loop-j l = (l.start ≤ l.j) × (l.j ≤ l.count) × Skipped (from_entry l.entry) l.permits l.start l.j
-
-abbrev pub decreases-loop-j : goal.decreases-loop-j
-decreases-loop-j l = l.count - l.j
+abbrev pub invariant-loop-place : goal.invariant-loop-place
+invariant-loop-place l = (j : ℕ) → l.start ≤ j → j < l.place → from_entry l.entry (permit_row l.permits j) ≡ false

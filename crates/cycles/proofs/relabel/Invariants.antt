@@ -1,12 +1,7 @@
--- `cycles::relabel` meets its contract: after k turns the first k labels are renewed. Assumes nothing.
-use Prim.Native.Nat.{◌-◌, ◌≤◌}
-use lib.ListN.{get_or}
+-- `cycles::relabel` meets its contract: the labels before the place are renewed. Assumes nothing.
+use Rattle.std.proofs.Common.{◌≡◌, map, ◌++◌, take, drop}
 use Rattle.cycles.specs.Graph.{instead}
-use Rattle.cycles.proofs.LoopLaws.{Filled}
 use Rattle.cycles.proofs.relabel.Given as goal
 
-abbrev pub invariant-loop-k : goal.invariant-loop-k
-invariant-loop-k l = (l.k ≤ 256) × Filled (λ i. instead l.old l.new (get_or l.initial.labels i 0)) l.initial.labels l.labels l.k
-
-abbrev pub decreases-loop-k : goal.decreases-loop-k
-decreases-loop-k l = 256 - l.k
+abbrev pub invariant-loop-label : goal.invariant-loop-label
+invariant-loop-label l = l.labels ≡ map (instead l.old l.new) (take l.label-index l.initial.labels) ++ drop l.label-index l.initial.labels

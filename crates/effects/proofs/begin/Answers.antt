@@ -7,7 +7,7 @@ use Rattle.effects.proofs.begin.Goals as goal
 
 pub set_status-requires : goal.set_status-requires
 unfolding checks ◌if◌
-set_status-requires c = let s = c in record { w_len = s.requires.w_len; w_value = s.requires.w_value; change_value = (unrefused _ (Begin _) s.requires.change_value).0 }
+set_status-requires c = let s = c in record { w_value = s.requires.w_value; change_value = (unrefused _ (Begin _) s.requires.change_value).0 }
 
 pub returns : goal.returns
 unfolding effect

@@ -1,5 +1,4 @@
 -- `effects::complete` meets its contract: the change leaves its line, and the bytes are sound again before its status is stored. Assumes nothing.
-use mathlib.Core.Path.{◌∙◌}
 use Rattle.rules.specs.Calls.{Complete}
 use Rattle.rules.specs.Refusals.{◌if◌, checks}
 use Rattle.replies.proofs.GiveLaws.{unrefused}
@@ -8,13 +7,13 @@ use Rattle.effects.proofs.complete.Goals as goal
 
 pub leave_line-requires : goal.leave_line-requires
 unfolding checks ◌if◌
-leave_line-requires c = let s = c in record { w_len = s.requires.w_len; w_value = s.requires.w_value; change_value = (unrefused _ (Complete _) s.requires.change_value).0 }
+leave_line-requires c = let s = c in record { w_value = s.requires.w_value; change_value = (unrefused _ (Complete _) s.requires.change_value).0 }
 
 pub set_status-requires : goal.set_status-requires
 unfolding checks ◌if◌
 set_status-requires c = let s = c in
     let l = c.leave_line in
-    let a = s.args in record { w_len = l.auto.w ∙ s.requires.w_len; w_value = left_bytes a.w.now s.requires.w_value a.change _ l.ensures; change_value = left_given a.w.now s.requires.w_value a.change _ l.ensures (unrefused _ (Complete _) s.requires.change_value).0 }
+    let a = s.args in record { w_value = left_bytes a.w.now s.requires.w_value a.change _ l.ensures; change_value = left_given a.w.now s.requires.w_value a.change _ l.ensures (unrefused _ (Complete _) s.requires.change_value).0 }
 
 pub returns : goal.returns
 returns c = let s = c in

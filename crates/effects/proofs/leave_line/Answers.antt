@@ -13,7 +13,7 @@ returns c = let s = c in
     let w = s.args.w.now in
     let count = c.waiters-count in
     let left = c.leave-left in
-    line_back (decode w) (sym (bytes_again w s.requires.w_value)) (left.ensures.tabled (decode w).line (sym count.ensures.value)) c.store_figure.ensures
+    line_back (decode w) (sym (bytes_again w s.requires.w_value)) (left.ensures.tabled (decode w).line (sym count.ensures.value)) c.store.ensures
 
 pub overflow_cast-change : goal.overflow_cast-change
 overflow_cast-change c = record { fits = change_fits_lem _ (bytes-sound c.args.w.now c.requires.w_value) c.args.change c.requires.change_value }

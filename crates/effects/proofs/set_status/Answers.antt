@@ -1,5 +1,4 @@
 -- `effects::set_status` meets its contract. Assumes nothing.
-use lib.Dec.{lit≤}
 use Rattle.layout.proofs.MemoryLaws.{bytes-sound}
 use Rattle.reads.proofs.ReadLaws.{change_fits_lem}
 use Rattle.effects.proofs.EffectLaws.{status-given}
@@ -7,15 +6,6 @@ use Rattle.effects.proofs.set_status.Goals as goal
 
 pub returns : goal.returns
 returns c = let s = c in status-given s.args.w.now s.requires.w_value c.done.result s.args.change s.args.s _ c.store_status.ensures c.done.ensures
-
-pub slice_bounds-store_status-count : goal.slice_bounds-store_status-count
-slice_bounds-store_status-count c = lit≤ tt
-
-pub slice_bounds-store_status-start : goal.slice_bounds-store_status-start
-slice_bounds-store_status-start c = lit≤ tt
-
-pub done-requires : goal.done-requires
-done-requires c = tt
 
 pub overflow_cast-change : goal.overflow_cast-change
 overflow_cast-change c = record { fits = change_fits_lem _ (bytes-sound c.args.w.now c.requires.w_value) c.args.change c.requires.change_value }

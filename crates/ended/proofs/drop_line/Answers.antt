@@ -5,4 +5,4 @@ use Rattle.ended.proofs.drop_line.Goals as goal
 
 pub returns : goal.returns
 returns c = let left = c.drop_all-left in
-    λ W n e. line_back W e (left.ensures.tabled W.line (sym n)) c.store_figure.ensures
+    λ W n e. line_back W e (left.ensures.tabled W.line (sym n)) c.store.ensures

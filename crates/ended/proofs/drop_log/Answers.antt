@@ -13,7 +13,7 @@ returns c = let s = c in
     let w = s.args.w.now in
     let count = c.records-count in
     let left = c.drop_owned-left in
-    let is = log_back (decode w) (sym (bytes_again w s.requires.w_value)) (left.ensures (decode w).log (sym count.ensures.value)) c.store_figure.ensures in record { w_after = is; w_after_2 = dropped w s.requires.w_value (members s.args.ended) is }
+    let is = log_back (decode w) (sym (bytes_again w s.requires.w_value)) (left.ensures (decode w).log (sym count.ensures.value)) c.store.ensures in record { w_after = is; w_after_2 = dropped w s.requires.w_value (members s.args.ended) is }
 
 pub overflow_cast-left : goal.overflow_cast-left
 overflow_cast-left c =

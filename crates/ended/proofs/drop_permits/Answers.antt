@@ -5,4 +5,4 @@ use Rattle.ended.proofs.drop_permits.Goals as goal
 
 pub returns : goal.returns
 returns c = let left = c.drop_ended-left in
-    λ W n e. permits_back W e (left.ensures.tabled W.permits (sym n)) c.store_figure.ensures
+    λ W n e. permits_back W e (left.ensures.tabled W.permits (sym n)) c.store.ensures

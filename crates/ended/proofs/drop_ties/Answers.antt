@@ -5,4 +5,4 @@ use Rattle.ended.proofs.drop_ties.Goals as goal
 
 pub returns : goal.returns
 returns c = let left = c.drop_ended-left in
-    λ W n e. ties_back W e (left.ensures.tabled W.ties (sym n)) c.store_figure.ensures
+    λ W n e. ties_back W e (left.ensures.tabled W.ties (sym n)) c.store.ensures

@@ -13,19 +13,19 @@ use Rattle.reads.proofs.ReadLaws.{change_fits_lem}
 use Rattle.endings.proofs.CallLaws.{ended_so, ended_else, end_set_read, abort-done}
 use Rattle.endings.proofs.abort.Goals as goal
 
-pub returns-then-status-eq5 : goal.returns-then-status-eq5
+pub returns-then-status : goal.returns-then-status
 unfolding effect abort_change
-returns-then-status-eq5 c = let status = c.status-status in
-    ended_so c.args.w.now c.args.change status.result status.ensures 5 4 _ c.requires.w_value c.if-status-eq5.true c.done.result c.done.ensures
+returns-then-status c = let status = c.status-status in
+    ended_so c.args.w.now c.args.change status.result status.ensures 5 4 _ c.requires.w_value c.if-status.true c.done.result c.done.ensures
 
-pub returns-then-status-eq4 : goal.returns-then-status-eq4
+pub returns-then-status-2 : goal.returns-then-status-2
 unfolding effect abort_change
-returns-then-status-eq4 c = let status = c.status-status in
-    ended_else c.args.w.now c.args.change status.result status.ensures 5 4 _ c.requires.w_value c.if-status-eq5.false c.if-status-eq4.true c.unchanged.result c.unchanged.ensures
+returns-then-status-2 c = let status = c.status-status in
+    ended_else c.args.w.now c.args.change status.result status.ensures 5 4 _ c.requires.w_value c.if-status.false c.if-status-2.true c.unchanged.result c.unchanged.ensures
 
 pub end_set-ended-requires : goal.end_set-ended-requires
 unfolding part
-end_set-ended-requires c = omega (arith, length_part c.args.w.now ties_at ties_size (omega (arith, c.requires.w_len)), c.ties-ties.ensures.upper_bound)
+end_set-ended-requires c = omega (arith, length_part c.args.w.now ties_at ties_size (omega arith), c.ties-ties.ensures.upper_bound)
 
 pub returns : goal.returns
 returns c = let w = c.args.w.now in
@@ -33,7 +33,7 @@ returns c = let w = c.args.w.now in
     let ties = c.ties-ties in
     let ended = c.end_set-ended in
     let count = c.count in
-    abort-done w c.requires.w_value c.args.change status.result c.requires.change_value status.ensures c.if-status-eq5.false c.if-status-eq4.false
+    abort-done w c.requires.w_value c.args.change status.result c.requires.change_value status.ensures c.if-status.false c.if-status-2.false
     (members ended.result) (end_set_read w c.requires.w_value c.args.change ties.result ties.ensures.value (members ended.result) ended.ensures)
     count.result count.ensures c.done-2.result c.done-2.ensures _ c.abort_all.ensures
 

@@ -1,17 +1,13 @@
--- `few_permits::note_all` meets its contract: after j permits, those whom one of the first j lets stand beside the writer are noted. The measure is how many permits are left. Assumes nothing.
+-- `few_permits::note_all` meets its contract: after some of the permits, those whom one of them lets stand beside the writer are noted. Assumes nothing.
 use mathlib.Core.Path.{◌≡◌}
 use mathlib.Core.Logic.{◌≢◌}
 use mathlib.Core.Bool.{◌||◌}
-use Prim.Native.Nat.{ℕ, ◌≤◌, ◌-◌}
-use lib.ListN.{length}
-use Rattle.words.specs.Members.{words_have}
-use Rattle.layout.specs.Records.{permit_at}
+use Prim.Native.Nat.{ℕ}
+use Rattle.sets.specs.Members.{members}
 use Rattle.beside.specs.Permits.{any_of}
 use Rattle.beside.specs.Beside.{beside}
+use Rattle.few_permits.specs.Rows.{permit_row}
 use Rattle.few_permits.proofs.note_all.Given as goal
 
-abbrev pub invariant-loop-j : goal.invariant-loop-j
-invariant-loop-j l = (l.j ≤ l.count) × (length l.noted ≡ 4) × ((k : ℕ) → k ≢ l.writer → words_have l.noted k ≡ words_have l.initial.noted k || any_of l.j (permit_at l.permits) (beside (words_have l.readers) (words_have l.writers) l.writer k))
-
-abbrev pub decreases-loop-j : goal.decreases-loop-j
-decreases-loop-j l = l.count - l.j
+abbrev pub invariant-loop-permit : goal.invariant-loop-permit
+invariant-loop-permit l = (k : ℕ) → k ≢ l.writer → members l.noted k ≡ members l.initial.noted k || any_of l.permit-index (permit_row l.permits) (beside (members l.holders.readers) (members l.holders.writers) l.writer k)

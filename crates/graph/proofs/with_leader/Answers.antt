@@ -9,5 +9,5 @@ use Rattle.graph.proofs.with_leader.Goals as goal
 
 pub returns : goal.returns
 returns c k = let a = c.args in
-    c.add_if.ensures k ∙ ap (λ (b : Bool). members a.s k || b)
+    c.add_if.ensures k ∙ ap (λ (b : Bool). members a.found k || b)
     (ap (λ (t : Bool). eqb a.leader k && t) (ap₂ ◌&&◌ c.is_arrow.ensures c.has.ensures) ∙ leads_where (tie_of a.kind a.leader a.follower) (members a.followers) k)

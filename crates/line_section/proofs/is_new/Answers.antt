@@ -6,6 +6,5 @@ use Rattle.line_section.proofs.is_new.Goals as goal
 pub returns : goal.returns
 returns c = record {
   value = ap (λ (x : Bool). not x) c.among-new.ensures;
-  seen_len = c.insert.ensures.words_len;
   by_index = c.insert.ensures.by_index;
 }

@@ -15,7 +15,7 @@ returns c = let s = c in
     let w = s.args.w.now in
     let count = c.waiters-count in
     let enter = c.enter-standing in
-    line_back (decode w) (sym (bytes_again w s.requires.w_value)) (enter.ensures.tabled (decode w).line (sym count.ensures.value)) c.store_figure.ensures
+    line_back (decode w) (sym (bytes_again w s.requires.w_value)) (enter.ensures.tabled (decode w).line (sym count.ensures.value)) c.store.ensures
 
 pub overflow_cast-change : goal.overflow_cast-change
 overflow_cast-change c = record { fits = (lock_known c.args.w.now c.requires.w_value c.args.change c.args.entry c.args.mode c.requires.mode_value).0 }

@@ -1,22 +1,33 @@
 -- `locking::in_the_way` meets its contract: a holder, nobody, or who is first in line. Assumes nothing.
+use mathlib.Core.Path.{refl, sym, ◌∙◌}
+use native.Mathlib.Omega.{arith}
 use Rattle.layout.specs.Codec.{decode}
 use Rattle.locking.proofs.ArgumentLaws.{lock_named}
-use Rattle.locking.proofs.OutcomeLaws.{way_held, way_own, way_first}
+use Rattle.locking.proofs.OutcomeLaws.{way_held, way_own, way_first, way_none}
 use Rattle.locking.proofs.in_the_way.Goals as goal
 
-pub returns-then-own : goal.returns-then-own
-returns-then-own c = let s = c in let a = s.args in
-    way_own (decode a.w.now) a.change a.entry a.mode _ c.lock_blocker-holder.ensures c.if-found.false _ c.first_in_line-first.ensures c.if-own.true
+pub returns-in-Some : goal.returns-in-Some
+returns-in-Some c = let a = c.args in
+    let found = c.lock_blocker.ensures in
+    let higher = rw c.in-Some.is at found.numbered in
+    record { lowest = way_held (decode a.view.bytes.now) a.change a.entry a.mode c.in-Some.holder (rw c.in-Some.is at found.lowest) (λ z. omega arith); numbered = higher }
 
-pub returns-then-found : goal.returns-then-found
-returns-then-found c = let s = c in let a = s.args in way_held (decode a.w.now) a.change a.entry a.mode _ c.lock_blocker-holder.ensures c.if-found.true
+pub first_in_line-requires : goal.first_in_line-requires
+first_in_line-requires c = let a = c.args in record { entry_value = (lock_named a.view.bytes.now a.view.sound a.change a.entry a.mode c.requires.mode_value).1 }
 
-pub first_in_line-first-requires : goal.first_in_line-first-requires
-first_in_line-first-requires c = let s = c in let a = s.args in record { w_len = s.requires.w_len; w_value = s.requires.w_value; e_value = (lock_named a.w.now s.requires.w_value a.change a.entry a.mode s.requires.mode_value).1 }
+pub returns-in_err-first-clause-lowest : goal.returns-in_err-first-clause-lowest
+returns-in_err-first-clause-lowest c = let a = c.args in
+    let none = c.from_residual.ensures in
+    rw none (way_none (decode a.view.bytes.now) a.change a.entry a.mode 0 (rw c.in_default.is at c.lock_blocker.ensures.lowest) refl 0 c.in_err-first.ensures refl)
 
-pub returns : goal.returns
-returns c = let s = c in let a = s.args in
-    way_first (decode a.w.now) a.change a.entry a.mode _ c.lock_blocker-holder.ensures c.if-found.false _ c.first_in_line-first.ensures c.if-own.false
+pub returns-then-first-eq0-clause-lowest : goal.returns-then-first-eq0-clause-lowest
+returns-then-first-eq0-clause-lowest c = let a = c.args in
+    way_none (decode a.view.bytes.now) a.change a.entry a.mode 0 (rw c.in_default.is at c.lock_blocker.ensures.lowest) refl c.in_ok-first.first c.in_ok-first.ensures c.if-first-eq0.true
 
-pub lock_blocker-holder-requires : goal.lock_blocker-holder-requires
-lock_blocker-holder-requires c = c.requires
+pub returns-then-own-clause-lowest : goal.returns-then-own-clause-lowest
+returns-then-own-clause-lowest c = let a = c.args in
+    way_own (decode a.view.bytes.now) a.change a.entry a.mode 0 (rw c.in_default.is at c.lock_blocker.ensures.lowest) refl c.in_ok-first.first c.in_ok-first.ensures (sym c.from.ensures ∙ c.if-own.true)
+
+pub returns-clause-lowest : goal.returns-clause-lowest
+returns-clause-lowest c = let a = c.args in
+    way_first (decode a.view.bytes.now) a.change a.entry a.mode 0 (rw c.in_default.is at c.lock_blocker.ensures.lowest) refl c.in_ok-first.first c.in_ok-first.ensures (λ e. c.if-own.false (c.from.ensures ∙ e))

@@ -10,4 +10,4 @@ returns-then-mode-write c held modes p e k = c.holders.ensures held modes e k �
 
 pub returns-else-mode-write : goal.returns-else-mode-write
 unfolding Modes
-returns-else-mode-write c held modes p e k = c.writers.ensures held e k ∙ row-clashing_other (held c.args.entry) (modes c.args.entry) c.args.mode p c.if-mode-write.false k
+returns-else-mode-write c held modes p e k = c.held_in.ensures held e k ∙ row-clashing_other (held c.args.entry) (modes c.args.entry) c.args.mode p c.if-mode-write.false k

@@ -8,5 +8,5 @@ use Rattle.locks.proofs.grant.Goals as goal
 pub returns : goal.returns
 returns c held e = let a = c.args in
     c.store.ensures held (put (held a.entry) a.change a.mode) e
-    (c.with_mode-after.ensures (held a.entry) (c.load-before.ensures held e))
+    (c.with_mode-after.ensures (held a.entry) a.mode c.of.ensures (c.load-before.ensures held e))
     ∙ ap lock_section (put2-row held a.entry a.change a.mode)

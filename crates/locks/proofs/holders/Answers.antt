@@ -6,4 +6,4 @@ use Rattle.locks.proofs.holders.Goals as goal
 
 pub returns : goal.returns
 unfolding Modes
-returns c held modes e k = c.unite.ensures k ∙ rw (c.readers-r.ensures held e k, c.writers-w.ensures held e k) (row_holders (held c.args.entry) (modes c.args.entry) k)
+returns c held modes e k = c.unite.ensures k ∙ rw (c.held_in.ensures held e k, c.held_in-2.ensures held e k) (row_holders (held c.args.entry) (modes c.args.entry) k)

@@ -1,4 +1,4 @@
--- `locks::release` meets its contract: the entries passed have lost the set's locks. The measure is how many are left. Assumes nothing.
+-- `locks::release` meets its contract: the entries passed have lost the set's locks. Assumes nothing.
 use mathlib.Core.Path.{refl, ◌∙◌, ap}
 use Prim.Native.Nat.{ℕ}
 use native.Mathlib.Omega.{arith}
@@ -22,20 +22,20 @@ returns-then-short c held none e = absurd (omega (arith, ap length e, length-loc
 
 pub loop-entry-init : goal.loop-entry-init
 loop-entry-init c = let a = c.args in
-    (omega arith, refl, walked_none Any (put_all (members a.ended) 0) a.locks.now)
+    (refl, walked_none Any (put_all (members a.ended) 0) a.locks.now)
 
 pub loop-entry-preserved : goal.loop-entry-preserved
 loop-entry-preserved c = let l = c.loop-entry in
     let a = c.args in
     let call = c.release_touched in
     let says = stored_loaded (members a.ended) _ _ (search rules) (search rules) c.store.ensures in
-    (omega arith, call.auto.locks ∙ l.invariant.1, walked_next Any (put_all (members a.ended) 0) a.locks.now _ _ l.entry (λ held g. tt) (λ held g. call.ensures held says) l.invariant.2)
+    (call.auto.locks ∙ l.invariant.0, walked_next Any (put_all (members a.ended) 0) a.locks.now _ _ l.entry (λ held g. tt) (λ held g. call.ensures held says) l.invariant.1)
 
 pub shape_of-locks : goal.shape_of-locks
-shape_of-locks c = c.loop-entry.invariant.1
+shape_of-locks c = c.loop-entry.invariant.0
 
 pub returns : goal.returns
 unfolding released changed_on everything put_all
 returns c held none e = let l = c.loop-entry in
     let a = c.args in
-    walked_all Any (put_all (members a.ended) 0) a.locks.now _ l.entry a.entries (omega arith) (without_empty (members a.ended)) l.invariant.2 held tt none e
+    walked_all Any (put_all (members a.ended) 0) a.locks.now _ l.entry a.entries (omega arith) (without_empty (members a.ended)) l.invariant.1 held tt none e

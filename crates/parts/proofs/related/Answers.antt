@@ -15,7 +15,7 @@ acyclic-requires c = omega (arith, c.requires)
 pub all_permitted-requires : goal.all_permitted-requires
 unfolding part
 all_permitted-requires c = let w = c.args.w.now in
-    let p = c.requires in record { locks_len = length_part w locks_at locks_size (omega (arith, p.w_len)); permits_len = length_part w permits_at permits_size (omega (arith, p.w_len)); entries_bound = p.entries_bound.0; count_bound = p.entries_bound.1 }
+    let p = c.requires in record { locks_len = length_part w locks_at locks_size (omega arith); permits_len = length_part w permits_at permits_size (omega arith); entries_bound = p.entries_bound.0; count_bound = p.entries_bound.1 }
 
 pub returns : goal.returns
 unfolding part

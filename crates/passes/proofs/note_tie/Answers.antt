@@ -1,29 +1,28 @@
 -- `passes::note_tie` meets its contract: by whether the tie is gone along, and whether it is a group's. Assumes nothing.
-use mathlib.Core.Path.{◌∙◌}
+use mathlib.Core.Path.{◌≡◌, sym, ◌∙◌}
+use mathlib.Core.Bool.{false, true≢false}
 use native.Mathlib.Omega.{arith}
+use Rattle.rules.specs.Ties.{is_group}
 use Rattle.rules.proofs.BaseLaws.{no_true}
-use Rattle.rules.proofs.TieLaws.{group_is, is_group_lem}
+use Rattle.rules.proofs.TieLaws.{is_group_lem}
 use Rattle.layout.specs.Records.{tie_of}
+use Rattle.passes.specs.Passes.{follows}
 use Rattle.passes.specs.TieRows.{row_has}
-use Rattle.passes.proofs.PassLaws.{follows_of, follows_low, follows_high}
+use Rattle.passes.proofs.PassLaws.{follows_of}
 use Rattle.passes.proofs.NoteLaws.{along_both, along_one, along_none}
 use Rattle.passes.proofs.note_tie.Goals as goal
 
-pub returns-then-kind-fall : goal.returns-then-kind-fall
-returns-then-kind-fall c x y = let a = c.args in
-    let n = c.note in
-    let m = c.note-then-kind-fall in
-    m.ensures x y ∙ rw (n.ensures x y) (along_both a.low (tie_of a.kind a.leader a.follower) x y (row_has a.rows.now x y) (follows_of a.low a.kind (omega arith) (omega arith)) (group_is a.kind (omega arith)))
+pub returns-then-is_group : goal.returns-then-is_group
+returns-then-is_group c x y = let a = c.args in let t = a.tie in
+    c.note-then-is_group.ensures x y ∙ rw (c.note.ensures x y) (along_both a.low (tie_of t.kind t.leader t.follower) x y (row_has a.rows.now x y) (sym c.follows.ensures ∙ c.if-follows.true) (sym c.is_group.ensures ∙ c.if-is_group.true))
 
-pub returns-else-kind-fall : goal.returns-else-kind-fall
-returns-else-kind-fall c x y = let a = c.args in
-    let n = c.note in
-    n.ensures x y ∙ along_one a.low (tie_of a.kind a.leader a.follower) x y (row_has a.rows.now x y) (follows_of a.low a.kind (omega arith) (omega arith)) (no_true _ (λ e. absurd (omega (arith, is_group_lem a.kind e))))
+pub returns-else-is_group : goal.returns-else-is_group
+returns-else-is_group c x y = let a = c.args in let t = a.tie in
+    c.note.ensures x y ∙ along_one a.low (tie_of t.kind t.leader t.follower) x y (row_has a.rows.now x y) (sym c.follows.ensures ∙ c.if-follows.true) (sym c.is_group.ensures ∙ c.if-is_group.false)
 
-pub returns-else-kind-le3 : goal.returns-else-kind-le3
-returns-else-kind-le3 c x y = let a = c.args in
-    along_none a.low (tie_of a.kind a.leader a.follower) x y (row_has a.rows.now x y) (no_true _ (λ e. absurd (omega (arith, follows_high a.low a.kind e)))) (no_true _ (λ e. absurd (omega (arith, is_group_lem a.kind e))))
-
-pub returns-else-low-kind : goal.returns-else-low-kind
-returns-else-low-kind c x y = let a = c.args in
-    along_none a.low (tie_of a.kind a.leader a.follower) x y (row_has a.rows.now x y) (no_true _ (λ e. absurd (omega (arith, follows_low a.low a.kind e)))) (no_true _ (λ e. absurd (omega (arith, is_group_lem a.kind e, c.requires.low_bound))))
+pub returns-else-follows : goal.returns-else-follows
+returns-else-follows c x y = let a = c.args in let t = a.tie in
+    let f : follows a.low t.kind ≡ false = sym c.follows.ensures ∙ c.if-follows.false in
+    let g : is_group t.kind ≡ false =
+    no_true _ (λ e. let k : t.kind ≡ 3 = is_group_lem t.kind e in true≢false (sym (follows_of a.low t.kind (omega (arith, c.requires)) (omega arith)) ∙ f)) in
+    along_none a.low (tie_of t.kind t.leader t.follower) x y (row_has a.rows.now x y) f g

@@ -1,13 +1,10 @@
--- `passes::note_ties` meets its contract: after some ties those are noted in the rows. The measure is what is left of the count. Assumes nothing.
+-- `passes::note_ties` meets its contract: after some ties those are noted in the rows. Assumes nothing.
 use mathlib.Core.Path.{◌≡◌}
 use mathlib.Core.Bool.{◌||◌}
-use Prim.Native.Nat.{ℕ, ◌-◌, ◌≤◌}
+use Prim.Native.Nat.{ℕ}
 use lib.ListN.{length}
 use Rattle.passes.specs.TieRows.{gone_in, row_has}
 use Rattle.passes.proofs.note_ties.Given as goal
 
 abbrev pub invariant-loop-next : goal.invariant-loop-next
-invariant-loop-next l = (l.next ≤ l.count) × (length l.rows ≡ 1024) × ((x y : ℕ) → row_has l.rows x y ≡ row_has l.initial.rows x y || gone_in l.low l.ties l.next x y)
-
-abbrev pub decreases-loop-next : goal.decreases-loop-next
-decreases-loop-next l = l.count - l.next
+invariant-loop-next l = (length l.rows ≡ 1024) × ((x y : ℕ) → row_has l.rows x y ≡ row_has l.initial.rows x y || gone_in l.low l.ties l.next x y)

@@ -9,7 +9,4 @@ use Rattle.permits.proofs.GiveLaws.{given}
 use Rattle.permits.proofs.give_all.Given as goal
 
 abbrev pub invariant-loop-i : goal.invariant-loop-i
-invariant-loop-i l = (l.i ≤ l.m) × (l.count ≤ 1024) × (length l.s ≡ length l.initial.s) × (rising row_key (rows l.n l.initial.s) ≡ true → l.n + l.m ≤ 1024 → Stored (given (rows l.n l.initial.s) l.moved l.m l.to l.i) l.initial.s l.count l.s)
-
-abbrev pub decreases-loop-i : goal.decreases-loop-i
-decreases-loop-i l = l.i
+invariant-loop-i l = (l.count ≤ 1024) × (length l.s ≡ length l.initial.s) × (rising row_key (rows l.n l.initial.s) ≡ true → l.n + l.m ≤ 1024 → Stored (given (rows l.n l.initial.s) l.moved l.m l.to l.i) l.initial.s l.count l.s)

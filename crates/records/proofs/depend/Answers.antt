@@ -15,11 +15,8 @@ overflow_cast-follower c = record { fits = (depend_known c.args.w.now c.requires
 
 pub enter_tie-requires : goal.enter_tie-requires
 enter_tie-requires c = let s = c in
-    let n = c.ties-before in record { w_len = s.requires.w_len; w_value = s.requires.w_value; before_value = n.ensures.value; before_bound = n.ensures.upper_bound; ties_value = (depend_known s.args.w.now s.requires.w_value s.args.kind s.args.leader s.args.follower s.requires.follower_value).3 }
+    let n = c.ties-before in record { w_value = s.requires.w_value; before_value = n.ensures.value; before_bound = n.ensures.upper_bound; ties_value = (depend_known s.args.w.now s.requires.w_value s.args.kind s.args.leader s.args.follower s.requires.follower_value).3 }
 
 pub returns : goal.returns
 unfolding effect
 returns c = given-done 0 _ c.done.result _ c.done.ensures c.enter_tie.ensures
-
-pub done-requires : goal.done-requires
-done-requires c = tt

@@ -18,11 +18,8 @@ overflow_cast-operations c = record { fits = (permit_known c.args.w.now c.requir
 
 pub enter_permit-requires : goal.enter_permit-requires
 enter_permit-requires c = let s = c in
-    let n = c.permits-before in record { w_len = s.requires.w_len; w_value = s.requires.w_value; before_value = n.ensures.value; before_bound = n.ensures.upper_bound; permits_value = (permit_known s.args.w.now s.requires.w_value s.args.giver s.args.taker s.args.entry s.args.operations s.requires.operations_value).4 }
+    let n = c.permits-before in record { w_value = s.requires.w_value; before_value = n.ensures.value; before_bound = n.ensures.upper_bound; permits_value = (permit_known s.args.w.now s.requires.w_value s.args.giver s.args.taker s.args.entry s.args.operations s.requires.operations_value).4 }
 
 pub returns : goal.returns
 unfolding effect
 returns c = given-done 0 _ c.done.result _ c.done.ensures c.enter_permit.ensures
-
-pub done-requires : goal.done-requires
-done-requires c = tt

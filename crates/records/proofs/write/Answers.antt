@@ -1,6 +1,5 @@
 -- `records::write` meets its contract. Assumes nothing.
 use native.Mathlib.Omega.{arith}
-use lib.Dec.{lit≤}
 use Rattle.records.proofs.ArgumentLaws.{write_known}
 use Rattle.records.proofs.RecordLaws.{write_given}
 use Rattle.records.proofs.write.Goals as goal
@@ -16,7 +15,7 @@ overflow_cast-entry-2 c = record { fits = (write_known c.args.w.now c.requires.w
 
 pub log_record-requires : goal.log_record-requires
 log_record-requires c = let d = c in
-    let n = c.records-count in record { w_len = d.requires.w_len; w_value = d.requires.w_value; count_value = n.ensures.value; count_bound = omega (arith, n.ensures.value, (write_known d.args.w.now d.requires.w_value d.args.change d.args.entry d.args.value d.requires.value_value).2) }
+    let n = c.records-count in record { w_value = d.requires.w_value; count_value = n.ensures.value; count_bound = omega (arith, n.ensures.value, (write_known d.args.w.now d.requires.w_value d.args.change d.args.entry d.args.value d.requires.value_value).2) }
 
 pub returns : goal.returns
 returns c = let d = c in
@@ -24,12 +23,3 @@ returns c = let d = c in
     let l = c.log_record in
     let x = c.store_value in
     write_given _ c.done.result d.args.change d.args.entry d.args.value v.result v.ensures l.ensures x.new.values x.ensures c.done.ensures
-
-pub slice_bounds-store_value-count : goal.slice_bounds-store_value-count
-slice_bounds-store_value-count c = lit≤ tt
-
-pub slice_bounds-store_value-start : goal.slice_bounds-store_value-start
-slice_bounds-store_value-start c = lit≤ tt
-
-pub done-requires : goal.done-requires
-done-requires c = tt

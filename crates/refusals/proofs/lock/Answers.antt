@@ -31,7 +31,7 @@ returns-then-not-is_running c = first
     (fails (ap not c.is_running.ensures) (ap not c.if-not-is_running.true)))))
 
 pub waits_elsewhere-elsewhere-requires : goal.waits_elsewhere-elsewhere-requires
-waits_elsewhere-elsewhere-requires c = record { w_len = c.requires.w_len; w_value = c.requires.w_value; c_value = sym c.no_change.ensures ∙ c.if-no_change.false; e_value = sym c.no_entry.ensures ∙ c.if-no_entry.false }
+waits_elsewhere-elsewhere-requires c = record { change_value = sym c.no_change.ensures ∙ c.if-no_change.false; entry_value = sym c.no_entry.ensures ∙ c.if-no_entry.false }
 
 pub returns-then-elsewhere : goal.returns-then-elsewhere
 unfolding checks ◌if◌

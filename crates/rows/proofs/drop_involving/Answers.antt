@@ -1,35 +1,12 @@
--- `rows::drop_involving` meets its contract: the rows that are spared are closed up. Assumes nothing.
-use mathlib.Core.Path.{◌≡◌, refl, ◌∙◌}
-use Prim.Native.Nat.{◌+◌}
-use native.Mathlib.Omega.{arith}
+-- `rows::drop_involving` meets its contract: the test answers whether a row is spared. Assumes nothing.
 use borrow.Author.Rules.{rules}
 use Rattle.words.specs.Members.{words_have}
 use Rattle.sets.specs.Members.{members}
-use Rattle.rows.specs.Rows.{spared}
-use Rattle.rows.proofs.CloseLaws.{Moved, moved_none, moved_next, moved_all}
+use Rattle.rows.specs.Rows.{row_bytes, spared}
+use Rattle.rows.proofs.CloseLaws.{retained_rows}
 use Rattle.rows.proofs.drop_involving.Goals as goal
 
-pub loop-i-init : goal.loop-i-init
-loop-i-init c = (search rules, search rules, refl, moved_none _ c.args.n c.args.s.now c.requires)
-
-pub loop-i-preserved : goal.loop-i-preserved
-loop-i-preserved c = let a = c.args in
-    let l = c.loop-i in
-    let t = c.apart-stays in
-    let k = c.keep_row-j in
-    let q = spared (words_have a.ended.words) in
-    let next : Moved q a.n a.s.now k.new.s (l.i + 1) k.result = rw (k.ensures.s_after, k.ensures.value) (moved_next q a.n a.s.now l.s l.i l.j l.invariant.3 (omega arith) t.result t.ensures (omega arith)) in
-    (omega arith, next.few, k.auto.s ∙ l.invariant.2, next)
-
-pub shape_of-s : goal.shape_of-s
-shape_of-s c = c.clear.auto.s ∙ c.loop-i.invariant.2
-
 pub returns : goal.returns
-unfolding members
-returns c = let s = c in
-    let a = s.args in
-    let l = c.loop-i in
-    let d = c.clear in
-    let q = spared (words_have a.ended.words) in
-    let done : l.i ≡ a.n = omega arith in
-    moved_all q a.n a.s.now l.s l.j (rw done at l.invariant.3) d.new.s d.ensures
+unfolding members spared row_bytes
+returns c = let a = c.args in
+    retained_rows _ _ (spared (words_have a.ended.words)) (λ x b p k. search rules) a.n a.s.now c.requires c.retain.result c.retain.new.s c.retain.ensures.retained

@@ -4,4 +4,4 @@ use Rattle.rows.proofs.key_at.Goals as goal
 
 pub returns : goal.returns
 unfolding rank row_at
-returns c = c.key.ensures
+returns c = c.rank.ensures

@@ -7,8 +7,8 @@ use Rattle.rows.proofs.stands_at.Goals as goal
 
 pub returns-then-at-n : goal.returns-then-at-n
 unfolding stands_at
-returns-then-at-n c = rw (le-ltb _ _ c.if-at-n.true)
+returns-then-at-n c = rw (lt-ltb _ _ c.if-at-n.true) (ap₂ eqb c.key_at.ensures c.rank.ensures)
 
-pub returns : goal.returns
+pub returns-else-at-n : goal.returns-else-at-n
 unfolding stands_at
-returns c = rw (lt-ltb _ _ c.if-at-n.false) (ap₂ eqb c.key_at.ensures c.key.ensures)
+returns-else-at-n c = rw (le-ltb _ _ c.if-at-n.false)

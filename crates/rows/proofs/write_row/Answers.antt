@@ -1,19 +1,11 @@
--- `rows::write_row` meets its contract: four stores. Assumes nothing.
-use native.Mathlib.Omega.{arith}
-use lib.ListN.{length-set}
-use Rattle.cells.proofs.NumLaws.{patch4}
-use Rattle.rows.specs.Rows.{row_bytes}
+-- `rows::write_row` meets its contract: std's copy into the four places. Assumes nothing.
+use mathlib.Core.Path.{sym, ap, ◌∙◌}
+use Prim.Native.Nat.{◌+◌}
+use lib.ListN.{length}
+use Rattle.std.proofs.lemmas.List.Edits.{length-between}
+use Rattle.cells.proofs.PartLaws.{put_mid-patch}
 use Rattle.rows.proofs.write_row.Goals as goal
 
 pub returns : goal.returns
-unfolding row_bytes
-returns c = patch4 _ _ _ _ _ _ c.requires
-
-pub bounds-s-at-2 : goal.bounds-s-at-2
-bounds-s-at-2 c = simp length-set (omega arith)
-
-pub bounds-s-at-3 : goal.bounds-s-at-3
-bounds-s-at-3 c = simp length-set (omega arith)
-
-pub bounds-s-at-4 : goal.bounds-s-at-4
-bounds-s-at-4 c = simp length-set (omega arith)
+returns c = let a = c.args in let e = c.copy_from_slice.ensures in
+    put_mid-patch a.at _ a.s.now a.row _ e.after (sym (ap length e.after) ∙ e.len ∙ length-between a.s.now a.at (a.at + 4) c.requires)

@@ -1,10 +1,9 @@
--- What the loop of `script::run` keeps: a stand from which a turn can start, and a place that no run uses up. The measure is the turns that are left.
-use Prim.Native.Nat.{◌+◌, ◌*◌, ◌≤◌, ◌^◌}
+-- What the loop of `script::run` keeps: nothing waits, and a place that no run uses up.
+use Prim.Native.Nat.{◌*◌, ◌≤◌}
 use mathlib.Core.Path.{◌≡◌}
+use mathlib.Core.List.{[]}
+use Rattle.listing.specs.Stands.{standing}
 use Rattle.script.proofs.run.Given as goal
 
-abbrev pub invariant-loop-turns : goal.invariant-loop-turns
-invariant-loop-turns l = (l.s.held ≤ 65) × (l.s.used ≡ 0) × (l.s.place + 1024 * l.turns ≤ 2 ^ 60)
-
-abbrev pub decreases-loop-turns : goal.decreases-loop-turns
-decreases-loop-turns l = l.turns
+abbrev pub invariant-loop-turn : goal.invariant-loop-turn
+invariant-loop-turn l = record { nothing_waits : l.listing.out.items ≡ []; place : (standing l.listing).place ≤ 1024 * l._turn }

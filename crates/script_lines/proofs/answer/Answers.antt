@@ -1,15 +1,10 @@
 -- `script_lines::answer` meets its contract. Assumes nothing.
-use native.Mathlib.Omega.{arith}
-use Rattle.script_lines.proofs.LineLaws.{too_long, no_argument, arguments}
+use mathlib.Core.Path.{◌≡◌}
+use mathlib.Core.Option.{none}
+use Rattle.script_calls.proofs.MakeLaws.{broken}
+use Rattle.script_lines.specs.Lines.{line_call, reply_to}
 use Rattle.script_lines.proofs.answer.Goals as goal
 
-pub returns-then-long : goal.returns-then-long
-returns-then-long c = too_long c.args.memory.now c.args.line.now (omega arith) _ c.unchanged.ensures
-
-pub returns-then-not-arguments : goal.returns-then-not-arguments
-returns-then-not-arguments c = let f = c.take_apart-f.result in
-    no_argument c.args.memory.now c.args.line.now c.if-long.false f.call f.a f.b f.c f.d c.take_apart-f.ensures c.if-not-arguments.true _ c.unchanged-then-not-arguments.ensures
-
-pub returns : goal.returns
-returns c = let f = c.take_apart-f.result in
-    arguments c.args.memory.now c.args.line.now c.if-long.false f.call f.a f.b f.c f.d c.take_apart-f.ensures c.if-not-arguments.false c.make.ensures
+pub returns-in-None : goal.returns-in-None
+unfolding reply_to
+returns-in-None c = let e : none ≡ line_call c.args.line.now = c.in-None.ensures in rw (← e) (broken c.args.memory.now _ c.unchanged.ensures)

@@ -1,12 +1,11 @@
 -- `sections::given_changes` meets its contract: the places passed fit. Assumes nothing.
-use borrow.Author.Rules.{rules}
 use Rattle.rules.proofs.TurnLaws.{none_yet, turn_failed, turn_passed, turns_done}
 use Rattle.sections.specs.Fits.{next_fits}
 use native.Mathlib.Omega.{arith}
 use Rattle.sections.proofs.given_changes.Goals as goal
 
 pub loop-c-init : goal.loop-c-init
-loop-c-init c = (search rules, none_yet _)
+loop-c-init c = none_yet _
 
 pub returns-then-not-change : goal.returns-then-not-change
 unfolding next_fits
@@ -14,7 +13,7 @@ returns-then-not-change c = turn_failed _ _ c.loop-c.c _ (omega arith) c.change.
 
 pub loop-c-preserved : goal.loop-c-preserved
 unfolding next_fits
-loop-c-preserved c = (search rules, turn_passed _ _ _ c.loop-c.invariant.1 c.change.ensures c.if-not-change.false-raw)
+loop-c-preserved c = turn_passed _ _ _ c.loop-c.invariant c.change.ensures c.if-not-change.false-raw
 
 pub returns : goal.returns
-returns c = turns_done _ _ _ c.loop-c.invariant.1 (omega arith)
+returns c = turns_done _ _ _ c.loop-c.invariant (omega arith)

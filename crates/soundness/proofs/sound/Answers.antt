@@ -22,7 +22,7 @@ returns c = let h = passes c.header.ensures c.if-not-header.false-raw in
     let v : c.front.result ≡ true = search rules in
     let e : c.back.result ≡ true = search rules in
     both_ways _ _
-    (passed c.args.w.now c.requires h _ a (members c.live_set-live.result) c.live_set-live.ensures t _ c.front.ensures v _ c.back.ensures e _ c.related.ensures)
+    (passed c.args.w.now (omega arith) h _ a (members c.live_set-live.result) c.live_set-live.ensures t _ c.front.ensures v _ c.back.ensures e _ c.related.ensures)
     (λ s. related_asked c.args.w.now c.read_figures-f.result c.read_figures-f.ensures s _ c.related.ensures)
 
 pub returns-then-not-header : goal.returns-then-not-header
@@ -32,7 +32,7 @@ returns-then-not-header c = sym (no_true _ (λ s. fails c.header.ensures c.if-no
 pub changes-requires : goal.changes-requires
 unfolding part
 changes-requires c = let h = passes c.header.ensures c.if-not-header.false-raw in
-    let a = c.read_figures-f.ensures h in record { changes_len = length_part c.args.w.now changes_at changes_size (omega (arith, c.requires)); given_bound = omega (arith, a.given, h.given_most) }
+    let a = c.read_figures-f.ensures h in record { changes_len = length_part c.args.w.now changes_at changes_size (omega arith); given_bound = omega (arith, a.given, h.given_most) }
 
 pub returns-then-not-changes : goal.returns-then-not-changes
 unfolding part
@@ -42,12 +42,12 @@ pub live_set-live-requires : goal.live_set-live-requires
 unfolding part
 live_set-live-requires c = let h = passes c.header.ensures c.if-not-header.false-raw in
     let a = c.read_figures-f.ensures h in
-    record { changes_len = length_part c.args.w.now changes_at changes_size (omega (arith, c.requires)); given_bound = omega (arith, a.given, h.given_most) }
+    record { changes_len = length_part c.args.w.now changes_at changes_size (omega arith); given_bound = omega (arith, a.given, h.given_most) }
 
 pub front-requires : goal.front-requires
 unfolding part
 front-requires c = let h = passes c.header.ensures c.if-not-header.false-raw in
-    let a = c.read_figures-f.ensures h in record { w_len = c.requires; entries_bound = (omega (arith, a.entries, h.entries_most), omega (arith, a.waiters, h.waiters_most)) }
+    let a = c.read_figures-f.ensures h in record { entries_bound = (omega (arith, a.entries, h.entries_most), omega (arith, a.waiters, h.waiters_most)) }
 
 pub returns-then-not-front : goal.returns-then-not-front
 unfolding part
@@ -56,7 +56,7 @@ returns-then-not-front c = sym (no_true _ (λ s. false≢true (sym (not-true _ c
 pub back-requires : goal.back-requires
 unfolding part
 back-requires c = let h = passes c.header.ensures c.if-not-header.false-raw in
-    let a = c.read_figures-f.ensures h in record { w_len = c.requires; permits_bound = (omega (arith, a.permits, h.permits_most), omega (arith, a.ties, h.ties_most), omega (arith, a.records, h.records_most)) }
+    let a = c.read_figures-f.ensures h in record { permits_bound = (omega (arith, a.permits, h.permits_most), omega (arith, a.ties, h.ties_most), omega (arith, a.records, h.records_most)) }
 
 pub returns-then-not-back : goal.returns-then-not-back
 unfolding part
@@ -65,4 +65,4 @@ returns-then-not-back c = sym (no_true _ (λ s. false≢true (sym (not-true _ c.
 pub related-requires : goal.related-requires
 unfolding part
 related-requires c = let h = passes c.header.ensures c.if-not-header.false-raw in
-    let a = c.read_figures-f.ensures h in record { w_len = c.requires; entries_bound = (omega (arith, a.entries, h.entries_most), omega (arith, a.permits, h.permits_most), omega (arith, a.ties, h.ties_most)) }
+    let a = c.read_figures-f.ensures h in record { entries_bound = (omega (arith, a.entries, h.entries_most), omega (arith, a.permits, h.permits_most), omega (arith, a.ties, h.ties_most)) }

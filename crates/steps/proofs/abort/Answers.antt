@@ -1,15 +1,13 @@
 -- `steps::abort` meets its contract. Assumes nothing.
-use mathlib.Core.Path.{sym, ◌∙◌}
+use Rattle.std.proofs.lemmas.Result.{err_from_is_err_and}
 use Rattle.rules.specs.Calls.{Abort}
 use Rattle.layout.specs.Codec.{decode}
 use Rattle.replies.proofs.GiveLaws.{turned_back, let_through}
 use Rattle.steps.proofs.abort.Goals as goal
 
-pub returns-then-code-ne0 : goal.returns-then-code-ne0
-returns-then-code-ne0 c = turned_back c.args.w.now c.requires.w_value (Abort c.args.change) _ _ c.change-code.ensures.abort c.if-code-ne0.true c.unchanged.ensures
-
-pub abort-requires : goal.abort-requires
-abort-requires c = record { w_len = c.requires.w_len; w_value = c.requires.w_value; change_value = sym c.change-code.ensures.abort ∙ c.if-code-ne0.false }
+pub returns-in_err-change : goal.returns-in_err-change
+returns-in_err-change c = let p = err_from_is_err_and c.from_residual.result c.from_residual.ensures.1 in
+    rw (p.1, p.2) (turned_back c.args.w.now c.requires (Abort c.args.change) _ c.in_err-change.ensures.abort)
 
 pub returns : goal.returns
-returns c = let_through (decode c.args.w.now) (Abort c.args.change) _ c.change-code.ensures.abort c.if-code-ne0.false c.abort.ensures
+returns c = let_through (decode c.args.w.now) (Abort c.args.change) c.in_ok-change.ensures.abort c.abort.ensures

@@ -1,15 +1,13 @@
 -- `steps::initiate` meets its contract. Assumes nothing.
-use mathlib.Core.Path.{sym, ◌∙◌}
+use Rattle.std.proofs.lemmas.Result.{err_from_is_err_and}
 use Rattle.rules.specs.Calls.{Initiate}
 use Rattle.layout.specs.Codec.{decode}
 use Rattle.replies.proofs.GiveLaws.{turned_back, let_through}
 use Rattle.steps.proofs.initiate.Goals as goal
 
-pub returns-then-code-ne0 : goal.returns-then-code-ne0
-returns-then-code-ne0 c = turned_back c.args.w.now c.requires.w_value (Initiate c.args.parent) _ _ c.initiate-code.ensures c.if-code-ne0.true c.unchanged.ensures
-
-pub initiate-requires : goal.initiate-requires
-initiate-requires c = record { w_len = c.requires.w_len; w_value = c.requires.w_value; parent_value = sym c.initiate-code.ensures ∙ c.if-code-ne0.false }
+pub returns-in_err-initiate : goal.returns-in_err-initiate
+returns-in_err-initiate c = let p = err_from_is_err_and c.from_residual.result c.from_residual.ensures.1 in
+    rw (p.1, p.2) (turned_back c.args.w.now c.requires (Initiate c.args.parent) _ c.in_err-initiate.ensures)
 
 pub returns : goal.returns
-returns c = let_through (decode c.args.w.now) (Initiate c.args.parent) _ c.initiate-code.ensures c.if-code-ne0.false c.initiate.ensures
+returns c = let_through (decode c.args.w.now) (Initiate c.args.parent) c.in_ok-initiate.ensures c.initiate-2.ensures

@@ -1,5 +1,6 @@
 -- `steps::parent` meets its contract. Assumes nothing.
-use mathlib.Core.Path.{refl}
+use mathlib.Core.Path.{refl, ◌∙◌}
+use Rattle.std.proofs.lemmas.Result.{err_from_is_err_and}
 use Rattle.rules.specs.Calls.{Parent}
 use Rattle.rules.specs.Effects.{effect}
 use Rattle.layout.specs.Codec.{decode}
@@ -7,10 +8,11 @@ use Rattle.replies.proofs.GiveLaws.{turned_back, let_through}
 use Rattle.steps.proofs.LookLaws.{looks}
 use Rattle.steps.proofs.parent.Goals as goal
 
-pub returns-then-code-ne0 : goal.returns-then-code-ne0
-returns-then-code-ne0 c = turned_back c.args.w.now c.requires.w_value (Parent c.args.change) _ _ c.change-code.ensures.parent c.if-code-ne0.true c.unchanged.ensures
+pub returns-in_err-change : goal.returns-in_err-change
+returns-in_err-change c = let p = err_from_is_err_and c.from_residual.result c.from_residual.ensures.1 in
+    rw (p.1, p.2) (turned_back c.args.view.bytes.now c.args.view.sound (Parent c.args.change) _ c.in_err-change.ensures.parent)
 
 pub returns : goal.returns
 returns c = let s = c in
-    let_through (decode s.args.w.now) (Parent s.args.change) _ c.change-code.ensures.parent c.if-code-ne0.false
-    (looks s.args.w.now s.requires.w_value _ _ c.done.ensures (Parent s.args.change) c.parent.ensures (unfold effect in refl))
+    let_through (decode s.args.view.bytes.now) (Parent s.args.change) c.in_ok-change.ensures.parent
+    (looks s.args.view.bytes.now s.args.view.sound _ _ c.done.ensures (Parent s.args.change) (c.from.ensures ∙ c.parent.ensures) (unfold effect in refl))

@@ -1,5 +1,6 @@
 -- `steps::value` meets its contract. Assumes nothing.
 use mathlib.Core.Path.{refl}
+use Rattle.std.proofs.lemmas.Result.{err_from_is_err_and}
 use Rattle.rules.specs.Calls.{Value}
 use Rattle.rules.specs.Effects.{effect}
 use Rattle.layout.specs.Codec.{decode}
@@ -7,10 +8,11 @@ use Rattle.replies.proofs.GiveLaws.{turned_back, let_through}
 use Rattle.steps.proofs.LookLaws.{looks}
 use Rattle.steps.proofs.value.Goals as goal
 
-pub returns-then-code-ne0 : goal.returns-then-code-ne0
-returns-then-code-ne0 c = turned_back c.args.w.now c.requires.w_value (Value c.args.entry) _ _ c.value-code.ensures c.if-code-ne0.true c.unchanged.ensures
+pub returns-in_err-value : goal.returns-in_err-value
+returns-in_err-value c = let p = err_from_is_err_and c.from_residual.result c.from_residual.ensures.1 in
+    rw (p.1, p.2) (turned_back c.args.view.bytes.now c.args.view.sound (Value c.args.entry) _ c.in_err-value.ensures)
 
 pub returns : goal.returns
 returns c = let s = c in
-    let_through (decode s.args.w.now) (Value s.args.entry) _ c.value-code.ensures c.if-code-ne0.false
-    (looks s.args.w.now s.requires.w_value _ _ c.done.ensures (Value s.args.entry) c.value.ensures (unfold effect in refl))
+    let_through (decode s.args.view.bytes.now) (Value s.args.entry) c.in_ok-value.ensures
+    (looks s.args.view.bytes.now s.args.view.sound _ _ c.done.ensures (Value s.args.entry) c.value-2.ensures (unfold effect in refl))

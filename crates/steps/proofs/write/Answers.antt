@@ -1,15 +1,13 @@
 -- `steps::write` meets its contract. Assumes nothing.
-use mathlib.Core.Path.{sym, ◌∙◌}
+use Rattle.std.proofs.lemmas.Result.{err_from_is_err_and}
 use Rattle.rules.specs.Calls.{Write}
 use Rattle.layout.specs.Codec.{decode}
 use Rattle.replies.proofs.GiveLaws.{turned_back, let_through}
 use Rattle.steps.proofs.write.Goals as goal
 
-pub returns-then-code-ne0 : goal.returns-then-code-ne0
-returns-then-code-ne0 c = turned_back c.args.w.now c.requires.w_value (Write c.args.change c.args.entry c.args.value) _ _ (c.write-code.ensures c.args.value) c.if-code-ne0.true c.unchanged.ensures
-
-pub write-requires : goal.write-requires
-write-requires c = record { w_len = c.requires.w_len; w_value = c.requires.w_value; value_value = sym (c.write-code.ensures c.args.value) ∙ c.if-code-ne0.false }
+pub returns-in_err-write : goal.returns-in_err-write
+returns-in_err-write c = let p = err_from_is_err_and c.from_residual.result c.from_residual.ensures.1 in
+    rw (p.1, p.2) (turned_back c.args.w.now c.requires (Write c.args.change c.args.entry c.args.value) _ (c.in_err-write.ensures c.args.value))
 
 pub returns : goal.returns
-returns c = let_through (decode c.args.w.now) (Write c.args.change c.args.entry c.args.value) _ (c.write-code.ensures c.args.value) c.if-code-ne0.false c.write.ensures
+returns c = let_through (decode c.args.w.now) (Write c.args.change c.args.entry c.args.value) (c.in_ok-write.ensures c.args.value) c.write-2.ensures

@@ -1,11 +1,6 @@
--- `text::digits_value` meets its contract: the first i bytes are digits that say v. Assumes nothing.
-use Prim.Native.Nat.{◌-◌}
-use lib.ListN.{length}
+-- `text::digits_value` meets its contract: the bytes so far are digits that say the value. Assumes nothing.
 use Rattle.text.proofs.DecimalLaws.{Reading}
 use Rattle.text.proofs.digits_value.Given as goal
 
-abbrev pub invariant-loop-i : goal.invariant-loop-i
-invariant-loop-i l = Reading l.l l.v l.i
-
-abbrev pub decreases-loop-i : goal.decreases-loop-i
-decreases-loop-i l = length l.l - l.i
+abbrev pub invariant-loop-b : goal.invariant-loop-b
+invariant-loop-b l = Reading l.l l.value l.b-index

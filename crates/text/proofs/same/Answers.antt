@@ -1,10 +1,15 @@
--- `text::same` meets its contract: the texts are equal lists. Assumes nothing.
-use Rattle.rules.proofs.BaseLaws.{both_ways}
-use Rattle.layout.proofs.MemoryLaws.{same_bytes_eq, same_bytes_refl}
+-- `text::same` meets its contract: the library compares head by head too. Assumes nothing.
+use Rattle.std.proofs.Common.{◌≡◌, refl, ap, ◌∙◌, Bool, ◌&&◌, List, [], ◌∷◌, ℕ, eqb}
+use Rattle.std.specs.Str.{bytes_eq}
+use Rattle.layout.specs.Memory.{same_bytes}
 use Rattle.text.proofs.same.Goals as goal
 
+pointwise_same : (k l : List ℕ) → bytes_eq k l ≡ same_bytes k l
+unfolding same_bytes
+pointwise_same [] [] = refl
+pointwise_same [] (y ∷ l) = refl
+pointwise_same (x ∷ k) [] = refl
+pointwise_same (x ∷ k) (y ∷ l) = ap (λ (b : Bool). eqb x y && b) (pointwise_same k l)
+
 pub returns : goal.returns
-returns c =
-    let a = c.args.a.now in
-    let b = c.args.b.now in
-    both_ways _ _ (λ e. rw (c.same.ensures.0 e) (same_bytes_refl b)) (λ e. c.same.ensures.1 (same_bytes_eq a b e))
+returns c = c.eq.ensures ∙ pointwise_same c.args.a.now c.args.b.now

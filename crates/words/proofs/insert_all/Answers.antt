@@ -1,7 +1,9 @@
 -- `words::insert_all` meets its contract: the words are joined by `|`, one after the other. Assumes nothing.
-use mathlib.Core.Path.{refl}
+use native.Mathlib.Omega.{arith}
 use Rattle.words.proofs.BitLaws.{insert_words}
 use Rattle.words.proofs.insert_all.Goals as goal
 
 pub returns : goal.returns
-returns c = let s = c in let r = insert_words s.args.words.now s.args.others.now s.requires.words_len s.requires.others_len _ refl in record { words_len_2 = r.0; by_index = r.1 }
+returns c = let l = c.loop-i in record {
+  by_index = insert_words c.args.words.now c.args.others.now l.words c.told-words c.told-others l.invariant.0 (λ i h. l.invariant.1 i (omega arith));
+}

@@ -8,4 +8,4 @@ use Rattle.locks.proofs.EntryLocks.store.Goals as goal
 pub returns : goal.returns
 returns c held row e l = let a = c.args in
     c.store-2.ensures
-    ∙ rw (c.store.ensures, e) (row-stored held a.entry row (members a.self.readers) (members a.self.writers) (search rules) l.readers l.writers)
+    ∙ rw (c.store.ensures, c.from-at.ensures, e) (row-stored held a.entry row (members a.self.readers) (members a.self.writers) (search rules) l.readers l.writers)

@@ -8,8 +8,8 @@ use Rattle.words.specs.Members.{words_have}
 use Rattle.passes.proofs.PassLaws.{Growing}
 use Rattle.sets.proofs.ChangeSet.close_few.Given as goal
 
-abbrev pub invariant-loop-words : goal.invariant-loop-words
-invariant-loop-words l = (length l.words ≡ 4) × Growing l.low (tie_at l.ties) l.count (words_have l.initial.words) (words_have l.words)
+abbrev pub invariant-loop-before : goal.invariant-loop-before
+invariant-loop-before l = (length l.set.words ≡ 4) × Growing l.low (tie_at l.ties) l.count (words_have l.initial.set.words) (words_have l.set.words)
 
-abbrev pub decreases-loop-words : goal.decreases-loop-words
-decreases-loop-words l = 256 - count_below 256 (words_have l.words)
+abbrev pub decreases-loop-before : goal.decreases-loop-before
+decreases-loop-before l = 256 - count_below 256 (words_have l.set.words)

@@ -1,5 +1,5 @@
 -- `sets::ChangeSet::equal` meets its contract: the words agree just where the members do. Assumes nothing.
-use mathlib.Core.Path.{◌≡◌}
+use mathlib.Core.Path.{◌≡◌, ◌∙◌}
 use Prim.Native.Nat.{ℕ}
 use borrow.Author.Rules.{rules}
 use mir.Val.{Fits}
@@ -15,4 +15,4 @@ returns c = let s = c.args.self in
     let lt : length t.words ≡ 4 = search rules in
     let fs : (i : ℕ) → Fits w64 (get_or s.words i 0) = search rules in
     let ft : (i : ℕ) → Fits w64 (get_or t.words i 0) = search rules in
-    equal_test s t ls lt (λ i. (fs i).fits) (λ i. (ft i).fits)
+    c.eq.ensures ∙ equal_test s t ls lt (λ i. (fs i).fits) (λ i. (ft i).fits)

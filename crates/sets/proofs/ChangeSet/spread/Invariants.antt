@@ -9,7 +9,7 @@ use Rattle.sets.proofs.SpreadLaws.{Spreading}
 use Rattle.sets.proofs.ChangeSet.spread.Given as goal
 
 abbrev pub invariant-loop-c : goal.invariant-loop-c
-invariant-loop-c l = (length l.s.words ≡ 4) × Spreading l.rows (members l.initial.s) (members l.s) (members l.left) l.c
+invariant-loop-c l = (length l.s.words ≡ 4) × Spreading l.rows (members l.initial.s) (members l.s) (members l.left)
 
 abbrev pub decreases-loop-c : goal.decreases-loop-c
 decreases-loop-c l = 256 - count_below 256 (λ k. members l.s k && not (members l.left k))

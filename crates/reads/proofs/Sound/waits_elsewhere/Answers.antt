@@ -1,0 +1,15 @@
+-- `reads::Sound::waits_elsewhere` meets its contract. Assumes nothing.
+use mathlib.Core.Path.{sym}
+use Rattle.layout.proofs.MemoryLaws.{bytes-sound, line_known}
+use Rattle.reads.proofs.ReadLaws.{change_fits_lem, entry_fits_lem}
+use Rattle.reads.proofs.Sound.waits_elsewhere.Goals as goal
+
+pub returns : goal.returns
+returns c = let s = c in let w = s.args.self.bytes.now in
+    c.elsewhere.ensures _ (sym c.waiters-count.ensures.value) (line_known w s.args.self.sound) (bytes-sound w s.args.self.sound).line-once
+
+pub overflow_cast-change : goal.overflow_cast-change
+overflow_cast-change c = record { fits = change_fits_lem _ (bytes-sound c.args.self.bytes.now c.args.self.sound) c.args.change c.requires.change_value }
+
+pub overflow_cast-entry : goal.overflow_cast-entry
+overflow_cast-entry c = record { fits = entry_fits_lem _ (bytes-sound c.args.self.bytes.now c.args.self.sound) c.args.entry c.requires.entry_value }

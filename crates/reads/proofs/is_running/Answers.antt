@@ -1,7 +1,0 @@
--- `reads::is_running` meets its contract. Assumes nothing.
-use Rattle.rules.specs.Window.{running}
-use Rattle.reads.proofs.is_running.Goals as goal
-
-pub returns : goal.returns
-unfolding running
-returns c = rw c.status.ensures

@@ -1,7 +1,0 @@
--- `reads::no_entry` meets its contract. Assumes nothing.
-use Rattle.rules.specs.Window.{no_entry}
-use Rattle.reads.proofs.no_entry.Goals as goal
-
-pub returns : goal.returns
-unfolding no_entry
-returns c = rw c.entries.ensures.value

@@ -1,0 +1,2 @@
+-- The entries that a delegate names, and what goes over on them.
+pub mod Entries
