@@ -6,7 +6,7 @@ use native.Mathlib.Nat.{not-suc-le-zero}
 use native.Mathlib.Numerals.{add-one}
 use native.Mathlib.Omega.{arith}
 use lib.Dec.{eqb}
-use lib.ListN.{length, get_or, set, replicate, length-set, get_or-replicate, get_or-eq_default}
+use lib.ListN.{length, get_or, set, replicate, length-set, length-replicate, get_or-replicate, get_or-eq_default}
 use lib.Seq.{get_or-set_same, get_or-set_other}
 use borrow.Author.Tests.{ne_eqb}
 use Rattle.rules.specs.Base.{any_below, count_below}
@@ -14,7 +14,7 @@ use Rattle.rules.specs.Sets.{everything, only}
 use Rattle.rules.proofs.BaseLaws.{count-le, Below, under, over, below, eqb_same, Same, same, other, same?}
 use Rattle.cycles.specs.declared.Arrows.{Arrows}
 use Rattle.cycles.specs.Graph.{Graph, comes, leads, last_from}
-use Rattle.cycles.specs.Links.{Lists, lists_of, with_arrow, with_tie, Linked}
+use Rattle.cycles.specs.Links.{Lists, Blank, lists_of, with_arrow, with_tie, Linked}
 use Rattle.cycles.proofs.CountLaws.{comes_none, comes_other, comes-one, last_none, last_other, last_one}
 
 -- empty lists hold no arrow
@@ -122,6 +122,10 @@ pub record Room (a : Arrows) : Type 0 where
   pub by_place : length a.next ≡ 512
   -- a count for each label
   pub counts : length a.incoming ≡ 256
+
+-- as those of blank ones are
+pub blank_room : (a : Arrows) → Blank a → length a.next ≡ 512 → Room a
+blank_room a b h = record { by_label = ap length b.no_heads ∙ length-replicate {A = ℕ} 256 0; by_place = h; counts = ap length b.no_counts ∙ length-replicate {A = ℕ} 256 0 }
 
 -- and stay so
 pub room_kept : (a : Bool) (j from to : ℕ) (s r : Arrows) → lists_of r ≡ with_tie a j from to (lists_of s) → Room s → Room r

@@ -25,7 +25,7 @@ use Rattle.replies.specs.declared.Refusal.{Refusal}
 use Rattle.replies.specs.Refused.{code, reply_of}
 use Rattle.replies.proofs.RefusedLaws.{code_some}
 use Rattle.replies.specs.Gives.{Gives, written}
-use Rattle.replies.proofs.GiveLaws.{turned_back, let_through, given-done}
+use Rattle.replies.proofs.GiveLaws.{refused_back, let_through, given-done}
 use Rattle.reads.proofs.ReadLaws.{change_fits_lem, entry_fits_lem}
 use Rattle.refusals.proofs.RefusalLaws.{Checked, all-passed, fails, passes, stopped, went_on}
 use Rattle.pair_refusals.proofs.PairLaws.{delegate_passed}
@@ -72,7 +72,7 @@ not_permitted false r e = refl
 -- WHAT IT GIVES
 module _ (bs : List ℕ) (s : sound_bytes bs ≡ true) (f t e : ℕ) where
   pub refused_first : (r : Refusal) → code r ≡ first_failed (take 5 (checks limits (decode bs) (Delegate f t e))) → Gives (written (step limits (decode bs) (Delegate f t e))) (reply_of (Err r)) bs
-  refused_first r is = turned_back bs s (Delegate f t e) r (stopped 5 (checks limits (decode bs) (Delegate f t e)) r is)
+  refused_first r is = refused_back bs s (Delegate f t e) r (stopped 5 (checks limits (decode bs) (Delegate f t e)) r is)
 
   -- the hand-over was judged, and done or not
   module _ (none : 0 ≡ first_failed (take 5 (checks limits (decode bs) (Delegate f t e)))) (on : Set) (named : on ≡ entries_named e) where
@@ -82,7 +82,7 @@ module _ (bs : List ℕ) (s : sound_bytes bs ≡ true) (f t e : ℕ) where
     module _ (after : List ℕ) (left : after ≡ cond (clashes_permitted (hand_over (decode bs) f t on)) (encode (hand_over (decode bs) f t on)) bs) where
       pub refused_last : (r : Refusal) → code r ≡ cond (clashes_permitted (hand_over (decode bs) f t on)) 0 10 → Gives (written (step limits (decode bs) (Delegate f t e))) (reply_of (Err r)) after
       refused_last r q = let l : after ≡ bs = left ∙ ap (λ b. cond b (encode (hand_over (decode bs) f t on)) bs) (not_permitted _ r q) in
-          rw l (turned_back bs s (Delegate f t e) r (q ∙ decided))
+          rw l (refused_back bs s (Delegate f t e) r (q ∙ decided))
 
       pub handed-over : ◌≡◌ {A = ℕ} 0 (cond (clashes_permitted (hand_over (decode bs) f t on)) 0 10) → (r : Reply) → (r.answer ≡ 0) × (r.number ≡ 0) → Gives (written (step limits (decode bs) (Delegate f t e))) r after
       unfolding effect

@@ -1,5 +1,5 @@
 -- What a function does to where a listing stands is what the definition does to the state. Assumes nothing.
-use mathlib.Core.Path.{◌≡◌, refl, sym, ap, ◌∙◌}
+use mathlib.Core.Path.{◌≡◌, sym, ap, ◌∙◌}
 use mathlib.Core.Bool.{Bool, true, false, cond}
 use mathlib.Core.List.{List, [], ◌∷◌, ◌++◌, foldl-append}
 use Prim.Native.Nat.{ℕ, ◌+◌, ◌≤◌, ◌<◌}
@@ -7,11 +7,10 @@ use native.Mathlib.Omega.{arith}
 use native.Mathlib.Numerals.{add-one}
 use borrow.Author.Tests.{ne_eqb}
 use lib.Dec.{eqb}
-use lib.ListN.{length, take, get_or, length-append}
-use lib.Seq.{take_all, take-suc, take-append-le, length-take-le}
-use Rattle.std.specs.Prelude.{Result, Ok, Err, IsOk, OnOk, OnErr, ◌↔◌}
-use Rattle.arrayvec.specs.ArrayVec.{ArrayVec}
+use lib.ListN.{length, take, get_or, set, length-append}
+use lib.Seq.{take_all, take-suc, take-suc-set, take-append-le, length-take-le}
 use Rattle.layout.specs.Memory.{same_bytes}
+use Rattle.text.specs.Decimal.{ascii}
 use Rattle.replies.specs.Gives.{Gives}
 use Rattle.replies.specs.declared.Reply.{Reply}
 use Rattle.script_lines.specs.Lines.{reply_to}
@@ -22,20 +21,21 @@ use Rattle.listing.specs.Feed.{State, start, first_ended, later_ended, line_ende
 use Rattle.listing.specs.Stands.{place_of, is_over}
 
 -- THE START: the header waits
-pub begun : (line mem out : List ℕ) → line ≡ [] → mem ≡ zero_memory → out ≡ header → record { line = line; place = 0; over = false; memory = mem; out = out } ≡ start
-unfolding start
-begun line mem out e f g = rw (e, f, g)
-
--- what room allows is done
-pub with_room : {T E : Type 0} (r : Result T E) {Fits P : Type 0} → (IsOk r ↔ Fits) → OnOk r P → Fits → P
-with_room (Ok x) v p h = p
-with_room (Err e) v p h = cc (v.1 h)
+pub begun : (first rest : List ℕ) → first ≡ header → record { line = []; place = 0; over = false; memory = zero_memory; out = take 19 (first ++ rest) } ≡ start
+unfolding start header ascii
+begun first rest e = rw e
 
 -- A BYTE is kept, or the bytes kept are enough
-pub kept : {T E : Type 0} (r : Result T E) (v w : ArrayVec ℕ) (b : ℕ) → (IsOk r ↔ (length v.items < 65)) → OnOk r (w.items ≡ v.items ++ (b ∷ [])) → OnErr r (w ≡ v) → OnErr r (length v.items ≡ 65)
-    → w.items ≡ take 65 (v.items ++ (b ∷ []))
-kept (Ok x) v w b t k _ _ = k ∙ sym (take_all 65 (v.items ++ (b ∷ [])) (omega (arith, t.0 refl, length-append v.items (b ∷ []))))
-kept (Err e) v w b t _ k h = ap (λ (u : ArrayVec ℕ). u.items) k ∙ sym (take-append-le 65 v.items (b ∷ []) (omega arith) ∙ take_all 65 v.items (omega arith))
+pub kept : (line : List ℕ) (held b : ℕ) → held < 65 → length line ≡ 65 → take (held + 1) (set line held b) ≡ take 65 (take held line ++ (b ∷ []))
+kept line held b h k =
+    let one : take (held + 1) (set line held b) ≡ take held line ++ (b ∷ []) = ap (λ (i : ℕ). take i (set line held b)) (add-one held) ∙ take-suc-set line held b (omega arith) in
+    let short : length (take held line ++ (b ∷ [])) ≤ 65 = rw (length-append (take held line) (b ∷ []), length-take-le held line (omega arith)) (omega arith) in
+    one ∙ sym (take_all 65 (take held line ++ (b ∷ [])) short)
+
+pub enough : (line : List ℕ) (held b : ℕ) → held ≤ 65 → (held < 65 → ⊥) → length line ≡ 65 → take held line ≡ take 65 (take held line ++ (b ∷ []))
+enough line held b h n k =
+    let long : length (take held line) ≡ 65 = length-take-le held line (omega arith) ∙ omega arith in
+    sym (take-append-le 65 (take held line) (b ∷ []) (omega arith) ∙ take_all 65 (take held line) (omega arith))
 
 pub byte_newline : (t s : State) (b : ℕ) → b ≡ 10 → t ≡ line_ended s → t ≡ fed_byte s b
 unfolding fed_byte
@@ -46,26 +46,23 @@ unfolding fed_byte
 byte_more s b l n e = rw (ne_eqb b 10 n, e)
 
 -- A LINE IS WHOLE
-tested : (d line k : List ℕ) (r b : Bool) → d ≡ line → r ≡ same_bytes d k → r ≡ b → same_bytes line k ≡ b
-tested d line k r b q e t = ap (λ (x : List ℕ). same_bytes x k) (sym q) ∙ sym e ∙ t
-
-module _ (line mem out : List ℕ) (g : Stage) (d : List ℕ) (q : d ≡ line) (l : List ℕ) (z : l ≡ []) where
+module _ (line mem out : List ℕ) (g : Stage) where
   -- the first, right or broken
-  pub first_right : g ≡ First → (r : Bool) → r ≡ same_bytes d first_line → r ≡ true
-      → record { line = l; place = 1; over = false; memory = mem; out = out } ≡ line_ended (record { line = line; place = place_of g; over = is_over g; memory = mem; out = out })
+  pub first_right : g ≡ First → same_bytes line first_line ≡ true
+      → record { line = []; place = 1; over = false; memory = mem; out = out } ≡ line_ended (record { line = line; place = place_of g; over = is_over g; memory = mem; out = out })
   unfolding line_ended first_ended
-  first_right e r h t = rw (e, tested d line first_line r true q h t, z)
+  first_right e t = rw (e, t)
 
-  pub first_broken : g ≡ First → (r : Bool) → r ≡ same_bytes d first_line → r ≡ false → (o : List ℕ) (a n : ℕ) → o ≡ out ++ printed 0 a n → (a ≡ 30) × (n ≡ 0)
-      → record { line = l; place = 0; over = true; memory = mem; out = o } ≡ line_ended (record { line = line; place = place_of g; over = is_over g; memory = mem; out = out })
+  pub first_broken : g ≡ First → same_bytes line first_line ≡ false → (o : List ℕ) (a n : ℕ) → o ≡ out ++ printed 0 a n → (a ≡ 30) × (n ≡ 0)
+      → record { line = []; place = 0; over = true; memory = mem; out = o } ≡ line_ended (record { line = line; place = place_of g; over = is_over g; memory = mem; out = out })
   unfolding line_ended first_ended
-  first_broken e r h t o a n w v = rw (e, tested d line first_line r false q h t, z, w, v.0, v.1)
+  first_broken e t o a n w v = rw (e, t, w, v.0, v.1)
 
   -- a later one
-  pub later_whole : (n : ℕ) → g ≡ Later n → (r : Reply) (left o : List ℕ) → Gives (reply_to mem d) r left → o ≡ out ++ printed (n + 1) r.answer r.number
-      → record { line = l; place = n + 1 + 1; over = false; memory = left; out = o } ≡ line_ended (record { line = line; place = place_of g; over = is_over g; memory = mem; out = out })
+  pub later_whole : (n : ℕ) → g ≡ Later n → (r : Reply) (left o : List ℕ) → Gives (reply_to mem line) r left → o ≡ out ++ printed (n + 1) r.answer r.number
+      → record { line = []; place = n + 1 + 1; over = false; memory = left; out = o } ≡ line_ended (record { line = line; place = place_of g; over = is_over g; memory = mem; out = out })
   unfolding line_ended later_ended
-  later_whole n e r left o v w = rw (e, ne_eqb (n + 1) 0 (λ (h : n + 1 ≡ 0). omega arith), z, w, add-one (n + 1), v.answer, v.number, v.bytes, q)
+  later_whole n e r left o v w = rw (e, ne_eqb (n + 1) 0 (λ (h : n + 1 ≡ 0). omega arith), w, add-one (n + 1), v.answer, v.number, v.bytes)
 
 -- after a broken first line
 pub over-line : (s : State) → s.over ≡ true → s ≡ line_ended s

@@ -1,20 +1,21 @@
 -- Where the code stands in a listing, as a state. Assumes nothing.
-use Rattle.std.specs.Prelude.{Bool, true, false, ℕ, ◌+◌}
+use Rattle.std.specs.Prelude.{Bool, true, false, List, ℕ, ◌+◌, take}
 use Rattle.listing.specs.Feed.{State}
 use Rattle.listing.specs.declared.Stage.{Stage}
 use Rattle.listing.specs.declared.Stage.TheVariants.{First, Later, Over}
-use Rattle.listing.specs.declared.Listing.{Listing}
+use Rattle.listing.specs.declared.Stand.{Stand}
 
 -- the place of the line begun
 abbrev pub place_of : Stage → ℕ
 place_of First = 0
 place_of (Later n) = n + 1
-place_of Over = 0
+place_of (Over n) = n
 
 abbrev pub is_over : Stage → Bool
 is_over First = false
 is_over (Later n) = false
-is_over Over = true
+is_over (Over n) = true
 
-abbrev pub standing : Listing → State
-standing s = record { line = s.line.items; place = place_of s.stage; over = is_over s.stage; memory = s.memory; out = s.out.items }
+-- with the bytes of the line begun, the memory and what is printed
+abbrev pub standing : Stand → (line memory out : List ℕ) → State
+standing s line memory out = record { line = take s.held line; place = place_of s.stage; over = is_over s.stage; memory = memory; out = take s.used out }

@@ -1,14 +1,12 @@
 // The listing: what the script program prints, made while its input is fed in pieces.
 #![tactic(auto)]
 
-ghost use Rattle.std.specs.Prelude.{◌≡◌, ◌+◌, ◌*◌, ◌^◌, ◌≤◌, ◌<◌, ◌++◌, length};
-ghost use Rattle.arrayvec.specs.ArrayVec.{array_vec_len};
-ghost use Rattle.listing.specs.Listing.{printed};
+ghost use Rattle.std.specs.Prelude.{◌≡◌, ℕ, ◌+◌, ◌*◌, ◌^◌, ◌≤◌, ◌<◌, List, [], ◌++◌, length, take};
+ghost use Rattle.listing.specs.Listing.{printed, zero_memory};
 ghost use Rattle.listing.specs.Feed.{start as started, line_ended, fed_byte, fed, ended};
-ghost use Rattle.listing.specs.Stands.{standing};
+ghost use Rattle.listing.specs.Stands.{place_of, standing};
 
 use arrayvec::ArrayVec;
-use layout::Window;
 use replies::{Reply, unchanged};
 use script_lines::answer;
 use text::{same, show};
@@ -16,141 +14,165 @@ use text::{same, show};
 // How many bytes of a line are kept: of one above 64 bytes, enough to tell that it is.
 pub const KEPT: usize = 65;
 
-// The room for what is printed and waits to be written.
-pub const ROOM: usize = 65536;
-
-// Which line has begun: the first one, a later one, with the number of later lines before it, or one that plays no part, since the first was broken.
+// Which line has begun: the first one, a later one, with the number of later lines before it, or one that plays no part, since the first was broken,
+// with its place.
 #[derive(Clone, Copy, Debug, PartialEq, Eq)]
 pub enum Stage {
     First,
     Later(u64),
-    Over,
+    Over(u64),
 }
 
-// A listing on its way: the bytes kept of the line begun, which line it is, the memory of the calls, and what is printed and waits to be written.
-#[derive(Drop)]
-pub struct Listing {
-    pub line: ArrayVec<u8, KEPT>,
+// Where a listing stands: how many bytes of the line begun are kept, which line it is, and how many bytes wait to be written. They are kept
+// in lent bytes, as the memory of the calls is, so that a caller has room as it likes (docs/DECISIONS.md).
+#[derive(Clone, Copy, Debug, PartialEq, Eq)]
+pub struct Stand {
+    pub held: usize,
     pub stage: Stage,
-    pub memory: [u8; Window::SIZE],
-    pub out: ArrayVec<u8, ROOM>,
+    pub used: usize,
 }
 
-// A line printed after what waits to be written.
-fn print_line(out: &mut ArrayVec<u8, ROOM>, place: u64, reply: Reply)
-    requires { array_vec_len out.old + 64 ≤ 65536 }
-    ensures items { out.new.items ≡ out.old.items ++ printed place reply.answer reply.number }
-    ensures len { array_vec_len out.new ≤ array_vec_len out.old + 64 }
+// A line to print.
+fn print_line(text: &mut ArrayVec<u8, 64>, place: u64, reply: Reply)
+    requires { text.old.items ≡ [] }
+    ensures { text.new.items ≡ printed place reply.answer reply.number }
 {
-    show(place, out);
-    out.push(b',');
-    show(u64::from(reply.answer), out);
-    out.push(b',');
-    show(u64::from(reply.number), out);
-    out.push(b'\n');
+    show(place, text);
+    text.push(b',');
+    show(u64::from(reply.answer), text);
+    text.push(b',');
+    show(u64::from(reply.number), text);
+    text.push(b'\n');
 }
 
-impl Listing {
-    // The header waits to be written; nothing has been read, and the memory is all 0.
-    pub fn start() -> Self
-        ensures state { standing result ≡ started }
-        ensures place { (standing result).place ≡ 0 }
-        ensures len { array_vec_len result.out ≤ 19 }
+// A line printed after the bytes that wait. What comes back is how many wait now.
+fn put_line(out: &mut [u8], used: usize, place: u64, reply: Reply) -> usize
+    requires { used + 64 ≤ length out.old }
+    ensures upper_bound { result ≤ used + 64 }
+    ensures out_after { take result out.new ≡ take used out.old ++ printed place reply.answer reply.number }
+{
+    let mut text = ArrayVec::<u8, 64>::new();
+    print_line(&mut text, place, reply);
+    let end = used + text.len();
+    out[used..end].copy_from_slice(&text);
+    end
+}
+
+impl Stand {
+    // The header waits to be written; nothing has been read.
+    pub fn start(out: &mut [u8]) -> Self
+        requires { 19 ≤ length out.old }
+        ensures held_bound { result.held ≤ 65 }
+        ensures used_bound { result.used ≤ 19 }
+        ensures place_value { place_of result.stage ≡ 0 }
+        ensures by_index { (line : List ℕ) → standing result line zero_memory out.new ≡ started }
     {
-        let mut out = ArrayVec::new();
-        let _fits = out.try_extend_from_slice(b"line,answer,number\n");
-        Listing {
-            line: ArrayVec::new(),
+        out[..19].copy_from_slice(b"line,answer,number\n");
+        Stand {
+            held: 0,
             stage: Stage::First,
-            memory: [0; Window::SIZE],
-            out,
+            used: 19,
         }
     }
 
     // The first line is whole.
-    fn end_first(&mut self)
+    fn end_first(&mut self, line: &[u8], out: &mut [u8])
         requires stage { self.old.stage ≡ Stage.First }
-        requires room { array_vec_len self.old.out + 64 ≤ 65536 }
-        ensures state { standing self.new ≡ line_ended (standing self.old) }
-        ensures len { array_vec_len self.new.out ≤ array_vec_len self.old.out + 64 }
+        requires held_in_bounds { self.old.held ≤ length line.now }
+        requires used_in_bounds { self.old.used + 64 ≤ length out.old }
+        ensures held_value { self.new.held ≡ 0 }
+        ensures used_bound { self.new.used ≤ self.old.used + 64 }
+        ensures by_index { (m : List ℕ) → standing self.new line.now m out.new ≡ line_ended (standing self.old line.now m out.old) }
     {
-        let right = same(&self.line, b"call,a,b,c,d");
-        self.line.clear();
+        let right = same(&line[..self.held], b"call,a,b,c,d");
+        self.held = 0;
         if right {
             self.stage = Stage::Later(0);
         } else {
-            print_line(&mut self.out, 0, unchanged(30));
-            self.stage = Stage::Over;
+            self.used = put_line(out, self.used, 0, unchanged(30));
+            self.stage = Stage::Over(0);
         }
     }
 
     // A later line is whole, with so many before it.
-    fn end_later(&mut self, before: u64)
+    fn end_later(&mut self, before: u64, line: &[u8], memory: &mut [u8], out: &mut [u8])
         requires stage { self.old.stage ≡ Stage.Later before }
-        requires room { array_vec_len self.old.out + 64 ≤ 65536 }
+        requires held_in_bounds { self.old.held ≤ length line.now }
+        requires used_in_bounds { self.old.used + 64 ≤ length out.old }
         requires place_bound { before + 2 < 2 ^ 64 }
-        ensures state { standing self.new ≡ line_ended (standing self.old) }
-        ensures len { array_vec_len self.new.out ≤ array_vec_len self.old.out + 64 }
+        ensures held_value { self.new.held ≡ 0 }
+        ensures used_bound { self.new.used ≤ self.old.used + 64 }
+        ensures out_after { standing self.new line.now memory.new out.new ≡ line_ended (standing self.old line.now memory.old out.old) }
     {
         let place = before + 1;
-        let reply = answer(&mut self.memory, &self.line);
-        print_line(&mut self.out, place, reply);
-        self.line.clear();
+        let reply = answer(memory, &line[..self.held]);
+        self.held = 0;
+        self.used = put_line(out, self.used, place, reply);
         self.stage = Stage::Later(place);
     }
 
     // A line is whole; after a broken first line there is nothing more to do.
-    fn end_line(&mut self)
-        requires room { array_vec_len self.old.out + 64 ≤ 65536 }
-        requires place_bound { (standing self.old).place + 1 < 2 ^ 64 }
-        ensures state { standing self.new ≡ line_ended (standing self.old) }
-        ensures len { array_vec_len self.new.out ≤ array_vec_len self.old.out + 64 }
+    fn end_line(&mut self, line: &[u8], memory: &mut [u8], out: &mut [u8])
+        requires held_in_bounds { self.old.held ≤ length line.now }
+        requires used_in_bounds { self.old.used + 64 ≤ length out.old }
+        requires place_bound { place_of self.old.stage + 1 < 2 ^ 64 }
+        ensures held_le_held { self.new.held ≤ self.old.held }
+        ensures used_bound { self.new.used ≤ self.old.used + 64 }
+        ensures out_after { standing self.new line.now memory.new out.new ≡ line_ended (standing self.old line.now memory.old out.old) }
     {
         match self.stage {
-            Stage::First => self.end_first(),
-            Stage::Later(before) => self.end_later(before),
-            Stage::Over => {}
+            Stage::First => self.end_first(line, out),
+            Stage::Later(before) => self.end_later(before, line, memory, out),
+            Stage::Over(_) => {}
         }
     }
 
     // One byte more.
-    fn feed_byte(&mut self, byte: u8)
-        requires room { array_vec_len self.old.out + 64 ≤ 65536 }
-        requires place_bound { (standing self.old).place + 1 < 2 ^ 64 }
-        ensures state { standing self.new ≡ fed_byte (standing self.old) byte }
-        ensures len { array_vec_len self.new.out ≤ array_vec_len self.old.out + 64 }
+    fn feed_byte(&mut self, byte: u8, line: &mut [u8], memory: &mut [u8], out: &mut [u8])
+        requires line_len { length line.old ≡ 65 }
+        requires held_bound { self.old.held ≤ 65 }
+        requires used_in_bounds { self.old.used + 64 ≤ length out.old }
+        requires place_bound { place_of self.old.stage + 1 < 2 ^ 64 }
+        ensures held_bound_2 { self.new.held ≤ 65 }
+        ensures used_bound { self.new.used ≤ self.old.used + 64 }
+        ensures out_after { standing self.new line.new memory.new out.new ≡ fed_byte (standing self.old line.old memory.old out.old) byte }
     {
         if byte == b'\n' {
-            self.end_line();
-        } else {
-            let _full = self.line.try_push(byte);
+            self.end_line(line, memory, out);
+        } else if self.held < KEPT {
+            line[self.held] = byte;
+            self.held += 1;
         }
     }
 
     // A piece of the input.
-    pub fn feed(&mut self, input: &[u8])
-        requires room { array_vec_len self.old.out + 64 * length input.now ≤ 65536 }
-        requires place_bound { (standing self.old).place + length input.now < 2 ^ 64 }
-        ensures state { standing self.new ≡ fed (standing self.old) input.now }
-        ensures len { array_vec_len self.new.out ≤ array_vec_len self.old.out + 64 * length input.now }
-        ensures place { (standing self.new).place ≤ (standing self.old).place + length input.now }
+    pub fn feed(&mut self, input: &[u8], line: &mut [u8], memory: &mut [u8], out: &mut [u8])
+        requires line_len { length line.old ≡ 65 }
+        requires held_bound { self.old.held ≤ 65 }
+        requires input_in_bounds { self.old.used + 64 * length input.now ≤ length out.old }
+        requires input_bound { place_of self.old.stage + length input.now < 2 ^ 64 }
+        ensures held_bound_2 { self.new.held ≤ 65 }
+        ensures used_bound { self.new.used ≤ self.old.used + 64 * length input.now }
+        ensures place_bound { place_of self.new.stage ≤ place_of self.old.stage + length input.now }
+        ensures out_after { standing self.new line.new memory.new out.new ≡ fed (standing self.old line.old memory.old out.old) input.now }
     {
         for &byte in input {
-            self.feed_byte(byte);
+            self.feed_byte(byte, line, memory, out);
         }
     }
 
     // The input is at its end: a line begun is whole too.
-    pub fn finish(&mut self)
-        requires room { array_vec_len self.old.out + 64 ≤ 65536 }
-        requires place_bound { (standing self.old).place + 1 < 2 ^ 64 }
-        ensures state { standing self.new ≡ ended (standing self.old) }
-        ensures len { array_vec_len self.new.out ≤ array_vec_len self.old.out + 64 }
+    pub fn finish(&mut self, line: &[u8], memory: &mut [u8], out: &mut [u8])
+        requires line_len { length line.now ≡ 65 }
+        requires held_bound { self.old.held ≤ 65 }
+        requires used_in_bounds { self.old.used + 64 ≤ length out.old }
+        requires place_bound { place_of self.old.stage + 1 < 2 ^ 64 }
+        ensures used_bound { self.new.used ≤ self.old.used + 64 }
+        ensures out_after { standing self.new line.now memory.new out.new ≡ ended (standing self.old line.now memory.old out.old) }
     {
-        let held = self.line.len();
-        let nothing = held == 0;
+        let nothing = self.held == 0;
         if !nothing {
-            self.end_line();
+            self.end_line(line, memory, out);
         }
     }
 }

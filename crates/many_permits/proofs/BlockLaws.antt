@@ -2,7 +2,7 @@
 use mathlib.Core.Path.{◌≡◌, refl, sym, ap, ◌∙◌}
 use mathlib.Core.Bool.{Bool, false, ◌||◌, or-false, or_assoc, false≢true}
 use mathlib.Core.List.{List, [], ◌∷◌}
-use Prim.Native.Nat.{ℕ, zero, suc, ◌+◌, ◌*◌, ◌<◌}
+use Prim.Native.Nat.{ℕ, zero, suc, ◌+◌, ◌*◌, ◌≤◌, ◌<◌}
 use native.Mathlib.Omega.{arith}
 use lib.Dec.{eqb}
 use lib.ListN.{length, get_or, get_or-append, drop}
@@ -16,7 +16,7 @@ use Rattle.layout.specs.Records.{permit_at}
 use Rattle.cells.specs.Part.{byte_is}
 use Rattle.beside.specs.Permits.{any_of}
 use Rattle.few_permits.specs.Rows.{permit_row}
-use Rattle.few_permits.proofs.RowLaws.{row_is}
+use Rattle.few_permits.proofs.RowLaws.{row_is, row_len}
 use Rattle.many_permits.specs.Named.{involves}
 
 -- ONE OF THE FIRST N
@@ -57,11 +57,29 @@ block_none rows four c found e f k h =
     = λ i l. let place : 0 + (k * 4 + i) ≡ k * 4 + i = omega arith in rw (sym (row_byte rows four k i h l)) (rw place at (any_below_none (length rows * 4) (byte_is (flat_map (λ row. row) rows) 0 c) (sym e ∙ f) (k * 4 + i) (omega arith))) in
     rw (byte 1 (omega arith), byte 2 (omega arith))
 
--- row k of block b, and of what is left after the blocks, among all rows
-pub block_rows : (m : ℕ) (rows : List (List ℕ)) (blocks : List (List (List ℕ))) → blocks ≡ first_chunks 16 m rows → (b k : ℕ) → b < m → k < 16 → permit_row (get_or blocks b []) k ≡ permit_row rows (b * 16 + k)
+-- IN CHUNKS OF n
+-- row k of chunk b, and of what is left after the chunks, among all rows
+pub chunk_rows : (n m : ℕ) (rows : List (List ℕ)) (chunks : List (List (List ℕ))) → chunks ≡ first_chunks n m rows → (b k : ℕ) → b < m → k < n → permit_row (get_or chunks b []) k ≡ permit_row rows (b * n + k)
 unfolding permit_row
-block_rows m rows blocks e b k h l = rw e (ap (λ (row : List ℕ). permit_at row 0) (row_is 16 m rows b k [] [] h l))
+chunk_rows n m rows chunks e b k h l = rw e (ap (λ (row : List ℕ). permit_at row 0) (row_is n m rows b k [] [] h l))
 
 pub last_rows : (i : ℕ) (rows last : List (List ℕ)) → last ≡ drop i rows → (k : ℕ) → permit_row last k ≡ permit_row rows (i + k)
 unfolding permit_row
 last_rows i rows last e k = rw e (ap (λ (row : List ℕ). permit_at row 0) (get_or-drop i rows k []))
+
+-- what holds of the rows of some chunks, or a flag, and then of those of one more, or of what is left
+module _ (rows : List (List ℕ)) (p : PermitRecord → Bool) (b x y : Bool) where
+  more : (i n w : ℕ) (part : List (List ℕ)) → ((k : ℕ) → k < n → permit_row part k ≡ permit_row rows (i + k)) → i + n ≡ w → x ≡ b || any_of i (permit_row rows) p → y ≡ x || any_of n (permit_row part) p → y ≡ b || any_of w (permit_row rows) p
+  more i n w part same next e f =
+      f ∙ ap (λ (c : Bool). c || any_of n (permit_row part) p) e ∙ or_assoc b (any_of i (permit_row rows) p) (any_of n (permit_row part) p)
+      ∙ ap (λ (c : Bool). b || c) (any_after (permit_row rows) p (permit_row part) i n same) ∙ ap (λ (k : ℕ). b || any_of k (permit_row rows) p) next
+
+  pub chunk_next : (n m i w : ℕ) (chunks : List (List (List ℕ))) → chunks ≡ first_chunks n m rows → i < m → m * n ≤ length rows → i * n + n ≡ w
+      → x ≡ b || any_of (i * n) (permit_row rows) p → y ≡ x || any_of (length (get_or chunks i [])) (permit_row (get_or chunks i [])) p → y ≡ b || any_of w (permit_row rows) p
+  chunk_next n m i w chunks cut here long next e f =
+      let own : length (get_or chunks i []) ≡ n = ap (λ (c : List (List (List ℕ))). length (get_or c i [])) cut ∙ row_len n m rows i [] long here in
+      more (i * n) n w (get_or chunks i []) (λ k h. chunk_rows n m rows chunks cut i k here h) next e (f ∙ ap (λ (k : ℕ). x || any_of k (permit_row (get_or chunks i [])) p) own)
+
+  pub chunks_done : (i : ℕ) (last : List (List ℕ)) → last ≡ drop i rows → i + length last ≡ length rows
+      → x ≡ b || any_of i (permit_row rows) p → y ≡ x || any_of (length last) (permit_row last) p → y ≡ b || any_of (length rows) (permit_row rows) p
+  chunks_done i last cut all = more i (length last) (length rows) last (λ k h. last_rows i rows last cut k) all

@@ -20,6 +20,9 @@ use sets::ChangeSet;
 // The permits that are passed over at once. An entry with fewer has each looked at.
 pub const BLOCK: usize = 16;
 
+// In a block with the number looked for they are passed over by so many.
+const PART: usize = 4;
+
 // The givers of the permits to anybody: of those that contain read, and of those that contain write.
 #[derive(Clone, Copy)]
 struct Givers {
@@ -68,7 +71,9 @@ fn givers_to_anybody(permits: &[[u8; Permits::RECORD]], mode: u8) -> ChangeSet
     s
 }
 
-// The set, with whom a permit lets stand beside a writer by naming the two: the taker, or the giver.
+// The set, with whom a permit lets stand beside a writer by naming the two: the taker, or the giver. In line, as the next one is, since
+// a set by value is copied at each call.
+#[inline(always)]
 fn add_named(
     s: ChangeSet,
     permit: &[u8; Permits::RECORD],
@@ -89,6 +94,7 @@ fn add_named(
 }
 
 // The set, with whom each of some permits lets stand beside a writer by naming the two.
+#[inline(always)]
 fn add_each_named(
     s: ChangeSet,
     permits: &[[u8; Permits::RECORD]],
@@ -104,6 +110,39 @@ fn add_each_named(
     s
 }
 
+// The same for a part of a block, which is passed over where it is without the writer's number.
+fn add_part(
+    s: ChangeSet,
+    part: &[[u8; Permits::RECORD]],
+    holders: &Holders,
+    writer: u8,
+) -> ChangeSet
+    ensures { (k : ℕ) → members result k ≡ members s k || any_of (length part.now) (permit_row part.now) (names (members holders.now.readers) (members holders.now.writers) writer k) }
+{
+    let present = in_block(part, writer);
+    if present {
+        return add_each_named(s, part, holders, writer);
+    }
+    s
+}
+
+// The same for each part of a block.
+fn add_parts(
+    s: ChangeSet,
+    block: &[[u8; Permits::RECORD]],
+    holders: &Holders,
+    writer: u8,
+) -> ChangeSet
+    ensures { (k : ℕ) → members result k ≡ members s k || any_of (length block.now) (permit_row block.now) (names (members holders.now.readers) (members holders.now.writers) writer k) }
+{
+    let (parts, last) = block.as_chunks::<PART>();
+    let mut s = s;
+    for part in parts {
+        s = add_part(s, part, holders, writer);
+    }
+    add_each_named(s, last, holders, writer)
+}
+
 // The same for a block of permits, which is passed over where it is without the writer's number.
 fn add_block(
     s: ChangeSet,
@@ -115,7 +154,7 @@ fn add_block(
 {
     let present = in_block(block, writer);
     if present {
-        return add_each_named(s, block, holders, writer);
+        return add_parts(s, block, holders, writer);
     }
     s
 }

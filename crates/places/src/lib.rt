@@ -16,6 +16,26 @@ use crate::changes::Status;
 use cells::{read_u16, read_u32, write_u16, write_u32};
 use sets::ChangeSet;
 
+// Figure k of the header.
+#[tactic(auto, using(crate::proofs::TableLaws::figure_read))]
+pub fn figure(head: &[u8], k: usize) -> usize
+    requires head_len { length head.now ≡ head_size }
+    requires k_bound { k < 32 }
+    ensures { (fs : List ℕ) → head.now ≡ head_section fs → get_or fs k 0 < 65536 → result ≡ get_or fs k 0 }
+{
+    usize::from(read_u16(head, k * 2))
+}
+
+// Figure k of the header becomes v.
+#[tactic(auto, using(crate::proofs::TableLaws::figure_store))]
+pub fn store_figure(head: &mut [u8], k: usize, v: u16)
+    requires head_len { length head.old ≡ head_size }
+    requires k_bound { k < 32 }
+    ensures { (fs : List ℕ) → head.old ≡ head_section fs → k < length fs → head.new ≡ head_section (set fs k v) }
+{
+    write_u16(head, k * 2, v);
+}
+
 // The value of an entry.
 #[tactic(auto, using(crate::proofs::TableLaws::value_read))]
 pub fn value(values: &[u8], e: u8) -> u32

@@ -44,13 +44,18 @@ module _ (bs : List ℕ) (s : sound_bytes bs ≡ true) where
   looked k r e = given-done k (decode bs) r bs e (sym (bytes_again bs s))
 
   -- a refusal that applies
-  pub turned_back : (call : Call) (e : Refusal) → code e ≡ first_failed (checks limits (decode bs) call) → Gives (written (step limits (decode bs) call)) (reply_of (Err e)) bs
+  pub turned_back : (call : Call) (code : ℕ) (r : Reply) → code ≡ first_failed (checks limits (decode bs) call) → code ≢ 0 → (r.answer ≡ code) × (r.number ≡ 0)
+      → Gives (written (step limits (decode bs) call)) r bs
   unfolding step settle
-  turned_back call e q = rw (sym q) (go (code e) (code_some e) refl)
+  turned_back call code r e n q = rw (sym e) (go code n q.0)
     where
-      go : (a : ℕ) → a ≢ 0 → code e ≡ a → Gives (written (settle a (decode bs) (effect (decode bs) call))) (reply_of (Err e)) bs
+      go : (a : ℕ) → a ≢ 0 → r.answer ≡ a → Gives (written (settle a (decode bs) (effect (decode bs) call))) r bs
       go zero n p = absurd (n refl)
-      go (suc a) n p = left (suc a) 0 (reply_of (Err e)) p refl
+      go (suc a) n p = left (suc a) 0 r p q.1
+
+  -- the same, by the code's name for it
+  pub refused_back : (call : Call) (e : Refusal) → code e ≡ first_failed (checks limits (decode bs) call) → Gives (written (step limits (decode bs) call)) (reply_of (Err e)) bs
+  refused_back call e q = turned_back call (code e) (reply_of (Err e)) q (code_some e) (refl, refl)
 
 -- no refusal applies: each check is passed
 pub unrefused : (W : Window) (call : Call) → first_failed (checks limits W call) ≡ 0 → Passed (checks limits W call)
@@ -70,8 +75,12 @@ handed_back mem a r e = record { answer = e.0; number = e.1; bytes = refl }
 
 module _ (mem : List ℕ) (call : Call) where
   -- memory that is not a sound window
-  pub unsound : sound_memory mem ≡ false → is_open call ≡ false → Gives (perform mem call) (reply_of (Err UnsoundMemory)) mem
-  unsound h o = rw (perform_unsound mem call h o) (handed_back mem 1 (reply_of (Err UnsoundMemory)) (refl, refl))
+  pub unsound : sound_memory mem ≡ false → is_open call ≡ false → (r : Reply) → (r.answer ≡ 1) × (r.number ≡ 0) → Gives (perform mem call) r mem
+  unsound h o r e = rw (perform_unsound mem call h o) (handed_back mem 1 r e)
+
+  -- the same, by the code's name for it
+  pub unsound_back : sound_memory mem ≡ false → is_open call ≡ false → Gives (perform mem call) (reply_of (Err UnsoundMemory)) mem
+  unsound_back h o = unsound h o (reply_of (Err UnsoundMemory)) (refl, refl)
 
   -- the window at its front, lent and handed back
   pub on_memory : sound_memory mem ≡ true → (r : Reply) (after : List ℕ) → Gives (written (step limits (window_of mem) call)) r after

@@ -30,7 +30,7 @@ pub enum Name {
 
 impl Name {
     // The call number.
-    fn number(self) -> u32
+    pub fn number(self) -> u32
         ensures { result ≡ number_of self }
     {
         self as u32
@@ -50,15 +50,15 @@ fn last_field(b: u32, c: u32, d: u32) -> u32
     }
 }
 
-// The call of a name with four fields, made; unused fields must be 0, or the line is broken.
+// The call of a call number with four fields, made; unused fields must be 0, or the line is broken.
 // The decision is over the call number with one digit more, the last field in use: 51..=53 is call 5, which reads three fields.
-// Its form is fixed (docs/DECISIONS.md, "Forms that are fixed").
+// Its form is fixed (docs/DECISIONS.md, "Forms that are fixed"), and it takes any number, since 0 and those above 15 are no call.
 #[tactic(auto, using(crate::proofs::MakeLaws::read_made))]
-pub fn make(memory: &mut [u8], name: Name, fields: [u32; 4]) -> Reply
-    ensures { Gives (reply_of memory.old (call_with (number_of name) fields)) result memory.new }
+pub fn make(memory: &mut [u8], call: u32, fields: [u32; 4]) -> Reply
+    ensures { Gives (reply_of memory.old (call_with call fields)) result memory.new }
 {
     let [a, b, c, d] = fields;
-    match name.number() * 10 + last_field(b, c, d) {
+    match u64::from(call) * 10 + u64::from(last_field(b, c, d)) {
         11 => calls::open(memory, a),
         21 => calls::initiate(memory, a),
         31 => calls::begin(memory, a),

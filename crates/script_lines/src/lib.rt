@@ -110,7 +110,7 @@ pub fn answer(memory: &mut [u8], line: &[u8]) -> Reply
     match read_call(line) {
         Some(call) => {
             let (name, fields) = call;
-            make(memory, name, fields)
+            make(memory, name.number(), fields)
         }
         None => unchanged(30),
     }

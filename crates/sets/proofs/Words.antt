@@ -7,7 +7,7 @@ use native.Mathlib.Decide.{dec_lt}
 use native.Mathlib.Numerals.{one-add}
 use native.Mathlib.Omega.{arith}
 use borrow.Author.Count.{below_none, below_more}
-use lib.Bits.{bit_or}
+use lib.Bits.{bit_or, bit_xor, xor_add_and, and_le_l, and_le_r}
 use lib.Count.{ones, ones_step, ones-le, count_trailing_zeros}
 use lib.ListN.{length, get_or}
 use Rattle.rules.specs.Base.{count_below}
@@ -54,6 +54,10 @@ pub join_words : (f : ℕ → ℕ → ℕ) (P : Bool → Bool → Bool) → P fa
     ≡ P (members s k) (members t k)
 unfolding members
 join_words f P nothing s t = words_joined f P nothing s.words t.words
+
+-- a `^` that comes to 0
+pub xor_zero : (a b : ℕ) → bit_xor a b ≡ 0 → a ≡ b
+xor_zero a b e = omega (arith, xor_add_and a b, and_le_l a b, and_le_r a b)
 
 -- four words joined by `|` that come to 0 are 0
 pub or_four : (a b c d : ℕ) → bit_or (bit_or (bit_or a b) c) d ≡ 0 → (a ≡ 0) × (b ≡ 0) × (c ≡ 0) × (d ≡ 0)

@@ -2,12 +2,12 @@
 use mathlib.Core.Path.{refl, sym, ◌∙◌}
 use Rattle.rules.specs.Calls.{Commit}
 use Rattle.rules.specs.Events.{action_of, is_opening, is_open}
-use Rattle.replies.proofs.GiveLaws.{unsound}
+use Rattle.replies.proofs.GiveLaws.{unsound_back}
 use Rattle.calls.proofs.LentLaws.{lent_room, lent_sound, stepped}
 use Rattle.calls.proofs.commit.Goals as goal
 
 pub returns-then-not-sound_memory : goal.returns-then-not-sound_memory
-returns-then-not-sound_memory c = rw c.from.ensures (unsound c.args.memory.now (Commit c.args.change) (sym c.sound_memory.ensures ∙ c.if-not-sound_memory.true) (unfold is_open action_of is_opening in refl))
+returns-then-not-sound_memory c = rw c.from.ensures (unsound_back c.args.memory.now (Commit c.args.change) (sym c.sound_memory.ensures ∙ c.if-not-sound_memory.true) (unfold is_open action_of is_opening in refl))
 
 pub unwrap-w-requires : goal.unwrap-w-requires
 unwrap-w-requires c = c.first_chunk_mut.ensures.variant.1 (lent_room c.args.memory.now (sym c.sound_memory.ensures ∙ c.if-not-sound_memory.false))

@@ -4,11 +4,8 @@ use Prim.Native.Nat.{◌+◌, ◌*◌, ◌≤◌}
 use native.Mathlib.Omega.{arith}
 use borrow.Author.Rules.{rules}
 use Rattle.script_calls.specs.Fields.{readings, placed, reply_of}
-use Rattle.script_calls.proofs.MakeLaws.{fields_of, fields_read, asked, not_alone, number_most, used_most, arm, single, no_call, none_made}
+use Rattle.script_calls.proofs.MakeLaws.{fields_of, fields_read, asked, not_alone, arm, single, no_call, none_made}
 use Rattle.script_calls.proofs.make.Goals as goal
-
-pub overflow_add-number : goal.overflow_add-number
-overflow_add-number c = omega (arith, c.last_field.ensures, used_most c.args.fields, c.number.ensures, number_most c.args.name)
 
 pub returns-in-11 : goal.returns-in-11
 unfolding fields_read fields_of asked placed readings reply_of
@@ -69,7 +66,7 @@ returns-in-101-to-103 c = arm c.args.memory.now _ c.args.fields (search rules) 1
 -- in no arm
 pub returns-in_default : goal.returns-in_default
 returns-in_default c =
-    let x = c.number.result * 10 + c.last_field.result in
+    let x = c.args.call * 10 + c.last_field.result in
     let h5 : 51 ≤ x → 54 ≤ x = grind arith in
     let h6 : 61 ≤ x → 63 ≤ x = grind arith in
     let h7 : 71 ≤ x → 74 ≤ x = grind arith in

@@ -4,12 +4,12 @@ use Rattle.sets.specs.Members.{members}
 use Rattle.sets.proofs.MemberLaws.{blank_words}
 use Rattle.cycles.specs.Graph.{tie_in_rows, arrow_in, graph_in}
 use Rattle.cycles.specs.Links.{lists_of}
-use Rattle.cycles.proofs.LinkLaws.{linked_none, linked_next, linked_few, room_kept}
+use Rattle.cycles.proofs.LinkLaws.{linked_none, linked_next, linked_few, blank_room, room_kept}
 use Rattle.cycles.proofs.Arrows.link_ties.Goals as goal
 
 pub loop-j-init : goal.loop-j-init
 unfolding members
-loop-j-init c = let p = c.requires.1 in (record { by_label = search rules; by_place = search rules; counts = search rules }, linked_none _ _ p.no_heads p.no_counts (blank_words _ p.no_leaders) (blank_words _ p.no_blocked))
+loop-j-init c = let p = c.requires.1 in (blank_room _ p (search rules), linked_none _ _ p.no_heads p.no_counts (blank_words _ p.no_leaders) (blank_words _ p.no_blocked))
 
 pub link_tie-requires : goal.link_tie-requires
 link_tie-requires c = let l = c.loop-j in (omega (arith, c.loop-j-test.true), linked_few _ _ (lists_of l.self) l.invariant.1 l.invariant.0.counts)
