@@ -4,7 +4,7 @@ use mathlib.Core.Bool.{Bool, true, false, not, ◌&&◌, ◌||◌, and-false, fa
 use Prim.Native.Nat.{ℕ, ◌<◌}
 use native.Mathlib.Omega.{arith}
 use lib.Dec.{eqb}
-use borrow.Author.Tests.{not-false, eqb-true}
+use borrow.Author.Tests.{not-true, not-false, eqb-true}
 use Rattle.std.specs.Prelude.{Option, Some, None}
 use Rattle.std.specs.Bool.{then_some}
 use Rattle.std.specs.Option.{unwrap_or, IfSome, MatchOption}
@@ -23,6 +23,10 @@ module _ (clashes permits with rest : Set) (c : ℕ) (insert : (k : ℕ) → wit
       go : (o h p : Bool) → h && not (o || p) ≡ not o && h && not p
       go true h p = and-false h
       go false h p = refl
+
+  -- nobody is left
+  pub nobody_left : (none : Bool) → none ≡ not (any_below 256 rest) → none ≡ true → 0 ≡ lowest_or_zero 256 (blocking clashes permits c)
+  nobody_left none e f = sym (zero_lowest 256 rest (not-true _ (sym e ∙ f))) ∙ in_way
 
   -- 0 is nobody's number: the lowest of them by an Option, where Q is what is asked of it
   pub lowest_numbered : (Q : ℕ → Bool → Type 0) → ((x : ℕ) (b : Bool) → Q x b → b ≡ not (eqb x 0)) → (o r : Option ℕ) → unwrap_or o 256 ≡ lowest_below 256 rest → IfSome o (λ x. x < 256)

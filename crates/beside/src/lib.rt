@@ -33,7 +33,7 @@ pub fn contains_held(operations: u8, reads: bool, writes: bool) -> bool
 }
 
 // The lowest of those whose locks clash with a change's that is another and has not permitted, where there is one. A change permits
-// itself, and 0 is nobody's number.
+// itself, and 0 is nobody's number. Whether any is left is asked first, of the four words at once: in most windows none is.
 pub fn lowest_blocker(clashing: ChangeSet, permitting: ChangeSet, change: u8) -> Option<u8>
     ensures lowest { unwrap_or result 0 ≡ lowest_or_zero 256 (blocking (members clashing) (members permitting) change) }
     ensures numbered { IfSome result (λ c. 0 < c) }
@@ -41,5 +41,8 @@ pub fn lowest_blocker(clashing: ChangeSet, permitting: ChangeSet, change: u8) ->
     let mut words = permitting.words;
     insert(&mut words, change);
     let left = clashing.minus(ChangeSet { words });
+    if left.is_empty() {
+        return None;
+    }
     left.first().filter(|c| *c != 0)
 }

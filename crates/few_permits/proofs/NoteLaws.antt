@@ -48,12 +48,12 @@ module _ (t : ℕ → PermitRecord) (p : PermitRecord → Bool) where
   unfolding any_of any_below
   noted_next j s₀ s s' h e = e ∙ rw (h, add-one) (or_assoc s₀ (any_of j t p) (p (t j)))
 
--- one writer at once: `noted` are those whom the permits let stand beside it, with whom was noted before, and that was nobody
-pub blocker_noted : (n : ℕ) (t : ℕ → PermitRecord) (r x : Set) (a : ℕ) (holders before noted : Set) (found : ℕ) → ((k : ℕ) → holders k ≡ r k || x k) → ((k : ℕ) → before k ≡ false)
-    → ((k : ℕ) → k ≢ a → noted k ≡ before k || any_of n t (beside r x a k)) → found ≡ lowest_or_zero 256 (blocking holders noted a) → found ≡ writer_blocker n t r x a
+-- one writer at once: `noted` are those whom the permits let stand beside it
+pub blocker_noted : (n : ℕ) (t : ℕ → PermitRecord) (r x : Set) (a : ℕ) (holders noted : Set) (found : ℕ) → ((k : ℕ) → holders k ≡ r k || x k)
+    → ((k : ℕ) → k ≢ a → noted k ≡ any_of n t (beside r x a k)) → found ≡ lowest_or_zero 256 (blocking holders noted a) → found ≡ writer_blocker n t r x a
 unfolding writer_blocker blocking holder stands_beside
-blocker_noted n t r x a holders before noted found eh eb en e = e ∙ ap (lowest_or_zero 256) (fun_ext (λ k. go k (same? k a)))
+blocker_noted n t r x a holders noted found eh en e = e ∙ ap (lowest_or_zero 256) (fun_ext (λ k. go k (same? k a)))
   where
     go : (k : ℕ) {i : Bool} → Same k a i → not i && holders k && not (noted k) ≡ not i && (r k || x k) && not (any_of n t (beside r x a k))
     go k (same q) = refl
-    go k (other m) = rw (eh k, en k m, eb k)
+    go k (other m) = rw (eh k, en k m)

@@ -22,16 +22,20 @@ pub struct Holders {
 }
 
 impl Holders {
-    // Whether a test passes for each writer.
+    // Whether a test passes for each writer. The next one is looked for at the end of a turn, and not taken out by `pop_first` at its
+    // beginning: a window with two writers on each entry is tested faster so.
     pub fn each_writer<F: Fn(u8) -> bool>(&self, test: F) -> bool
         requires { F.IsAlwaysCallable test }
         ensures { EachOf (F.post test) (members self.now.writers) result }
     {
         let mut left = self.writers;
-        while let Some(writer) = left.pop_first() {
+        let mut lowest = left.first();
+        while let Some(writer) = lowest {
             if !test(writer) {
                 return false;
             }
+            left = left.rest();
+            lowest = left.first();
         }
         true
     }
@@ -76,21 +80,23 @@ fn note(noted: &mut ChangeSet, permit: &[u8; Permits::RECORD], holders: &Holders
     note_one(noted, giver, ((taker == writer) | (taker == 0)) & write);
 }
 
-// Those whom the permits let stand beside a writer are noted.
-fn note_all(noted: &mut ChangeSet, permits: &[[u8; Permits::RECORD]], holders: &Holders, writer: u8)
-    ensures { (k : ℕ) → k ≢ writer → members noted.new k ≡ members noted.old k || any_of (length permits.now) (permit_row permits.now) (beside (members holders.now.readers) (members holders.now.writers) writer k) }
+// Those whom the permits let stand beside a writer. Whether the writer itself is among them is left open. The set is given back and
+// not lent by the caller: it would be copied there.
+fn note_all(permits: &[[u8; Permits::RECORD]], holders: &Holders, writer: u8) -> ChangeSet
+    ensures { (k : ℕ) → k ≢ writer → members result k ≡ any_of (length permits.now) (permit_row permits.now) (beside (members holders.now.readers) (members holders.now.writers) writer k) }
 {
+    let mut noted = ChangeSet::empty();
     for permit in permits {
-        note(noted, permit, holders, writer);
+        note(&mut noted, permit, holders, writer);
     }
+    noted
 }
 
 // Whether no other holder, reader or writer, is without a permit from or to a writer.
 fn writer_fits(permits: &[[u8; Permits::RECORD]], holders: &Holders, writer: u8) -> bool
     ensures { result ≡ eqb (writer_blocker (length permits.now) (permit_row permits.now) (members holders.now.readers) (members holders.now.writers) writer) 0 }
 {
-    let mut noted = ChangeSet::empty();
-    note_all(&mut noted, permits, holders, writer);
+    let noted = note_all(permits, holders, writer);
     let all = holders.readers.unite(holders.writers);
     lowest_blocker(all, noted, writer).is_none()
 }
